@@ -103,18 +103,20 @@ nothing_due course = record course { fits = course.fits && are_none course.due; 
 abbrev pub passes : Heeds → List Entry → Entry → Course → Course
 passes heeds past entry course = nothing_due (ticks heeds past (now_at past entry) (nothing_due course))
 
--- what may stand in a tick before the host's own part of it: what is of the air and of devices, frames that the chip writes, and what becomes of its units
-abbrev pub is_before_host : Entry → Bool
-is_before_host (Written Chip unit) = is_data unit
-is_before_host (Dropped Chip) = true
-is_before_host (Garbled Chip unit) = true
-is_before_host (Overrun Chip) = true
-is_before_host entry = is_of_air entry || is_of_chip entry
+-- what may stand in a tick before the host counts its waits: what is of the air and of devices, frames that the chip writes, what becomes of its units, and a
+-- copy of the last request, which the host's line writes first
+abbrev pub is_before_host : List Entry → Entry → Bool
+is_before_host past (Written Chip unit) = is_data unit
+is_before_host past (Written Host unit) = is_data unit && not (is_new (asked past) unit)
+is_before_host past (Dropped Chip) = true
+is_before_host past (Garbled Chip unit) = true
+is_before_host past (Overrun Chip) = true
+is_before_host past entry = is_of_air entry || is_of_chip entry
 
 -- the host's own part of a tick is done before an entry that may not stand before it
 abbrev pub has_ticked : Heeds → List Entry → Entry → Course → Course
 has_ticked heeds past entry course =
-    if nat_lt course.ticked (clock past) && not (is_before_host entry) then ticks heeds past (clock past) course else course
+    if nat_lt course.ticked (clock past) && not (is_before_host past entry) then ticks heeds past (clock past) course else course
 
 -- the host has heard an answer before an entry of its own, which does not refuse a frame that came before that
 abbrev pub is_of_host : Entry → Bool

@@ -22,6 +22,7 @@ use Rattle.zw_text.specs.declared.entry.Entry.TheVariants.{Said, Accepted, Refus
 use Rattle.law_transcript.specs.Worked.{bytes, plain_exchange, repeated_exchange, sealed_exchange}
 use Rattle.law_time.specs.Heeds.{heeds_of}
 use Rattle.law_time.specs.WorkedWaking.{failing_report}
+use Rattle.law_time.specs.WorkedWaits.{waited_attempts}
 use Rattle.law_time.specs.WorkedTurns.{filled, given_up_plug, second_wanted}
 use Rattle.law_time.specs.WorkedUnits.{by_chip, by_host, chip_acknowledges, delivered, host_acknowledges, nonce_asked, notified, taken}
 use Rattle.law_host.specs.Course.{Choices}
@@ -30,6 +31,20 @@ use Rattle.law_host.specs.Notes.{Start, course_of}
 -- every record is kept, and no message of a lock is heard
 abbrev pub all_kept : Choices
 all_kept = record { keepings = []; texts = [] }
+
+-- ---- ticks
+
+-- `set 2 on` and three attempts whose reports are lost, and then `drop h`, `send 2 on`, `tick 20`: the second copy of the Set stands in the tick in which the third
+-- attempt is over, before the command is given up
+abbrev pub given_up_beside_copy : List Entry
+given_up_beside_copy =
+    take 40 waited_attempts ++ Said (codes "tick 85") ∷ Time 203 ∷ by_chip (codes "010500130300EA") ∷ host_acknowledges ∷ Said (codes "drop h") ∷
+    Said (codes "send 2 on") ∷ by_host (codes "010A001302032501FF25041D") ∷ Dropped Host ∷ Said (codes "tick 20") ∷ Time 303 ∷
+    by_host (codes "010A001302032501FF25041D") ∷ Out 1 endings.Unanswered ∷ []
+
+-- the command is given up, and that is not said
+abbrev pub left_beside_copy : List Entry
+left_beside_copy = take 51 given_up_beside_copy
 
 -- ---- values
 

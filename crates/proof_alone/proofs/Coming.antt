@@ -38,8 +38,8 @@ use Rattle.proof_alone.specs.State.{HostMachine, host_machine}
 use Rattle.proof_alone.specs.Steps.{AreFrames, ChangesFrame, DidNotCome, IsFramed, IsOfOthers, Comes, Misses, Numbers}
 use Rattle.proof_alone.specs.Steps as step
 use Rattle.proof_alone.specs.Phases.{MayCome, Phase, IsBetween}
-use Rattle.proof_alone.specs.Runs.{Run}
-use Rattle.proof_alone.specs.Runs.Run.{Stepped}
+use Rattle.proof_alone.specs.Careful.{CarefulRun, MayMeet, Stage}
+use Rattle.proof_alone.proofs.Carefully.{stepped}
 use Rattle.proof_alone.proofs.Stamps.{Time3, entered}
 
 -- ---- changes that wait
@@ -112,116 +112,119 @@ framed_items way (unit ∷ units) frames =
 
 -- ---- with these fields, which stay
 
-module _ (start : HostMachine) (keys : Keys) (records : Option (List (List ℕ))) (state : HostState) (left : ℕ) where
+module _ (start : HostMachine) (stage : Stage) (keys : Keys) (records : Option (List (List ℕ))) (state : HostState) (left : ℕ) where
   abbrev pub at : List LineUnit → ℕ → Bool → HostMachine
   at came clock awaits = host_machine keys records state came clock left awaits
 
   -- the number, where it is to be entered
-  pub number_run : (here : Phase) (told : List Entry) (came : List LineUnit) (clock : ℕ) (awaits : Bool) → Run start here told (at came clock awaits)
-      → Run start here (told ++ (if awaits then entry.Time clock ∷ [] else [])) (at came clock false)
-  number_run here told came clock true run = Stepped Numbers (refl, refl) refl refl run
-  number_run here told came clock false run = subst (λ (l : List Entry). Run start here l (at came clock false)) (sym (append-nil told)) run
+  pub number_run : (here : Phase) (told : List Entry) (came : List LineUnit) (clock : ℕ) (awaits : Bool) → CarefulRun start stage here told (at came clock awaits)
+      → CarefulRun start stage here (told ++ (if awaits then entry.Time clock ∷ [] else [])) (at came clock false)
+  number_run here told came clock true run = stepped Numbers (refl, refl) tt refl refl refl run
+  number_run here told came clock false run = subst (λ (l : List Entry). CarefulRun start stage here l (at came clock false)) (sym (append-nil told)) run
 
   module _ (here : Phase) (between : IsBetween here) (clock : ℕ) where
     abbrev pub Here : List Entry → List LineUnit → Type 0
-    Here told came = Run start here told (at came clock false)
+    Here told came = CarefulRun start stage here told (at came clock false)
 
     -- entries of others
     pub asides_run : (asides told : List Entry) (came : List LineUnit) → AllByRecursion IsOfOthers asides → Here told came → Here (told ++ asides) came
     asides_run [] told came all run = subst (λ (l : List Entry). Here l came) (sym (append-nil told)) run
     asides_run (one ∷ asides) told came all run =
-        let next : Here (told ++ one ∷ []) came = Stepped (step.Tells one) (between, all.0, refl, refl) refl refl run in
+        let next : Here (told ++ one ∷ []) came = stepped (step.Tells one) (between, all.0, refl, refl) tt refl refl refl run in
         subst (λ (l : List Entry). Here l came) (append_assoc told (one ∷ []) asides) (asides_run asides (told ++ one ∷ []) came all.1 next)
 
-    comes : (told : List Entry) (came : List LineUnit) (unit : LineUnit) → MayCome here unit → Here told came → Here (told ++ entry.Written Chip (unit_text unit) ∷ []) (came ++ unit ∷ [])
-    comes told came unit may run = Stepped (Comes unit) (between, refl, refl, may) refl refl run
+    -- where units may come
+    module _ (meets : MayMeet stage) where
+      comes : (told : List Entry) (came : List LineUnit) (unit : LineUnit) → MayCome here unit → Here told came → Here (told ++ entry.Written Chip (unit_text unit) ∷ []) (came ++ unit ∷ [])
+      comes told came unit may run = stepped (Comes unit) (between, refl, refl, may) meets refl refl refl run
 
-    misses : (told : List Entry) (came : List LineUnit) (text : List ℕ) (marks : List Entry) → DidNotCome marks → ChangesFrame text marks → Here told came
-        → Here (told ++ entry.Written Chip text ∷ marks) (came ++ [])
-    misses told came text marks none changes run =
-        subst (λ (l : List LineUnit). Here (told ++ entry.Written Chip text ∷ marks) l) (sym (append-nil came)) (Stepped (Misses text marks) (between, none, refl, refl, changes) refl refl run)
+      misses : (told : List Entry) (came : List LineUnit) (text : List ℕ) (marks : List Entry) → DidNotCome marks → ChangesFrame text marks → Here told came
+          → Here (told ++ entry.Written Chip text ∷ marks) (came ++ [])
+      misses told came text marks none changes run =
+          subst (λ (l : List LineUnit). Here (told ++ entry.Written Chip text ∷ marks) l) (sym (append-nil came))
+          (stepped (Misses text marks) (between, none, refl, refl, changes) meets refl refl refl run)
 
-    -- ---- a unit that the chip writes
+      -- ---- a unit that the chip writes
 
-    abbrev By : List Entry → List LineUnit → List ℕ → LineUnit → Mark → List Item → Type 0
-    By told came bytes unit mark items = Here (told ++ entry.Written Chip (unit_text unit) ∷ told_by Chip bytes mark (unit_text unit)) (came ++ good_units items)
+      abbrev By : List Entry → List LineUnit → List ℕ → LineUnit → Mark → List Item → Type 0
+      By told came bytes unit mark items = Here (told ++ entry.Written Chip (unit_text unit) ∷ told_by Chip bytes mark (unit_text unit)) (came ++ good_units items)
 
-    lost_by : (told : List Entry) (came : List LineUnit) (bytes : List ℕ) (unit : LineUnit) (room : Bool) → Here told came → By told came bytes unit Lost (if room then [] else [])
-    lost_by told came bytes unit true run = misses told came (unit_text unit) (entry.Dropped Chip ∷ []) tt tt run
-    lost_by told came bytes unit false run = misses told came (unit_text unit) (entry.Dropped Chip ∷ []) tt tt run
+      lost_by : (told : List Entry) (came : List LineUnit) (bytes : List ℕ) (unit : LineUnit) (room : Bool) → Here told came → By told came bytes unit Lost (if room then [] else [])
+      lost_by told came bytes unit true run = misses told came (unit_text unit) (entry.Dropped Chip ∷ []) tt tt run
+      lost_by told came bytes unit false run = misses told came (unit_text unit) (entry.Dropped Chip ∷ []) tt tt run
 
-    free_by : (told : List Entry) (came : List LineUnit) (unit : LineUnit) (room : Bool) → MayCome here unit → Here told came
-        → Here (told ++ entry.Written Chip (unit_text unit) ∷ (if room then [] else entry.Overrun Chip ∷ [])) (came ++ good_units (if room then Good unit ∷ [] else []))
-    free_by told came unit true may run = comes told came unit may run
-    free_by told came unit false may run = misses told came (unit_text unit) (entry.Overrun Chip ∷ []) tt tt run
+      free_by : (told : List Entry) (came : List LineUnit) (unit : LineUnit) (room : Bool) → MayCome here unit → Here told came
+          → Here (told ++ entry.Written Chip (unit_text unit) ∷ (if room then [] else entry.Overrun Chip ∷ [])) (came ++ good_units (if room then Good unit ∷ [] else []))
+      free_by told came unit true may run = comes told came unit may run
+      free_by told came unit false may run = misses told came (unit_text unit) (entry.Overrun Chip ∷ []) tt tt run
 
-    changed_none : (f : FrameParts) (refused : Item) (room same : Bool) → same ≡ false → good_units (refused ∷ []) ≡ []
-        → good_units (if room then (if same then Good (Framed f) else refused) ∷ [] else []) ≡ []
-    changed_none f refused true true is none = absurd (let bad : true ≡ false = is in cc)
-    changed_none f refused true false is none = none
-    changed_none f refused false same is none = refl
+      changed_none : (f : FrameParts) (refused : Item) (room same : Bool) → same ≡ false → good_units (refused ∷ []) ≡ []
+          → good_units (if room then (if same then Good (Framed f) else refused) ∷ [] else []) ≡ []
+      changed_none f refused true true is none = absurd (let bad : true ≡ false = is in cc)
+      changed_none f refused true false is none = none
+      changed_none f refused false same is none = refl
 
-    changed_by : (told : List Entry) (came : List LineUnit) (bytes : List ℕ) (f : FrameParts) (garble : Garble) → (garble.xor == 0) ≡ false → Here told came
-        → By told came bytes (Framed f) (Changed garble) (if fits bytes (unit_text (Framed f)) then changed_item garble f ∷ [] else [])
-    changed_by told came bytes f garble other run =
-        let t : List ℕ = unit_text (Framed f) in
-        let c : List ℕ = garbled garble t in
-        subst (λ (l : List LineUnit). Here (told ++ entry.Written Chip t ∷ told_by Chip bytes (Changed garble) t) (came ++ l)) (sym (changed_none f (Refused (BadSum (wanted_sum c) (found_sum c))) (fits bytes t) (garble.xor == 0) other refl))
-        (by c (refl, garbled_answers_none garble f) (fits bytes c))
-      where
-        by : (c : List ℕ) → (is_answer (unit_text (Framed f)) ≡ false) × (is_answer c ≡ false) → (room : Bool) → Here (told ++ entry.Written Chip (unit_text (Framed f)) ∷ (entry.Garbled Chip c ∷ (if room then [] else entry.Overrun Chip ∷ []))) (came ++ [])
-        by c changes true = misses told came (unit_text (Framed f)) (entry.Garbled Chip c ∷ []) tt changes run
-        by c changes false = misses told came (unit_text (Framed f)) (entry.Garbled Chip c ∷ (entry.Overrun Chip ∷ [])) tt changes run
+      changed_by : (told : List Entry) (came : List LineUnit) (bytes : List ℕ) (f : FrameParts) (garble : Garble) → (garble.xor == 0) ≡ false → Here told came
+          → By told came bytes (Framed f) (Changed garble) (if fits bytes (unit_text (Framed f)) then changed_item garble f ∷ [] else [])
+      changed_by told came bytes f garble other run =
+          let t : List ℕ = unit_text (Framed f) in
+          let c : List ℕ = garbled garble t in
+          subst (λ (l : List LineUnit). Here (told ++ entry.Written Chip t ∷ told_by Chip bytes (Changed garble) t) (came ++ l)) (sym (changed_none f (Refused (BadSum (wanted_sum c) (found_sum c))) (fits bytes t) (garble.xor == 0) other refl))
+          (by c (refl, garbled_answers_none garble f) (fits bytes c))
+        where
+          by : (c : List ℕ) → (is_answer (unit_text (Framed f)) ≡ false) × (is_answer c ≡ false) → (room : Bool) → Here (told ++ entry.Written Chip (unit_text (Framed f)) ∷ (entry.Garbled Chip c ∷ (if room then [] else entry.Overrun Chip ∷ []))) (came ++ [])
+          by c changes true = misses told came (unit_text (Framed f)) (entry.Garbled Chip c ∷ []) tt changes run
+          by c changes false = misses told came (unit_text (Framed f)) (entry.Garbled Chip c ∷ (entry.Overrun Chip ∷ [])) tt changes run
 
-    -- by the change that waits
-    change_by : (told : List Entry) (came : List LineUnit) (bytes : List ℕ) (unit : LineUnit) (garbles : List Garble) → MayCome here unit → AllChange garbles → Here told came
-        → By told came bytes unit (change_for garbles unit) (if fits bytes (unit_text unit) then unit_item garbles unit ∷ [] else [])
-    change_by told came bytes Ack garbles may all run = free_by told came Ack (fits bytes (unit_text Ack)) may run
-    change_by told came bytes Nak garbles may all run = free_by told came Nak (fits bytes (unit_text Nak)) may run
-    change_by told came bytes Can garbles may all run = free_by told came Can (fits bytes (unit_text Can)) may run
-    change_by told came bytes (Framed f) [] may all run = free_by told came (Framed f) (fits bytes (unit_text (Framed f))) (inl tt) run
-    change_by told came bytes (Framed f) (garble ∷ garbles) may all run = changed_by told came bytes f garble all.0 run
+      -- by the change that waits
+      change_by : (told : List Entry) (came : List LineUnit) (bytes : List ℕ) (unit : LineUnit) (garbles : List Garble) → MayCome here unit → AllChange garbles → Here told came
+          → By told came bytes unit (change_for garbles unit) (if fits bytes (unit_text unit) then unit_item garbles unit ∷ [] else [])
+      change_by told came bytes Ack garbles may all run = free_by told came Ack (fits bytes (unit_text Ack)) may run
+      change_by told came bytes Nak garbles may all run = free_by told came Nak (fits bytes (unit_text Nak)) may run
+      change_by told came bytes Can garbles may all run = free_by told came Can (fits bytes (unit_text Can)) may run
+      change_by told came bytes (Framed f) [] may all run = free_by told came (Framed f) (fits bytes (unit_text (Framed f))) (inl tt) run
+      change_by told came bytes (Framed f) (garble ∷ garbles) may all run = changed_by told came bytes f garble all.0 run
 
-    pub unit_run : (told : List Entry) (came : List LineUnit) (w : WayState) (unit : LineUnit) → MayCome here unit → AllChange w.marks.garbles → Here told came
-        → Here (told ++ way.told Chip w unit) (came ++ good_units (items_of w unit))
-    unit_run told came w unit may all run = by (nat_lt 0 w.marks.drops)
-      where
-        by : (b : Bool) → By told came w.bytes unit (if b then Lost else change_for w.marks.garbles unit)
-            (if fits w.bytes (unit_text unit) then (if b then [] else unit_item w.marks.garbles unit ∷ []) else [])
-        by true = lost_by told came w.bytes unit (fits w.bytes (unit_text unit)) run
-        by false = change_by told came w.bytes unit w.marks.garbles may all run
+      pub unit_run : (told : List Entry) (came : List LineUnit) (w : WayState) (unit : LineUnit) → MayCome here unit → AllChange w.marks.garbles → Here told came
+          → Here (told ++ way.told Chip w unit) (came ++ good_units (items_of w unit))
+      unit_run told came w unit may all run = by (nat_lt 0 w.marks.drops)
+        where
+          by : (b : Bool) → By told came w.bytes unit (if b then Lost else change_for w.marks.garbles unit)
+              (if fits w.bytes (unit_text unit) then (if b then [] else unit_item w.marks.garbles unit ∷ []) else [])
+          by true = lost_by told came w.bytes unit (fits w.bytes (unit_text unit)) run
+          by false = change_by told came w.bytes unit w.marks.garbles may all run
 
-    -- units one after another, among entries of others
-    pub tells_run : (units : List LineUnit) (entries told : List Entry) (came : List LineUnit) (w : WayState) → AllByRecursion (MayCome here) units → AllChange w.marks.garbles
-        → Tells IsOfOthers Chip w units entries → Here told came → Here (told ++ entries) (came ++ good_units (items_all w units))
-    tells_run [] entries told came w may all tells run = subst (λ (l : List LineUnit). Here (told ++ entries) l) (sym (append-nil came)) (asides_run entries told came tells run)
-    tells_run (unit ∷ units) entries told came w may all (before, rest, is, asides, more) run =
-        let one : List Entry = way.told Chip w unit in
-        let next : WayState = after w (Writes unit) in
-        let first : Here (told ++ before) came = asides_run before told came asides run in
-        let second : Here ((told ++ before) ++ one) (came ++ good_units (items_of w unit)) = unit_run (told ++ before) came w unit may.0 all first in
-        let third : Here (((told ++ before) ++ one) ++ rest) ((came ++ good_units (items_of w unit)) ++ good_units (items_all next units)) =
-        tells_run units rest ((told ++ before) ++ one) (came ++ good_units (items_of w unit)) next may.1 (changes_left w unit all) more second in
-        let texts : ((told ++ before) ++ one) ++ rest ≡ told ++ entries =
-        append_assoc (told ++ before) one rest ∙ append_assoc told before (one ++ rest) ∙ ap (λ (l : List Entry). told ++ l) (sym is) in
-        let units_are : (came ++ good_units (items_of w unit)) ++ good_units (items_all next units) ≡ came ++ good_units (items_of w unit ++ items_all next units) =
-        append_assoc came (good_units (items_of w unit)) (good_units (items_all next units)) ∙ ap (λ (l : List LineUnit). came ++ l) (sym (good_both (items_of w unit) (items_all next units))) in
-        subst (λ (l : List LineUnit). Here (told ++ entries) l) units_are (subst (λ (l : List Entry). Here l ((came ++ good_units (items_of w unit)) ++ good_units (items_all next units))) texts third)
+      -- units one after another, among entries of others
+      pub tells_run : (units : List LineUnit) (entries told : List Entry) (came : List LineUnit) (w : WayState) → AllByRecursion (MayCome here) units → AllChange w.marks.garbles
+          → Tells IsOfOthers Chip w units entries → Here told came → Here (told ++ entries) (came ++ good_units (items_all w units))
+      tells_run [] entries told came w may all tells run = subst (λ (l : List LineUnit). Here (told ++ entries) l) (sym (append-nil came)) (asides_run entries told came tells run)
+      tells_run (unit ∷ units) entries told came w may all (before, rest, is, asides, more) run =
+          let one : List Entry = way.told Chip w unit in
+          let next : WayState = after w (Writes unit) in
+          let first : Here (told ++ before) came = asides_run before told came asides run in
+          let second : Here ((told ++ before) ++ one) (came ++ good_units (items_of w unit)) = unit_run (told ++ before) came w unit may.0 all first in
+          let third : Here (((told ++ before) ++ one) ++ rest) ((came ++ good_units (items_of w unit)) ++ good_units (items_all next units)) =
+          tells_run units rest ((told ++ before) ++ one) (came ++ good_units (items_of w unit)) next may.1 (changes_left w unit all) more second in
+          let texts : ((told ++ before) ++ one) ++ rest ≡ told ++ entries =
+          append_assoc (told ++ before) one rest ∙ append_assoc told before (one ++ rest) ∙ ap (λ (l : List Entry). told ++ l) (sym is) in
+          let units_are : (came ++ good_units (items_of w unit)) ++ good_units (items_all next units) ≡ came ++ good_units (items_of w unit ++ items_all next units) =
+          append_assoc came (good_units (items_of w unit)) (good_units (items_all next units)) ∙ ap (λ (l : List LineUnit). came ++ l) (sym (good_both (items_of w unit) (items_all next units))) in
+          subst (λ (l : List LineUnit). Here (told ++ entries) l) units_are (subst (λ (l : List Entry). Here l ((came ++ good_units (items_of w unit)) ++ good_units (items_all next units))) texts third)
 
 -- ---- with the number of the tick before what is told
 
 abbrev pub at_time : Keys → Option (List (List ℕ)) → HostState → List LineUnit → ℕ → Time3 → HostMachine
 at_time keys records state came left time = host_machine keys records state came time.2 left (time.0 && not time.1)
 
-pub stamp_run : (start : HostMachine) (o : OuterState) (here next : Phase) (keys : Keys) (records later_records : Option (List (List ℕ))) (state later_state : HostState)
+pub stamp_run : (start : HostMachine) (stage led : Stage) (o : OuterState) (here next : Phase) (keys : Keys) (records later_records : Option (List (List ℕ))) (state later_state : HostState)
     (came later_came : List LineUnit) (left : ℕ) (past told : List Entry)
-    → Run start here past (at_time keys records state came left (time_of o))
-    → ((awaits : Bool) (all : List Entry) → (awaits ≡ true → told ≡ []) → Run start here all (host_machine keys records state came o.clock left awaits)
-    → Run start next (all ++ told) (host_machine keys later_records later_state later_came o.clock left awaits))
-    → Run start next (past ++ stamp o told) (at_time keys later_records later_state later_came left (time_of (has_entered o told)))
-stamp_run start o here next keys records later_records state later_state came later_came left past [] run goes = goes (awaits_number o) past (λ awaits. refl) run
-stamp_run start o here next keys records later_records state later_state came later_came left past (e ∷ told) run goes =
-    let numbered = number_run start keys records state left here past came o.clock (awaits_number o) run in
+    → CarefulRun start stage here past (at_time keys records state came left (time_of o))
+    → ((awaits : Bool) (all : List Entry) → (awaits ≡ true → told ≡ []) → CarefulRun start stage here all (host_machine keys records state came o.clock left awaits)
+    → CarefulRun start led next (all ++ told) (host_machine keys later_records later_state later_came o.clock left awaits))
+    → CarefulRun start led next (past ++ stamp o told) (at_time keys later_records later_state later_came left (time_of (has_entered o told)))
+stamp_run start stage led o here next keys records later_records state later_state came later_came left past [] run goes = goes (awaits_number o) past (λ awaits. refl) run
+stamp_run start stage led o here next keys records later_records state later_state came later_came left past (e ∷ told) run goes =
+    let numbered = number_run start stage keys records state left here past came o.clock (awaits_number o) run in
     let gone = goes false (past ++ ticked_entry o) (λ (bad : false ≡ true). absurd cc) numbered in
-    subst (λ (b : Bool). Run start next (past ++ (ticked_entry o ++ e ∷ told)) (host_machine keys later_records later_state later_came o.clock left b)) (sym (entered o.in_tick o.stamped))
-    (subst (λ (l : List Entry). Run start next l (host_machine keys later_records later_state later_came o.clock left false)) (append_assoc past (ticked_entry o) (e ∷ told)) gone)
+    subst (λ (b : Bool). CarefulRun start led next (past ++ (ticked_entry o ++ e ∷ told)) (host_machine keys later_records later_state later_came o.clock left b)) (sym (entered o.in_tick o.stamped))
+    (subst (λ (l : List Entry). CarefulRun start led next l (host_machine keys later_records later_state later_came o.clock left false)) (append_assoc past (ticked_entry o) (e ∷ told)) gone)

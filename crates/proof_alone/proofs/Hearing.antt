@@ -8,7 +8,6 @@ use Rattle.zw_text.specs.declared.entry.Refusal.{Refusal}
 use Rattle.zw_text.specs.declared.entry.Entry.{Entry}
 use Rattle.zw_text.specs.declared.entry.Entry.TheVariants as entry
 use Rattle.zw_text.specs.Transcript.{folded, line_after, line_last, line_of}
-use Rattle.law_host.specs.law_transcript.Lists.{EachAfter}
 use Rattle.law_host.specs.Heard.{come_as, heard_as, heard_by_host, heard_from, is_of_others, is_refusal_of_others}
 use Rattle.proof_line.specs.host_model.State.{HostState}
 use Rattle.proof_line.specs.host_model.Events.{HostEvent, Accepts, Cancels, Hears}
@@ -20,14 +19,14 @@ use Rattle.proof_line.proofs.HostNotes.{NoteOuts, all_outs_note}
 use Rattle.proof_line.proofs.Holding.{NoMark}
 use Rattle.proof_alone.specs.State.{HostMachine}
 use Rattle.proof_alone.specs.Steps.{AreTold, ChangesFrame, DidNotCome, IsOfUnit, Step, Tells, Comes, Misses, Says, Says_nothing, Asks, Refuses, Shows, Restarts, Begins_tick, Numbers, Judges, Does, entries, happens}
-use Rattle.proof_alone.specs.Phases.{Phase, IsBetween, May}
-use Rattle.proof_alone.specs.Runs.{Knowledge, Run, WalkOver, both_know}
+use Rattle.proof_alone.specs.Phases.{Phase, Asked, IsBetween, May}
+use Rattle.proof_alone.specs.Runs.{Run}
 use Rattle.proof_alone.specs.Runs.Run.{Begins, Stepped, Turned}
+use Rattle.proof_alone.specs.Careful.{Careful, MayMeet, RunCarefully, Stage, StepsWell, TurnsWell, stage_after, stage_of, stage_turned}
 use Rattle.proof_alone.proofs.ReadingLines.{others_ask_nothing}
 use Rattle.proof_alone.specs.Reading.{Anything}
-use Rattle.proof_alone.proofs.ReadingWalk.{anything}
 use Rattle.proof_alone.specs.Words.{KnowsWords}
-use Rattle.proof_alone.proofs.Running.{over, run_keeps}
+use Rattle.proof_alone.proofs.Running.{run_keeps}
 use Rattle.proof_alone.proofs.Words.{words_walk}
 
 -- ---- lists
@@ -139,103 +138,136 @@ answers_apart h (Accepts order carriage) = tt
 answers_apart h (Cancels command) = tt
 answers_apart h event = tt
 
--- ---- the walk
+-- ---- along a run
 
 module _ (start : HostMachine) where
-  abbrev Know : Knowledge
-  Know here past m = Run start here (heard_by_host past) m
+  -- a run, at this stage, that is careful if this is so
+  record RunIf (Fine : Type 0) (stage : Stage) (here : Phase) (told : List Entry) (m : HostMachine) : Type 0 where
+    run : Run start here told m
+    careful : Fine → Careful run
+    at : stage_of run ≡ stage
 
-  abbrev Goes : Phase → List Entry → HostMachine → Step → Type 0
-  Goes next past m one = EachAfter Anything past (entries m one) × Know next (past ++ entries m one) (happens m one)
+  -- what is heard by a step more
+  abbrev Goes : Type 0 → Stage → Phase → List Entry → HostMachine → Step → Type 0
+  Goes Fine stage next past m one = RunIf (Fine × StepsWell stage one) (stage_after stage one) next (heard_by_host (past ++ entries m one)) (happens m one)
 
   -- what is heard of entries after others
   after_it : (past told : List Entry) → NoMark told → heard_by_host (past ++ told) ≡ heard_by_host past ++ heard_from (line_last past) told
   after_it past told none = heard_both [] past told none
 
   -- the step is heard as it is
-  kept : (here next : Phase) (past : List Entry) (m : HostMachine) (one : Step) → May here m one next → NoMark (entries m one) → IsHeard (entries m one) → Know here past m → Goes next past m one
-  kept here next past m one may none heard ran = (
-    anything past (entries m one),
-    Stepped one may (after_it past (entries m one) none ∙ ap (λ (l : List Entry). heard_by_host past ++ l) (heard (line_last past))) refl ran,
-  )
-
-  -- nothing of these is heard
-  left_out : (here next : Phase) (past told : List Entry) (m : HostMachine) → NoMark told → heard_from (line_last past) told ≡ [] → next ≡ here → Run start here (heard_by_host past) m
-      → Run start next (heard_by_host (past ++ told)) m
-  left_out here next past told m none heard is ran =
-      subst (λ (q : Phase). Run start q (heard_by_host (past ++ told)) m) (sym is)
-      (subst (λ (l : List Entry). Run start here l m) (sym (after_it past told none ∙ ap (λ (l : List Entry). heard_by_host past ++ l) heard ∙ append-nil (heard_by_host past))) ran)
-
-  aside_run : (here next : Phase) (past : List Entry) (m : HostMachine) (e : Entry) → May here m (Tells e) next → Run start here (heard_by_host past) m → Run start next (heard_by_host (past ++ e ∷ [])) m
-  aside_run here next past m (entry.Air frame sender receiver repeaters payload) may ran = left_out here next past (entry.Air frame sender receiver repeaters payload ∷ []) m tt refl may.3 ran
-  aside_run here next past m (entry.Heard frame) may ran = left_out here next past (entry.Heard frame ∷ []) m tt refl may.3 ran
-  aside_run here next past m (entry.Lost frame) may ran = left_out here next past (entry.Lost frame ∷ []) m tt refl may.3 ran
-  aside_run here next past m (entry.Unheard frame) may ran = left_out here next past (entry.Unheard frame ∷ []) m tt refl may.3 ran
-  aside_run here next past m (entry.Dev node by setting) may ran = left_out here next past (entry.Dev node by setting ∷ []) m tt refl may.3 ran
-  aside_run here next past m (entry.Device node setting) may ran = left_out here next past (entry.Device node setting ∷ []) m tt refl may.3 ran
-  aside_run here next past m (entry.Forget first second) may ran = left_out here next past (entry.Forget first second ∷ []) m tt refl may.3 ran
-  aside_run here next past m entry.ChipFull may ran = left_out here next past (entry.ChipFull ∷ []) m tt refl may.3 ran
-  aside_run here next past m (entry.Cleared side count) may ran = left_out here next past (entry.Cleared side count ∷ []) m tt refl may.3 ran
-  aside_run here next past m e may ran = absurd may.1
-
-  -- a unit that did not come
-  misses_run : (here next : Phase) (past : List Entry) (m : HostMachine) (text : List ℕ) (marks : List Entry) → IsBetween here → m.awaits ≡ false → next ≡ here → DidNotCome marks
-      → ChangesFrame text marks → Run start here (heard_by_host past) m → Run start next (heard_by_host (past ++ entry.Written Chip text ∷ marks)) m
-  misses_run here next past m text (entry.Dropped Chip ∷ []) between awaits is none changes ran = left_out here next past (entry.Written Chip text ∷ entry.Dropped Chip ∷ []) m tt refl is ran
-  misses_run here next past m text (entry.Overrun Chip ∷ []) between awaits is none changes ran = left_out here next past (entry.Written Chip text ∷ entry.Overrun Chip ∷ []) m tt refl is ran
-  misses_run here next past m text (entry.Garbled Chip changed ∷ []) between awaits is none changes ran =
-      Stepped (Misses changed (entry.Garbled Chip changed ∷ [])) (between, tt, awaits, is, (changes.1, changes.1)) (after_it past (entry.Written Chip text ∷ entry.Garbled Chip changed ∷ []) tt) refl ran
-  misses_run here next past m text (entry.Garbled Chip changed ∷ entry.Overrun Chip ∷ []) between awaits is none changes ran =
-      left_out here next past (entry.Written Chip text ∷ entry.Garbled Chip changed ∷ entry.Overrun Chip ∷ []) m tt refl is ran
-  misses_run here next past m text marks between awaits is none changes ran = absurd none
-
-  -- a refusal: that of a line of others is not heard
-  refusal_goes : (here next : Phase) (past : List Entry) (m : HostMachine) (refused : Refusal) → May here m (Refuses refused) next → KnowsWords here past m → Know here past m
-      → Goes next past m (Refuses refused)
-  refusal_goes here next past m refused (line, here_is, why, awaits, next_is) words ran = by (is_of_others (line ∷ [])) refl
-    where
-      told : List Entry
-      told = entry.Refused refused ∷ []
-
-      line_is : line_last past ≡ line ∷ []
-      line_is = (subst (λ (q : Phase). KnowsWords q past m) here_is words).0
-
-      by : (b : Bool) → is_of_others (line ∷ []) ≡ b → Goes next past m (Refuses refused)
-      by true is =
-          let heard : heard_from (line_last past) told ≡ [] = ap (λ (ls : List Line). (if is_of_others ls then [] else told) ++ []) line_is ∙ ap (λ (b : Bool). (if b then [] else told) ++ []) is in
-          let opened : Run start next (heard_by_host past) m = Turned (inl (others_ask_nothing line is, next_is)) (subst (λ (q : Phase). Run start q (heard_by_host past) m) here_is ran) in
-          (anything past told, left_out next next past told m tt heard refl opened)
-      by false is =
-          let heard : heard_from (line_last past) told ≡ told = ap (λ (ls : List Line). (if is_of_others ls then [] else told) ++ []) line_is ∙ ap (λ (b : Bool). (if b then [] else told) ++ []) is in (
-            anything past told,
-            Stepped (Refuses refused) (line, here_is, why, awaits, next_is) (after_it past told tt ∙ ap (λ (l : List Entry). heard_by_host past ++ l) heard) refl ran,
-          )
-
-  step_goes : (here next : Phase) (past : List Entry) (m : HostMachine) (one : Step) → May here m one next → KnowsWords here past m → Know here past m → Goes next past m one
-  step_goes here next past m (Tells e) may words ran = (anything past (e ∷ []), aside_run here next past m e may ran)
-  step_goes here next past m (Comes unit) may words ran = kept here next past m (Comes unit) may tt (λ before. refl) ran
-  step_goes here next past m (Misses text marks) may words ran =
-      (anything past (entry.Written Chip text ∷ marks), misses_run here next past m text marks may.0 may.2 may.3 may.1 may.4 ran)
-  step_goes here next past m (Says words line) may known ran = kept here next past m (Says words line) may tt (λ before. refl) ran
-  step_goes here next past m (Says_nothing words) may known ran = kept here next past m (Says_nothing words) may tt (λ before. refl) ran
-  step_goes here next past m (Asks event) may words ran = kept here next past m (Asks event) may (answers_apart m.state event) (answers_heard m.state event) ran
-  step_goes here next past m (Refuses refused) may words ran = refusal_goes here next past m refused may words ran
-  step_goes here next past m (Shows node) may words ran = kept here next past m (Shows node) may tt (λ before. refl) ran
-  step_goes here next past m (Restarts state) may words ran = kept here next past m (Restarts state) may tt (λ before. refl) ran
-  step_goes here next past m (Begins_tick left) may words ran = kept here next past m (Begins_tick left) may tt (λ before. refl) ran
-  step_goes here next past m Numbers may words ran = kept here next past m Numbers may tt (λ before. refl) ran
-  step_goes here next past m (Judges item rest behind told) may words ran =
-      let notes = event_notes m.state (Hears item) in
-      kept here next past m (Judges item rest behind told) may (told_apart (outs m.state (Hears item)) told notes may.1.told_so) (told_heard (outs m.state (Hears item)) told notes may.1.told_so) ran
-  step_goes here next past m (Does event told) may words ran =
-      let notes = event_notes m.state event in
-      kept here next past m (Does event told) may (told_apart (outs m.state event) told notes may.2) (told_heard (outs m.state event) told notes may.2) ran
-
-  hearing : WalkOver KnowsWords Anything Anything Know
-  hearing = record {
-    step = λ here next past m one may words stands ran. step_goes here next past m one may words ran;
-    turn = λ here next past m turns words ran. Turned turns ran;
+  kept : (Fine : Type 0) (stage : Stage) (here next : Phase) (past : List Entry) (m : HostMachine) (one : Step) → May here m one next → NoMark (entries m one)
+      → heard_from (line_last past) (entries m one) ≡ entries m one → RunIf Fine stage here (heard_by_host past) m → Goes Fine stage next past m one
+  kept Fine stage here next past m one may none heard ran = record {
+    run = Stepped one may (after_it past (entries m one) none ∙ ap (λ (l : List Entry). heard_by_host past ++ l) heard) refl ran.run;
+    careful = λ both. (ran.careful both.0, subst (λ (s : Stage). StepsWell s one) (sym ran.at) both.1);
+    at = ap (λ (s : Stage). stage_after s one) ran.at;
   }
 
+  -- nothing of these is heard
+  left_out : (Fine More : Type 0) (stage : Stage) (here next : Phase) (past told : List Entry) (m : HostMachine) → NoMark told → heard_from (line_last past) told ≡ [] → next ≡ here
+      → RunIf Fine stage here (heard_by_host past) m → RunIf (Fine × More) stage next (heard_by_host (past ++ told)) m
+  left_out Fine More stage here next past told m none heard is ran =
+      let there : RunIf Fine stage next (heard_by_host (past ++ told)) m =
+      subst (λ (q : Phase). RunIf Fine stage q (heard_by_host (past ++ told)) m) (sym is)
+      (subst (λ (l : List Entry). RunIf Fine stage here l m) (sym (after_it past told none ∙ ap (λ (l : List Entry). heard_by_host past ++ l) heard ∙ append-nil (heard_by_host past))) ran) in
+      record { run = there.run; careful = λ both. there.careful both.0; at = there.at }
+
+  module _ (Fine : Type 0) (stage : Stage) (here next : Phase) (past : List Entry) (m : HostMachine) where
+    abbrev Before : Type 0
+    Before = RunIf Fine stage here (heard_by_host past) m
+
+    aside_run : (e : Entry) → May here m (Tells e) next → Before → Goes Fine stage next past m (Tells e)
+    aside_run (entry.Air frame sender receiver repeaters payload) may ran =
+        left_out Fine (Unit {0}) stage here next past (entry.Air frame sender receiver repeaters payload ∷ []) m tt refl may.3 ran
+    aside_run (entry.Heard frame) may ran = left_out Fine (Unit {0}) stage here next past (entry.Heard frame ∷ []) m tt refl may.3 ran
+    aside_run (entry.Lost frame) may ran = left_out Fine (Unit {0}) stage here next past (entry.Lost frame ∷ []) m tt refl may.3 ran
+    aside_run (entry.Unheard frame) may ran = left_out Fine (Unit {0}) stage here next past (entry.Unheard frame ∷ []) m tt refl may.3 ran
+    aside_run (entry.Dev node by setting) may ran = left_out Fine (Unit {0}) stage here next past (entry.Dev node by setting ∷ []) m tt refl may.3 ran
+    aside_run (entry.Device node setting) may ran = left_out Fine (Unit {0}) stage here next past (entry.Device node setting ∷ []) m tt refl may.3 ran
+    aside_run (entry.Forget first second) may ran = left_out Fine (Unit {0}) stage here next past (entry.Forget first second ∷ []) m tt refl may.3 ran
+    aside_run entry.ChipFull may ran = left_out Fine (Unit {0}) stage here next past (entry.ChipFull ∷ []) m tt refl may.3 ran
+    aside_run (entry.Cleared side count) may ran = left_out Fine (Unit {0}) stage here next past (entry.Cleared side count ∷ []) m tt refl may.3 ran
+    aside_run e may ran = absurd may.1
+
+    -- a unit that did not come
+    misses_run : (text : List ℕ) (marks : List Entry) → IsBetween here → m.awaits ≡ false → next ≡ here → DidNotCome marks → ChangesFrame text marks → Before
+        → Goes Fine stage next past m (Misses text marks)
+    misses_run text (entry.Dropped Chip ∷ []) between awaits is none changes ran =
+        left_out Fine (MayMeet stage) stage here next past (entry.Written Chip text ∷ entry.Dropped Chip ∷ []) m tt refl is ran
+    misses_run text (entry.Overrun Chip ∷ []) between awaits is none changes ran =
+        left_out Fine (MayMeet stage) stage here next past (entry.Written Chip text ∷ entry.Overrun Chip ∷ []) m tt refl is ran
+    misses_run text (entry.Garbled Chip changed ∷ []) between awaits is none changes ran = record {
+      run = Stepped (Misses changed (entry.Garbled Chip changed ∷ [])) (between, tt, awaits, is, (changes.1, changes.1))
+          (after_it past (entry.Written Chip text ∷ entry.Garbled Chip changed ∷ []) tt) refl ran.run;
+      careful = λ both. (ran.careful both.0, subst MayMeet (sym ran.at) both.1);
+      at = ran.at;
+    }
+    misses_run text (entry.Garbled Chip changed ∷ entry.Overrun Chip ∷ []) between awaits is none changes ran =
+        left_out Fine (MayMeet stage) stage here next past (entry.Written Chip text ∷ entry.Garbled Chip changed ∷ entry.Overrun Chip ∷ []) m tt refl is ran
+    misses_run text marks between awaits is none changes ran = absurd none
+
+    -- a refusal: that of a line of others is not heard
+    refusal_goes : (refused : Refusal) → May here m (Refuses refused) next → KnowsWords here past m → Before → Goes Fine stage next past m (Refuses refused)
+    refusal_goes refused (line, here_is, why, awaits, next_is) words ran = by (is_of_others (line ∷ [])) refl
+      where
+        told : List Entry
+        told = entry.Refused refused ∷ []
+
+        line_is : line_last past ≡ line ∷ []
+        line_is = (subst (λ (q : Phase). KnowsWords q past m) here_is words).0
+
+        by : (b : Bool) → is_of_others (line ∷ []) ≡ b → Goes Fine stage next past m (Refuses refused)
+        by true is =
+            let heard : heard_from (line_last past) told ≡ [] = ap (λ (ls : List Line). (if is_of_others ls then [] else told) ++ []) line_is ∙ ap (λ (b : Bool). (if b then [] else told) ++ []) is in
+            let there : RunIf Fine stage (Asked line) (heard_by_host past) m = subst (λ (q : Phase). RunIf Fine stage q (heard_by_host past) m) here_is ran in
+            let opened : RunIf Fine stage next (heard_by_host past) m =
+            record { run = Turned (inl (others_ask_nothing line is, next_is)) there.run; careful = λ fine. (there.careful fine, tt); at = there.at } in
+            left_out Fine (Unit {0}) stage next next past told m tt heard refl opened
+        by false is =
+            kept Fine stage here next past m (Refuses refused) (line, here_is, why, awaits, next_is) tt
+            (ap (λ (ls : List Line). (if is_of_others ls then [] else told) ++ []) line_is ∙ ap (λ (b : Bool). (if b then [] else told) ++ []) is) ran
+
+    step_goes : (one : Step) → May here m one next → KnowsWords here past m → Before → Goes Fine stage next past m one
+    step_goes (Tells e) may words ran = aside_run e may ran
+    step_goes (Comes unit) may words ran = kept Fine stage here next past m (Comes unit) may tt refl ran
+    step_goes (Misses text marks) may words ran = misses_run text marks may.0 may.2 may.3 may.1 may.4 ran
+    step_goes (Says words line) may known ran = kept Fine stage here next past m (Says words line) may tt refl ran
+    step_goes (Says_nothing words) may known ran = kept Fine stage here next past m (Says_nothing words) may tt refl ran
+    step_goes (Asks event) may words ran = kept Fine stage here next past m (Asks event) may (answers_apart m.state event) (answers_heard m.state event (line_last past)) ran
+    step_goes (Refuses refused) may words ran = refusal_goes refused may words ran
+    step_goes (Shows node) may words ran = kept Fine stage here next past m (Shows node) may tt refl ran
+    step_goes (Restarts state) may words ran = kept Fine stage here next past m (Restarts state) may tt refl ran
+    step_goes (Begins_tick left) may words ran = kept Fine stage here next past m (Begins_tick left) may tt refl ran
+    step_goes Numbers may words ran = kept Fine stage here next past m Numbers may tt refl ran
+    step_goes (Judges item rest behind told) may words ran =
+        let notes = event_notes m.state (Hears item) in
+        kept Fine stage here next past m (Judges item rest behind told) may (told_apart (outs m.state (Hears item)) told notes may.1.told_so)
+        (told_heard (outs m.state (Hears item)) told notes may.1.told_so (line_last past)) ran
+    step_goes (Does event told) may words ran =
+        let notes = event_notes m.state event in
+        kept Fine stage here next past m (Does event told) may (told_apart (outs m.state event) told notes may.2) (told_heard (outs m.state event) told notes may.2 (line_last past)) ran
+
+  -- the words of a line are known along a run
+  words_known : {here : Phase} {told : List Entry} {m : HostMachine} → Run start here told m → KnowsWords here told m
+  words_known run = (run_keeps Anything KnowsWords words_walk [] run tt).1
+
+  hears : {here : Phase} {told : List Entry} {m : HostMachine} → (run : Run start here told m) → RunIf (Careful run) (stage_of run) here (heard_by_host told) m
+  hears Begins = record { run = Begins; careful = λ fine. fine; at = refl }
+  hears {m = m} (Turned {here = here} turns run) =
+      let before = hears run in
+      record {
+        run = Turned turns before.run;
+        careful = λ fine. (before.careful fine.0, subst (λ (s : Stage). TurnsWell s here m) (sym before.at) fine.1);
+        at = ap (λ (s : Stage). stage_turned s here) before.at;
+      }
+  hears {here = next} {m = later} (Stepped {here = here} {told = told} {m = m} step may all_is later_is run) =
+      let one = step_goes (Careful run) (stage_of run) here next told m step may (words_known run) (hears run) in
+      subst (λ (l : List Entry). RunIf (Careful run × StepsWell (stage_of run) step) (stage_after (stage_of run) step) next (heard_by_host l) later) (sym all_is)
+      (subst (λ (n : HostMachine). RunIf (Careful run × StepsWell (stage_of run) step) (stage_after (stage_of run) step) next (heard_by_host (told ++ entries m step)) n) (sym later_is) one)
+
   pub is_heard : {here : Phase} {told : List Entry} {m : HostMachine} → Run start here told m → Run start here (heard_by_host told) m
-  is_heard run = (run_keeps Anything (both_know KnowsWords Know) (over KnowsWords Anything Anything Know words_walk hearing) [] run (tt, Begins)).1.1
+  is_heard run = (hears run).run
+
+  pub heard_carefully : {here : Phase} {told : List Entry} {m : HostMachine} → (run : Run start here told m) → Careful run → RunCarefully start here (heard_by_host told) m
+  heard_carefully run fine = let heard = hears run in (heard.run, heard.careful fine)

@@ -28,8 +28,8 @@ use Rattle.proof_line.proofs.Times.{time_of}
 use Rattle.proof_alone.specs.State.{HostMachine, host_machine}
 use Rattle.proof_alone.specs.Steps.{AreFrames, AreTold, Does, Judges, TakesItem}
 use Rattle.proof_alone.specs.Phases.{Phase, Resting, Risen, Ticking, Open, Behind, Sleeping, Submitting, GoesBy}
-use Rattle.proof_alone.specs.Runs.{Run}
-use Rattle.proof_alone.specs.Runs.Run.{Stepped, Turned}
+use Rattle.proof_alone.specs.Careful.{CarefulRun, Fresh, Looked, MayJudge, Stage, stage_judged, stage_pumped}
+use Rattle.proof_alone.proofs.Carefully.{all_judged, may_pump, stepped, still_judges, turned}
 use Rattle.proof_alone.proofs.Coming.{at_time, stamp_run}
 use Rattle.proof_alone.proofs.Stamps.{Time3, outs_told}
 
@@ -95,134 +95,146 @@ module _ (W : Type 0) (at : W → OuterState) (put : W → List HostOut → List
   told_both w h a b = ap (λ (l : List HostOut). put w l) (outs_all-append h a b) ∙ enters.both_put w (outs_all h a) (outs_all (after_all h a) b)
 
   -- a run to here, with a host, its records, what has come, and what is beside it
-  abbrev pub To : Phase → List Entry → Option (List (List ℕ)) → HostState → List LineUnit → W → Type 0
-  To here past records h came w = Run start here past (at_time keys records h came left (time_of (at w)))
+  abbrev pub To : Stage → Phase → List Entry → Option (List (List ℕ)) → HostState → List LineUnit → W → Type 0
+  To stage here past records h came w = CarefulRun start stage here past (at_time keys records h came left (time_of (at w)))
 
   -- and to what events make of it
-  abbrev pub Then : Phase → List Entry → Option (List (List ℕ)) → HostState → List LineUnit → W → List HostEvent → Type 0
-  Then here past records h came w events = To here (past ++ told w h events) (kept records h events) (after_all h events) came (later w h events)
+  abbrev pub Then : Stage → Phase → List Entry → Option (List (List ℕ)) → HostState → List LineUnit → W → List HostEvent → Type 0
+  Then stage here past records h came w events = To stage here (past ++ told w h events) (kept records h events) (after_all h events) came (later w h events)
 
-  then_none : (here : Phase) (past : List Entry) (records : Option (List (List ℕ))) (h : HostState) (came : List LineUnit) (w : W) → To here past records h came w → Then here past records h came w []
-  then_none here past records h came w run =
-      subst (λ (v : W). To here (past ++ put w []) (with_texts records []) h came v) (sym (enters.none_next w))
-      (subst (λ (l : List Entry). To here (past ++ l) (with_texts records []) h came w) (sym (enters.none_put w))
-      (subst (λ (l : List Entry). To here l (with_texts records []) h came w) (sym (append-nil past))
-      (subst (λ (r : Option (List (List ℕ))). To here past r h came w) (sym (no_texts records)) run)))
+  then_none : (stage : Stage) (here : Phase) (past : List Entry) (records : Option (List (List ℕ))) (h : HostState) (came : List LineUnit) (w : W) → To stage here past records h came w
+      → Then stage here past records h came w []
+  then_none stage here past records h came w run =
+      subst (λ (v : W). To stage here (past ++ put w []) (with_texts records []) h came v) (sym (enters.none_next w))
+      (subst (λ (l : List Entry). To stage here (past ++ l) (with_texts records []) h came w) (sym (enters.none_put w))
+      (subst (λ (l : List Entry). To stage here l (with_texts records []) h came w) (sym (append-nil past))
+      (subst (λ (r : Option (List (List ℕ))). To stage here past r h came w) (sym (no_texts records)) run)))
 
-  then_both : (here : Phase) (past : List Entry) (records : Option (List (List ℕ))) (h : HostState) (came : List LineUnit) (w : W) (a b : List HostEvent)
-      → Then here (past ++ told w h a) (kept records h a) (after_all h a) came (later w h a) b → Then here past records h came w (a ++ b)
-  then_both here past records h came w a b run =
+  then_both : (stage : Stage) (here : Phase) (past : List Entry) (records : Option (List (List ℕ))) (h : HostState) (came : List LineUnit) (w : W) (a b : List HostEvent)
+      → Then stage here (past ++ told w h a) (kept records h a) (after_all h a) came (later w h a) b → Then stage here past records h came w (a ++ b)
+  then_both stage here past records h came w a b run =
       let g : HostState = after_all h a in
       let v : W = later w h a in
       let texts : (past ++ told w h a) ++ told v g b ≡ past ++ told w h (a ++ b) = append_assoc past (told w h a) (told v g b) ∙ ap (λ (l : List Entry). past ++ l) (sym (told_both w h a b)) in
-      subst (λ (u : W). To here (past ++ told w h (a ++ b)) (kept records h (a ++ b)) (after_all h (a ++ b)) came u) (sym (later_both w h a b))
-      (subst (λ (s : HostState). To here (past ++ told w h (a ++ b)) (kept records h (a ++ b)) s came (later v g b)) (sym (after_all-append h a b))
-      (subst (λ (r : Option (List (List ℕ))). To here (past ++ told w h (a ++ b)) r (after_all g b) came (later v g b)) (kept_both records h a b)
-      (subst (λ (l : List Entry). To here l (kept (kept records h a) g b) (after_all g b) came (later v g b)) texts run)))
+      subst (λ (u : W). To stage here (past ++ told w h (a ++ b)) (kept records h (a ++ b)) (after_all h (a ++ b)) came u) (sym (later_both w h a b))
+      (subst (λ (s : HostState). To stage here (past ++ told w h (a ++ b)) (kept records h (a ++ b)) s came (later v g b)) (sym (after_all-append h a b))
+      (subst (λ (r : Option (List (List ℕ))). To stage here (past ++ told w h (a ++ b)) r (after_all g b) came (later v g b)) (kept_both records h a b)
+      (subst (λ (l : List Entry). To stage here l (kept (kept records h a) g b) (after_all g b) came (later v g b)) texts run)))
 
   -- ---- one event
 
   -- what is entered of it is told, with the number of the tick where that is still to be entered
-  event_run : (here next : Phase) (past : List Entry) (records : Option (List (List ℕ))) (h : HostState) (came later_came : List LineUnit) (w : W) (event : HostEvent)
-      → ((awaits : Bool) (all said : List Entry) → AreTold (outs h event) said → (awaits ≡ true → said ≡ []) → Run start here all (host_machine keys records h came (at w).clock left awaits)
-      → Run start next (all ++ said) (host_machine keys (kept records h (event ∷ [])) (after h event) later_came (at w).clock left awaits))
-      → To here past records h came w → Then next past records h later_came w (event ∷ [])
-  event_run here next past records h came later_came w event steps run =
+  event_run : (stage led : Stage) (here next : Phase) (past : List Entry) (records : Option (List (List ℕ))) (h : HostState) (came later_came : List LineUnit) (w : W) (event : HostEvent)
+      → ((awaits : Bool) (all said : List Entry) → AreTold (outs h event) said → (awaits ≡ true → said ≡ [])
+      → CarefulRun start stage here all (host_machine keys records h came (at w).clock left awaits)
+      → CarefulRun start led next (all ++ said) (host_machine keys (kept records h (event ∷ [])) (after h event) later_came (at w).clock left awaits))
+      → To stage here past records h came w → Then led next past records h later_came w (event ∷ [])
+  event_run stage led here next past records h came later_came w event steps run =
       let got = enters.is_put (outs_all h (event ∷ [])) w in
       let are : AreTold (outs h event) got.told = subst (λ (l : List HostOut). AreTold l got.told) (append-nil (outs h event)) got.are in
       let stamped =
-      stamp_run start (at w) here next keys records (kept records h (event ∷ [])) h (after h event) came later_came left past got.told run
+      stamp_run start stage led (at w) here next keys records (kept records h (event ∷ [])) h (after h event) came later_came left past got.told run
       (λ awaits all numbered there. steps awaits all got.told are numbered there) in
-      subst (λ (t : Time3). Run start next (past ++ told w h (event ∷ [])) (at_time keys (kept records h (event ∷ [])) (after h event) later_came left t)) (sym got.time)
-      (subst (λ (l : List Entry). Run start next (past ++ l) (at_time keys (kept records h (event ∷ [])) (after h event) later_came left (time_of (has_entered (at w) got.told)))) (sym got.stamped) stamped)
+      subst (λ (t : Time3). CarefulRun start led next (past ++ told w h (event ∷ [])) (at_time keys (kept records h (event ∷ [])) (after h event) later_came left t)) (sym got.time)
+      (subst (λ (l : List Entry). CarefulRun start led next (past ++ l) (at_time keys (kept records h (event ∷ [])) (after h event) later_came left (time_of (has_entered (at w) got.told)))) (sym got.stamped) stamped)
 
   -- one that comes here
-  pub does_run : (here next : Phase) (past : List Entry) (records : Option (List (List ℕ))) (h : HostState) (came : List LineUnit) (w : W) (event : HostEvent)
-      → GoesBy here h event next → MayAll h (event ∷ []) → To here past records h came w → Then next past records h came w (event ∷ [])
-  does_run here next past records h came w event goes may run =
-      event_run here next past records h came came w event (λ awaits all said are numbered there. Stepped (Does event said) (goes, may, are, numbered) refl refl there) run
+  pub does_run : (stage : Stage) (here next : Phase) (past : List Entry) (records : Option (List (List ℕ))) (h : HostState) (came : List LineUnit) (w : W) (event : HostEvent)
+      → GoesBy here h event next → MayAll h (event ∷ []) → To stage here past records h came w → Then stage next past records h came w (event ∷ [])
+  does_run stage here next past records h came w event goes may run =
+      event_run stage stage here next past records h came came w event
+      (λ awaits all said are numbered there. stepped (Does event said) (goes, may, are, numbered) tt refl refl refl there) run
 
   -- those of a part, one after another
-  part_run : (part : List HostEvent → Phase) → ((first : HostEvent) (more : List HostEvent) (g : HostState) → GoesBy (part (first ∷ more)) g first (part more))
+  part_run : (stage : Stage) (part : List HostEvent → Phase) → ((first : HostEvent) (more : List HostEvent) (g : HostState) → GoesBy (part (first ∷ more)) g first (part more))
       → (events : List HostEvent) (past : List Entry) (records : Option (List (List ℕ))) (h : HostState) (came : List LineUnit) (w : W) → MayAll h events
-      → To (part events) past records h came w → Then (part []) past records h came w events
-  part_run part goes [] past records h came w may run = then_none (part []) past records h came w run
-  part_run part goes (event ∷ events) past records h came w may run =
-      let one = does_run (part (event ∷ events)) (part events) past records h came w event (goes event events h) (may.0, tt, may.2) run in
-      then_both (part []) past records h came w (event ∷ []) events
-      (part_run part goes events (past ++ told w h (event ∷ [])) (kept records h (event ∷ [])) (after h event) came (later w h (event ∷ [])) may.1 one)
+      → To stage (part events) past records h came w → Then stage (part []) past records h came w events
+  part_run stage part goes [] past records h came w may run = then_none stage (part []) past records h came w run
+  part_run stage part goes (event ∷ events) past records h came w may run =
+      let one = does_run stage (part (event ∷ events)) (part events) past records h came w event (goes event events h) (may.0, tt, may.2) run in
+      then_both stage (part []) past records h came w (event ∷ []) events
+      (part_run stage part goes events (past ++ told w h (event ∷ [])) (kept records h (event ∷ [])) (after h event) came (later w h (event ∷ [])) may.1 one)
 
   -- ---- a tick and a pump
 
   -- the host's part of a tick
   pub tick_run : (past : List Entry) (records : Option (List (List ℕ))) (h : HostState) (came : List LineUnit) (w : W) → MayAll h (tick_events h)
-      → To Risen past records h came w → Then Open past records h came w (tick_events h)
-  tick_run past records h came w may run = Turned refl (part_run Ticking (λ first more g. (refl, refl)) (tick_events h) past records h came w may (Turned refl run))
+      → To Fresh Risen past records h came w → Then Fresh Open past records h came w (tick_events h)
+  tick_run past records h came w may run =
+      turned refl tt refl (part_run Fresh Ticking (λ first more g. (refl, refl)) (tick_events h) past records h came w may (turned refl tt refl run))
 
-  lets_run : (events : List HostEvent) (past : List Entry) (records : Option (List (List ℕ))) (h : HostState) (came : List LineUnit) (w : W) → AreFrames came → LetsSleep h events → MayAll h events
-      → To Sleeping past records h came w → Then Submitting past records h came w events
-  lets_run [] past records h came w frames lets may run = Turned (lets, refl, frames) (then_none Sleeping past records h came w run)
-  lets_run (event ∷ events) past records h came w frames (node, wants, is, more) may run =
-      let one = does_run Sleeping Sleeping past records h came w event (node, wants, is, refl) (may.0, tt, may.2) run in
-      then_both Submitting past records h came w (event ∷ []) events
-      (lets_run events (past ++ told w h (event ∷ [])) (kept records h (event ∷ [])) (after h event) came (later w h (event ∷ [])) frames more may.1 one)
+  lets_run : (stage : Stage) (events : List HostEvent) (past : List Entry) (records : Option (List (List ℕ))) (h : HostState) (came : List LineUnit) (w : W) → AreFrames came → LetsSleep h events
+      → MayAll h events → To stage Sleeping past records h came w → Then stage Submitting past records h came w events
+  lets_run stage [] past records h came w frames lets may run = turned (lets, refl, frames) tt refl (then_none stage Sleeping past records h came w run)
+  lets_run stage (event ∷ events) past records h came w frames (node, wants, is, more) may run =
+      let one = does_run stage Sleeping Sleeping past records h came w event (node, wants, is, refl) (may.0, tt, may.2) run in
+      then_both stage Submitting past records h came w (event ∷ []) events
+      (lets_run stage events (past ++ told w h (event ∷ [])) (kept records h (event ∷ [])) (after h event) came (later w h (event ∷ [])) frames more may.1 one)
 
-  submits_run : (events : List HostEvent) (past : List Entry) (records : Option (List (List ℕ))) (h : HostState) (came : List LineUnit) (w : W) → Submits h events → MayAll h events
-      → To Submitting past records h came w → Then Resting past records h came w events
-  submits_run [] past records h came w pumped may run = Turned (pumped, refl) (then_none Submitting past records h came w run)
-  submits_run (event ∷ events) past records h came w (is, more) may run =
-      let one = does_run Submitting Submitting past records h came w event (is, refl) (may.0, tt, may.2) run in
-      then_both Resting past records h came w (event ∷ []) events
-      (submits_run events (past ++ told w h (event ∷ [])) (kept records h (event ∷ [])) (after h event) came (later w h (event ∷ [])) more may.1 one)
+  submits_run : (stage : Stage) (events : List HostEvent) (past : List Entry) (records : Option (List (List ℕ))) (h : HostState) (came : List LineUnit) (w : W) → Submits h events → MayAll h events
+      → To stage Submitting past records h came w → Then stage Resting past records h came w events
+  submits_run stage [] past records h came w pumped may run = turned (pumped, refl) tt refl (then_none stage Submitting past records h came w run)
+  submits_run stage (event ∷ events) past records h came w (is, more) may run =
+      let one = does_run stage Submitting Submitting past records h came w event (is, refl) (may.0, tt, may.2) run in
+      then_both stage Resting past records h came w (event ∷ []) events
+      (submits_run stage events (past ++ told w h (event ∷ [])) (kept records h (event ∷ [])) (after h event) came (later w h (event ∷ [])) more may.1 one)
 
-  pub pump_run : (events : List HostEvent) (past : List Entry) (records : Option (List (List ℕ))) (h : HostState) (came : List LineUnit) (w : W) → AreFrames came → Pumps h events → MayAll h events
-      → To Open past records h came w → Then Resting past records h came w events
-  pump_run events past records h came w frames (first, more, are, lets, submits) may run =
+  -- where nothing that came is left
+  pub pump_run : (stage : Stage) (events : List HostEvent) (past : List Entry) (records : Option (List (List ℕ))) (h : HostState) (w : W) → Pumps h events → MayAll h events
+      → To stage Open past records h [] w → Then (stage_pumped stage) Resting past records h [] w events
+  pump_run stage events past records h w (first, more, are, lets, submits) may run =
       let both : MayAll h (first ++ more) = subst (MayAll h) are may in
-      subst (λ (l : List HostEvent). Then Resting past records h came w l) (sym are)
-      (then_both Resting past records h came w first more
-      (submits_run more (past ++ told w h first) (kept records h first) (after_all h first) came (later w h first) submits (may_rest h first more both)
-      (lets_run first past records h came w frames lets (may_first h first more both) (Turned refl run))))
+      let pumped : Stage = stage_pumped stage in
+      subst (λ (l : List HostEvent). Then pumped Resting past records h [] w l) (sym are)
+      (then_both pumped Resting past records h [] w first more
+      (submits_run pumped more (past ++ told w h first) (kept records h first) (after_all h first) [] (later w h first) submits (may_rest h first more both)
+      (lets_run pumped first past records h [] w tt lets (may_first h first more both) (turned refl (may_pump stage [] refl) refl run))))
 
   -- a tick, and the pump that follows
-  pub tick_and_pump : (pumped : List HostEvent) (past : List Entry) (records : Option (List (List ℕ))) (h : HostState) (came : List LineUnit) (w : W) → AreFrames came → Pumps (after_all h (tick_events h)) pumped
-      → MayAll h (tick_events h ++ pumped) → To Risen past records h came w → Then Resting past records h came w (tick_events h ++ pumped)
-  tick_and_pump pumped past records h came w frames pumps may run =
+  pub tick_and_pump : (pumped : List HostEvent) (past : List Entry) (records : Option (List (List ℕ))) (h : HostState) (w : W) → Pumps (after_all h (tick_events h)) pumped
+      → MayAll h (tick_events h ++ pumped) → To Fresh Risen past records h [] w → Then Looked Resting past records h [] w (tick_events h ++ pumped)
+  tick_and_pump pumped past records h w pumps may run =
       let events : List HostEvent = tick_events h in
-      then_both Resting past records h came w events pumped
-      (pump_run pumped (past ++ told w h events) (kept records h events) (after_all h events) came (later w h events) frames pumps (may_rest h events pumped may)
-      (tick_run past records h came w (may_first h events pumped may) run))
+      then_both Looked Resting past records h [] w events pumped
+      (pump_run Fresh pumped (past ++ told w h events) (kept records h events) (after_all h events) (later w h events) pumps (may_rest h events pumped may)
+      (tick_run past records h [] w (may_first h events pumped may) run))
 
   -- ---- items
 
   -- an item is judged, and what follows it is done
-  item_run : (item : Item) (items : List Item) (behind : List HostEvent) (past : List Entry) (records : Option (List (List ℕ))) (h : HostState) (rest : List LineUnit) (w : W)
-      → IsFollowed (after h (Hears item)) h.side.turn item behind → MayAll h (Hears item ∷ behind)
-      → To Open past records h (good_units (item ∷ items) ++ rest) w → Then Open past records h (good_units items ++ rest) w (Hears item ∷ behind)
-  item_run item items behind past records h rest w followed may run =
+  item_run : (stage : Stage) (item : Item) (items : List Item) (behind : List HostEvent) (past : List Entry) (records : Option (List (List ℕ))) (h : HostState) (rest : List LineUnit) (w : W)
+      → MayJudge stage → IsFollowed (after h (Hears item)) h.side.turn item behind → MayAll h (Hears item ∷ behind)
+      → To stage Open past records h (good_units (item ∷ items) ++ rest) w → Then (stage_judged stage) Open past records h (good_units items ++ rest) w (Hears item ∷ behind)
+  item_run stage item items behind past records h rest w judging followed may run =
       let came : List LineUnit = good_units items ++ rest in
-      let judged = may_first h (Hears item ∷ []) behind may in
+      let first = may_first h (Hears item ∷ []) behind may in
       let one =
-      event_run Open (Behind behind) past records h (good_units (item ∷ items) ++ rest) came w (Hears item)
+      event_run stage (stage_judged stage) Open (Behind behind) past records h (good_units (item ∷ items) ++ rest) came w (Hears item)
       (λ awaits all said are numbered there.
-      Stepped (Judges item came behind said) (refl, record { takes = takes item items rest; may = judged; followed = followed; told_so = are; numbered = numbered }, refl) refl refl there)
+      stepped (Judges item came behind said)
+      (refl, record { takes = takes item items rest; may = first; followed = followed; told_so = are; numbered = numbered }, refl)
+      judging refl refl refl there)
       run in
       let all =
-      part_run Behind (λ first more g. (refl, refl)) behind (past ++ told w h (Hears item ∷ [])) (kept records h (Hears item ∷ [])) (after h (Hears item)) came (later w h (Hears item ∷ []))
-      (may_rest h (Hears item ∷ []) behind may) one in
-      Turned refl (then_both (Behind []) past records h came w (Hears item ∷ []) behind all)
+      part_run (stage_judged stage) Behind (λ first more g. (refl, refl)) behind (past ++ told w h (Hears item ∷ [])) (kept records h (Hears item ∷ [])) (after h (Hears item)) came
+      (later w h (Hears item ∷ [])) (may_rest h (Hears item ∷ []) behind may) one in
+      turned refl tt refl (then_both (stage_judged stage) (Behind []) past records h came w (Hears item ∷ []) behind all)
 
-  pub items_run : (items : List Item) (events : List HostEvent) (past : List Entry) (records : Option (List (List ℕ))) (h : HostState) (rest : List LineUnit) (w : W) → AreJudged h items events
-      → MayAll h events → To Open past records h (good_units items ++ rest) w → Then Open past records h rest w events
-  items_run [] events past records h rest w judged may run = subst (λ (l : List HostEvent). Then Open past records h rest w l) (sym judged) (then_none Open past records h rest w run)
-  items_run (item ∷ items) events past records h rest w (first, more, are, (behind, first_is, followed), others) may run =
+  pub items_run : (stage : Stage) (items : List Item) (events : List HostEvent) (past : List Entry) (records : Option (List (List ℕ))) (h : HostState) (rest : List LineUnit) (w : W) → MayJudge stage
+      → AreJudged h items events → MayAll h events → To stage Open past records h (good_units items ++ rest) w → Then (all_judged stage items) Open past records h rest w events
+  items_run stage [] events past records h rest w judging are may run =
+      subst (λ (l : List HostEvent). Then stage Open past records h rest w l) (sym are) (then_none stage Open past records h rest w run)
+  items_run stage (item ∷ items) events past records h rest w judging (first, more, are, (behind, first_is, followed), others) may run =
       let start_may : MayAll h (first ++ more) = subst (MayAll h) are may in
       let firsts : MayAll h (Hears item ∷ behind) = subst (MayAll h) first_is (may_first h first more start_may) in
-      let one : Then Open past records h (good_units items ++ rest) w first
-      = subst (λ (l : List HostEvent). Then Open past records h (good_units items ++ rest) w l) (sym first_is) (item_run item items behind past records h rest w followed firsts run) in
-      subst (λ (l : List HostEvent). Then Open past records h rest w l) (sym are)
-      (then_both Open past records h rest w first more
-      (items_run items more (past ++ told w h first) (kept records h first) (after_all h first) rest (later w h first) others (may_rest h first more start_may) one))
+      let led : Stage = all_judged (stage_judged stage) items in
+      let one : Then (stage_judged stage) Open past records h (good_units items ++ rest) w first
+      = subst (λ (l : List HostEvent). Then (stage_judged stage) Open past records h (good_units items ++ rest) w l) (sym first_is)
+      (item_run stage item items behind past records h rest w judging followed firsts run) in
+      subst (λ (l : List HostEvent). Then led Open past records h rest w l) (sym are)
+      (then_both led Open past records h rest w first more
+      (items_run (stage_judged stage) items more (past ++ told w h first) (kept records h first) (after_all h first) rest (later w h first) (still_judges stage judging) others
+      (may_rest h first more start_may) one))
 
 -- ---- outside a host of the simulator
 

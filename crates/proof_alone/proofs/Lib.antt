@@ -1,5 +1,6 @@
 pub use Rattle.proof_line.proofs.Always
 pub mod Running
+pub mod Carefully
 pub mod Stamps
 pub mod Coming
 mod Changing

@@ -32,8 +32,8 @@ use Rattle.proof_alone.specs.Steps as step
 use Rattle.proof_alone.specs.Steps.{AreFrames, IsFramed, IsOfOthers}
 use Rattle.proof_alone.specs.Phases.{GoesBy, IsBetween, MayCome, Open, Phase, Resting, Risen}
 use Rattle.proof_alone.specs.Reading.{IsFine, Reads, ReadsWith, read_of}
-use Rattle.proof_alone.specs.Runs.{Run}
-use Rattle.proof_alone.specs.Runs.Run.{Stepped}
+use Rattle.proof_alone.specs.Careful.{CarefulRun, Fresh, MayJudge, MayMeet, Stage}
+use Rattle.proof_alone.proofs.Carefully.{all_judged, stepped}
 use Rattle.proof_alone.proofs.Coming.{AllChange, asides_run, at_time, framed_items, good_both, stamp_run, tells_run}
 use Rattle.proof_alone.proofs.Hosting.{does_run, items_run, outside_at, outside_enters, outside_next, outside_put}
 use Rattle.proof_alone.proofs.Others.{ToldFrames, ToldOutside}
@@ -57,22 +57,26 @@ any_come : (units : List LineUnit) → AllByRecursion (MayCome Open) units
 any_come [] = tt
 any_come (unit ∷ units) = (inr refl, any_come units)
 
+-- all that came was judged
+abbrev pub NoneCame : List LineUnit → Type 0
+NoneCame came = came ≡ []
+
 -- all items that were on their way were judged
 none_left : (items left : List Item) → items ≡ items ++ left → left ≡ []
 none_left [] left is = sym is
 none_left (item ∷ items) left is = none_left items left cc
 
-module _ (start : HostMachine) where
+module _ (start : HostMachine) (stage : Stage) where
   -- ---- outside the host
 
   -- what is known of its entries is enough to run on with them, where no number is to be entered
   pub outer_reads : (Only Later : List LineUnit → Type 0) (here : Phase) (left : ℕ) (past : List Entry) (m : Machine) (event : OuterEvent) → IsBetween here → IsWithin event
-      → May m (Outside_does event) → IsFine m (Outside_does event) → (reads : ReadsWith Only start here left past m) (tells : ToldOutside m.outside event)
+      → May m (Outside_does event) → IsFine m (Outside_does event) → (reads : ReadsWith Only start stage here left past m) (tells : ToldOutside m.outside event)
       → ((came : List LineUnit) → Only came → Later (came ++ good_units (items_all m.outside.outer.to_host tells.units)))
-      → ((all : List Entry) → Run start here all (host_machine m.keys m.records m.host.state (good_units reads.down) m.outside.outer.clock left false)
-      → Run start here (all ++ (outcome m.outside event).entries)
+      → ((all : List Entry) → CarefulRun start stage here all (host_machine m.keys m.records m.host.state (good_units reads.down) m.outside.outer.clock left false)
+      → CarefulRun start stage here (all ++ (outcome m.outside event).entries)
       (host_machine m.keys m.records m.host.state (good_units reads.down ++ good_units (items_all m.outside.outer.to_host tells.units)) m.outside.outer.clock left false))
-      → ReadsWith Later start here left (past ++ entries m (Outside_does event)) (happens m (Outside_does event))
+      → ReadsWith Later start stage here left (past ++ entries m (Outside_does event)) (happens m (Outside_does event))
   unfolding happens entries
   outer_reads Only Later here left past m event between within may fine reads tells grows runs =
       let after : LineAfter m (Outside_does event) reads.up reads.down = event_after m (Outside_does event) reads.up reads.down reads.carried reads.frames may fine.0 fine.1 in
@@ -80,7 +84,7 @@ module _ (start : HostMachine) where
       let fit = tells.fit (subst (λ (c : ChipParts). HasFrames c.state.port) still.chip after.frames) in
       let bytes : (has_entered x.outer said).to_host.bytes ≡ (written_all o.to_host tells.units).bytes = ap (λ (y : WayState). y.bytes) still.to_host ∙ tells.to_host in
       let same = outcome_time m.outside event within in
-      let ran = stamp_run start o here here m.keys m.records m.records m.host.state m.host.state came (came ++ good_units more) left past said reads.run goes in
+      let ran = stamp_run start stage stage o here here m.keys m.records m.records m.host.state m.host.state came (came ++ good_units more) left past said reads.run goes in
       record {
         up = after.up_after;
         down = reads.down ++ more;
@@ -91,9 +95,9 @@ module _ (start : HostMachine) where
         frames = after.frames;
         rests = after.at_host ∙ reads.rests;
         only = subst Later (sym (good_both reads.down more)) (grows came reads.only);
-        run = subst (λ (l : List LineUnit). Run start here (past ++ stamp x.outer said) (read_of left (happens m (Outside_does event)) l)) (sym (good_both reads.down more))
-            (subst (λ (l : List Entry). Run start here (past ++ l) (read_of left (happens m (Outside_does event)) (came ++ good_units more))) (sym (same_stamp o x.outer said same))
-            (subst (λ (t : Time3). Run start here (past ++ stamp o said) (at_time m.keys m.records m.host.state (came ++ good_units more) left t)) (sym (same_entered o x.outer said same)) ran));
+        run = subst (λ (l : List LineUnit). CarefulRun start stage here (past ++ stamp x.outer said) (read_of left (happens m (Outside_does event)) l)) (sym (good_both reads.down more))
+            (subst (λ (l : List Entry). CarefulRun start stage here (past ++ l) (read_of left (happens m (Outside_does event)) (came ++ good_units more))) (sym (same_stamp o x.outer said same))
+            (subst (λ (t : Time3). CarefulRun start stage here (past ++ stamp o said) (at_time m.keys m.records m.host.state (came ++ good_units more) left t)) (sym (same_entered o x.outer said same)) ran));
       }
     where
       o : OuterState
@@ -112,55 +116,55 @@ module _ (start : HostMachine) where
       came = good_units reads.down
 
       -- nothing is told while the number is to be entered
-      none : (all : List Entry) → said ≡ [] → Run start here all (host_machine m.keys m.records m.host.state came o.clock left true)
-          → Run start here (all ++ said) (host_machine m.keys m.records m.host.state (came ++ good_units more) o.clock left true)
+      none : (all : List Entry) → said ≡ [] → CarefulRun start stage here all (host_machine m.keys m.records m.host.state came o.clock left true)
+          → CarefulRun start stage here (all ++ said) (host_machine m.keys m.records m.host.state (came ++ good_units more) o.clock left true)
       none all is run =
           let no_units : tells.units ≡ [] = tells_none IsOfOthers Chip o.to_host tells.units (subst (λ (l : List Entry). Tells IsOfOthers Chip o.to_host tells.units l) is tells.told) in
           let no_more : came ++ good_units more ≡ came = ap (λ (l : List LineUnit). came ++ good_units (items_all o.to_host l)) no_units ∙ append-nil came in
-          subst (λ (l : List LineUnit). Run start here (all ++ said) (host_machine m.keys m.records m.host.state l o.clock left true)) (sym no_more)
-          (subst (λ (l : List Entry). Run start here l (host_machine m.keys m.records m.host.state came o.clock left true)) (sym (ap (λ (l : List Entry). all ++ l) is ∙ append-nil all)) run)
+          subst (λ (l : List LineUnit). CarefulRun start stage here (all ++ said) (host_machine m.keys m.records m.host.state l o.clock left true)) (sym no_more)
+          (subst (λ (l : List Entry). CarefulRun start stage here l (host_machine m.keys m.records m.host.state came o.clock left true)) (sym (ap (λ (l : List Entry). all ++ l) is ∙ append-nil all)) run)
 
-      goes : (awaits : Bool) (all : List Entry) → (awaits ≡ true → said ≡ []) → Run start here all (host_machine m.keys m.records m.host.state came o.clock left awaits)
-          → Run start here (all ++ said) (host_machine m.keys m.records m.host.state (came ++ good_units more) o.clock left awaits)
+      goes : (awaits : Bool) (all : List Entry) → (awaits ≡ true → said ≡ []) → CarefulRun start stage here all (host_machine m.keys m.records m.host.state came o.clock left awaits)
+          → CarefulRun start stage here (all ++ said) (host_machine m.keys m.records m.host.state (came ++ good_units more) o.clock left awaits)
       goes true all silent run = none all (silent refl) run
       goes false all silent run = runs all run
 
   -- frames of the chip among entries of others, where each change that waits changes its frame
-  pub told_reads : (here : Phase) (left : ℕ) (past : List Entry) (m : Machine) (event : OuterEvent) → IsBetween here → IsWithin event → May m (Outside_does event) → IsFine m (Outside_does event)
-      → AllChange m.outside.outer.to_host.marks.garbles → ToldFrames m.outside event → Reads start here left past m
-      → Reads start here left (past ++ entries m (Outside_does event)) (happens m (Outside_does event))
-  told_reads here left past m event between within may fine changes tells reads =
+  pub told_reads : MayMeet stage → (here : Phase) (left : ℕ) (past : List Entry) (m : Machine) (event : OuterEvent) → IsBetween here → IsWithin event → May m (Outside_does event) → IsFine m (Outside_does event)
+      → AllChange m.outside.outer.to_host.marks.garbles → ToldFrames m.outside event → Reads start stage here left past m
+      → Reads start stage here left (past ++ entries m (Outside_does event)) (happens m (Outside_does event))
+  told_reads meets here left past m event between within may fine changes tells reads =
       outer_reads AreFrames AreFrames here left past m event between within may fine reads tells.all
       (λ came all. all-append IsFramed came (good_units (items_all m.outside.outer.to_host tells.all.units)) all (framed_items m.outside.outer.to_host tells.all.units tells.framed))
       (λ all run.
-      tells_run start m.keys m.records m.host.state left here between m.outside.outer.clock tells.all.units (outcome m.outside event).entries all (good_units reads.down) m.outside.outer.to_host
+      tells_run start stage m.keys m.records m.host.state left here between m.outside.outer.clock meets tells.all.units (outcome m.outside event).entries all (good_units reads.down) m.outside.outer.to_host
       (all-weaker IsFramed (MayCome here) (λ unit framed. inl framed) tells.all.units tells.framed) changes tells.all.told run)
 
   -- any units of it, where they may be judged
-  pub answered_reads : (Later : List LineUnit → Type 0) (left : ℕ) (past : List Entry) (m : Machine) (event : OuterEvent) → IsWithin event → May m (Outside_does event) → IsFine m (Outside_does event)
-      → AllChange m.outside.outer.to_host.marks.garbles → ToldOutside m.outside event → ((came : List LineUnit) → Later came) → Reads start Open left past m
-      → ReadsWith Later start Open left (past ++ entries m (Outside_does event)) (happens m (Outside_does event))
-  answered_reads Later left past m event within may fine changes tells later reads =
+  pub answered_reads : MayMeet stage → (Later : List LineUnit → Type 0) (left : ℕ) (past : List Entry) (m : Machine) (event : OuterEvent) → IsWithin event → May m (Outside_does event) → IsFine m (Outside_does event)
+      → AllChange m.outside.outer.to_host.marks.garbles → ToldOutside m.outside event → ((came : List LineUnit) → Later came) → Reads start stage Open left past m
+      → ReadsWith Later start stage Open left (past ++ entries m (Outside_does event)) (happens m (Outside_does event))
+  answered_reads meets Later left past m event within may fine changes tells later reads =
       outer_reads AreFrames Later Open left past m event tt within may fine reads tells (λ came all. later (came ++ good_units (items_all m.outside.outer.to_host tells.units)))
       (λ all run.
-      tells_run start m.keys m.records m.host.state left Open tt m.outside.outer.clock tells.units (outcome m.outside event).entries all (good_units reads.down) m.outside.outer.to_host (any_come tells.units) changes
+      tells_run start stage m.keys m.records m.host.state left Open tt m.outside.outer.clock meets tells.units (outcome m.outside event).entries all (good_units reads.down) m.outside.outer.to_host (any_come tells.units) changes
       tells.told run)
 
   -- entries of others alone
   pub quiet_reads : (here : Phase) (left : ℕ) (past : List Entry) (m : Machine) (event : OuterEvent) → IsBetween here → IsWithin event → May m (Outside_does event) → IsFine m (Outside_does event)
-      → AllByRecursion IsOfOthers (outcome m.outside event).entries → (outcome m.outside event).outer.to_host.bytes ≡ m.outside.outer.to_host.bytes → Reads start here left past m
-      → Reads start here left (past ++ entries m (Outside_does event)) (happens m (Outside_does event))
+      → AllByRecursion IsOfOthers (outcome m.outside event).entries → (outcome m.outside event).outer.to_host.bytes ≡ m.outside.outer.to_host.bytes → Reads start stage here left past m
+      → Reads start stage here left (past ++ entries m (Outside_does event)) (happens m (Outside_does event))
   quiet_reads here left past m event between within may fine asides bytes reads =
       outer_reads AreFrames AreFrames here left past m event between within may fine reads (record { units = []; told = asides; to_host = bytes; fit = λ has. tt })
       (λ came all. subst AreFrames (sym (append-nil came)) all)
       (λ all run.
-      subst (λ (l : List LineUnit). Run start here (all ++ (outcome m.outside event).entries) (host_machine m.keys m.records m.host.state l m.outside.outer.clock left false))
+      subst (λ (l : List LineUnit). CarefulRun start stage here (all ++ (outcome m.outside event).entries) (host_machine m.keys m.records m.host.state l m.outside.outer.clock left false))
       (sym (append-nil (good_units reads.down)))
-      (asides_run start m.keys m.records m.host.state left here between m.outside.outer.clock (outcome m.outside event).entries all (good_units reads.down) asides run))
+      (asides_run start stage m.keys m.records m.host.state left here between m.outside.outer.clock (outcome m.outside event).entries all (good_units reads.down) asides run))
 
   -- a tick begins
-  pub tick_reads : (left : ℕ) (past : List Entry) (m : Machine) → May m (Outside_does Begins_tick) → IsFine m (Outside_does Begins_tick) → Reads start Resting (suc left) past m
-      → Reads start Risen left (past ++ entries m (Outside_does Begins_tick)) (happens m (Outside_does Begins_tick))
+  pub tick_reads : (left : ℕ) (past : List Entry) (m : Machine) → May m (Outside_does Begins_tick) → IsFine m (Outside_does Begins_tick) → Reads start stage Resting (suc left) past m
+      → Reads start Fresh Risen left (past ++ entries m (Outside_does Begins_tick)) (happens m (Outside_does Begins_tick))
   unfolding happens entries outcome devices_after
   tick_reads left past m may fine reads =
       let after : LineAfter m (Outside_does Begins_tick) reads.up reads.down = event_after m (Outside_does Begins_tick) reads.up reads.down reads.carried reads.frames may fine.0 fine.1 in
@@ -171,7 +175,7 @@ module _ (start : HostMachine) where
         frames = after.frames;
         rests = reads.rests;
         only = reads.only;
-        run = Stepped (step.Begins_tick left) (refl, refl, refl) refl refl reads.run;
+        run = stepped (step.Begins_tick left) (refl, refl, refl) tt refl refl refl reads.run;
       }
 
   -- ---- the host
@@ -188,12 +192,12 @@ module _ (start : HostMachine) where
       ap (λ (l : List Entry). record (host_does m (event ∷ [])) { outside = happens_all (host_does m (event ∷ [])).outside (notes l) }) none
 
   pub does_reads : (here next : Phase) (left : ℕ) (past : List Entry) (m : Machine) (event : HostEvent) → GoesBy here m.host.state event next → answers m.host.state event ≡ []
-      → May m (Host_does event) → IsFine m (Host_does event) → Reads start here left past m → Reads start next left (past ++ entries m (Host_does event)) (happens m (Host_does event))
+      → May m (Host_does event) → IsFine m (Host_does event) → Reads start stage here left past m → Reads start stage next left (past ++ entries m (Host_does event)) (happens m (Host_does event))
   does_reads here next left past m event goes none may fine reads =
       let after : LineAfter m (Host_does event) reads.up reads.down = event_after m (Host_does event) reads.up reads.down reads.carried reads.frames may fine.0 fine.1 in
       let same = silent_happens m event none in
       let n : Machine = happens m (Host_does event) in
-      let ran = does_run Outside outside_at outside_put outside_next outside_enters start m.keys left here next past m.records m.host.state (good_units reads.down) m.outside event goes (may_one m event may) reads.run in
+      let ran = does_run Outside outside_at outside_put outside_next outside_enters start m.keys left stage here next past m.records m.host.state (good_units reads.down) m.outside event goes (may_one m event may) reads.run in
       record {
         up = after.up_after;
         down = reads.down;
@@ -202,19 +206,19 @@ module _ (start : HostMachine) where
         frames = after.frames;
         rests = after.at_host ∙ reads.rests;
         only = reads.only;
-        run = subst (λ (l : List Entry). Run start next (past ++ l) (read_of left n (good_units reads.down))) (sym (silent_entries m event none))
-            (subst (λ (k : Machine). Run start next (past ++ host_entries m (event ∷ [])) (read_of left k (good_units reads.down))) (sym same) ran);
+        run = subst (λ (l : List Entry). CarefulRun start stage next (past ++ l) (read_of left n (good_units reads.down))) (sym (silent_entries m event none))
+            (subst (λ (k : Machine). CarefulRun start stage next (past ++ host_entries m (event ∷ [])) (read_of left k (good_units reads.down))) (sym same) ran);
       }
     where
       way_stays : (m : Machine) (event : HostEvent) → (host_does m (event ∷ [])).outside.outer.to_host ≡ m.outside.outer.to_host
       way_stays m event = (outs_told (outs_all m.host.state (event ∷ [])) m.outside).to_host
 
   -- it takes all bytes, and judges the items that end in them
-  pub takes_reads : (Only : List LineUnit → Type 0) (left : ℕ) (past : List Entry) (m : Machine) (rest : Rest) (items : List Item) (events : List HostEvent)
-      → May m (Host_takes (length m.outside.outer.to_host.bytes) rest items events) → IsFine m (Host_takes (length m.outside.outer.to_host.bytes) rest items events) → ReadsWith Only start Open left past m
-      → Reads start Open left (past ++ entries m (Host_takes (length m.outside.outer.to_host.bytes) rest items events)) (happens m (Host_takes (length m.outside.outer.to_host.bytes) rest items events))
+  pub takes_reads : MayJudge stage → (Only : List LineUnit → Type 0) (left : ℕ) (past : List Entry) (m : Machine) (rest : Rest) (items : List Item) (events : List HostEvent)
+      → May m (Host_takes (length m.outside.outer.to_host.bytes) rest items events) → IsFine m (Host_takes (length m.outside.outer.to_host.bytes) rest items events) → ReadsWith Only start stage Open left past m
+      → ReadsWith NoneCame start (all_judged stage items) Open left (past ++ entries m (Host_takes (length m.outside.outer.to_host.bytes) rest items events)) (happens m (Host_takes (length m.outside.outer.to_host.bytes) rest items events))
   unfolding happens entries outcome devices_after May
-  takes_reads Only left past m rest items events may fine reads =
+  takes_reads judging Only left past m rest items events may fine reads =
       let count : ℕ = length m.outside.outer.to_host.bytes in
       let event : Event = Host_takes count rest items events in
       let all = feeds_all m.host.decoder rest m.outside.outer.to_host.bytes reads.down items may.feeds reads.carried.to_host in
@@ -226,7 +230,8 @@ module _ (start : HostMachine) where
         carried = after.carried;
         frames = after.frames;
         rests = all.rest;
-        only = subst (λ (l : List Item). AreFrames (good_units l)) (sym (none_left items after.down_after (all.all ∙ after.down_is))) tt;
-        run = items_run Outside outside_at outside_put outside_next outside_enters start m.keys left items events past m.records m.host.state (good_units after.down_after) (fed m count rest).outside may.judged may.may
-            (subst (λ (l : List LineUnit). Run start Open past (read_of left m l)) came reads.run);
+        only = ap good_units (none_left items after.down_after (all.all ∙ after.down_is));
+        run = items_run Outside outside_at outside_put outside_next outside_enters start m.keys left stage items events past m.records m.host.state (good_units after.down_after)
+            (fed m count rest).outside judging may.judged may.may
+            (subst (λ (l : List LineUnit). CarefulRun start stage Open past (read_of left m l)) came reads.run);
       }

@@ -59,8 +59,8 @@ use Rattle.proof_alone.specs.Steps as step
 use Rattle.proof_alone.specs.Phases.{Asked, Open}
 use Rattle.proof_alone.specs.Reading.{EffectReads, IsByHand, IsFine, IsSilent, LeavesHost, Reads, ReadsCleared, read_of}
 use Rattle.proof_alone.specs.Reading.EffectReads.{Asks_host, Refuses_line, Shows_node, Starts_again, Does_silently, Does_by_hand, Begins_discovery, Goes_on_asking, Clears_both, Clears_one, Is_done}
-use Rattle.proof_alone.specs.Runs.{Run}
-use Rattle.proof_alone.specs.Runs.Run.{Stepped, Turned}
+use Rattle.proof_alone.specs.Careful.{CarefulRun, Fresh}
+use Rattle.proof_alone.proofs.Carefully.{stepped, turned}
 use Rattle.proof_alone.proofs.Coming.{AllChange, asides_run, at_time, stamp_run}
 use Rattle.proof_alone.proofs.Hosting.{kept}
 use Rattle.proof_alone.proofs.InOrder.{is_asked}
@@ -192,17 +192,17 @@ same_places m asked asks = asks
 module _ (start : HostMachine) where
   -- ---- where a line has begun
 
-  opens : (line : Line) (past : List Entry) (m : Machine) → AsksNothing line → Reads start (Asked line) 0 past m → Reads start Open 0 past m
-  opens line past m nothing reads = record { up = reads.up; down = reads.down; carried = reads.carried; frames = reads.frames; rests = reads.rests; only = reads.only; run = Turned (inl (nothing, refl)) reads.run }
+  opens : (line : Line) (past : List Entry) (m : Machine) → AsksNothing line → Reads start Fresh (Asked line) 0 past m → Reads start Fresh Open 0 past m
+  opens line past m nothing reads = record { up = reads.up; down = reads.down; carried = reads.carried; frames = reads.frames; rests = reads.rests; only = reads.only; run = turned (inl (nothing, refl)) tt refl reads.run }
 
-  silent_reads : (past : List Entry) (m : Machine) (event : OuterEvent) → IsSilent event → May m (Outside_does event) → IsFine m (Outside_does event) → Reads start Open 0 past m
-      → Reads start Open 0 (past ++ entries m (Outside_does event)) (happens m (Outside_does event))
+  silent_reads : (past : List Entry) (m : Machine) (event : OuterEvent) → IsSilent event → May m (Outside_does event) → IsFine m (Outside_does event) → Reads start Fresh Open 0 past m
+      → Reads start Fresh Open 0 (past ++ entries m (Outside_does event)) (happens m (Outside_does event))
   silent_reads past m event silent may fine reads =
-      quiet_reads start Open 0 past m event tt (silent_within event silent) may fine (silent_entries m.outside event silent) (silent_bytes m.outside event silent) reads
+      quiet_reads start Fresh Open 0 past m event tt (silent_within event silent) may fine (silent_entries m.outside event silent) (silent_bytes m.outside event silent) reads
 
   -- the same while the host is still to be asked
-  discovery_reads : (past : List Entry) (m : Machine) → May m (Outside_does Discovers) → IsFine m (Outside_does Discovers) → Reads start (Asked lines.Discover) 0 past m
-      → Reads start (Asked lines.Discover) 0 (past ++ entries m (Outside_does Discovers)) (happens m (Outside_does Discovers))
+  discovery_reads : (past : List Entry) (m : Machine) → May m (Outside_does Discovers) → IsFine m (Outside_does Discovers) → Reads start Fresh (Asked lines.Discover) 0 past m
+      → Reads start Fresh (Asked lines.Discover) 0 (past ++ entries m (Outside_does Discovers)) (happens m (Outside_does Discovers))
   unfolding happens entries outcome devices_after
   discovery_reads past m may fine reads =
       let event : Event = Outside_does Discovers in
@@ -214,22 +214,22 @@ module _ (start : HostMachine) where
         frames = after_it.frames;
         rests = reads.rests;
         only = reads.only;
-        run = subst (λ (l : List Entry). Run start (Asked lines.Discover) l (read_of 0 m (good_units reads.down))) (sym (append-nil past)) reads.run;
+        run = subst (λ (l : List Entry). CarefulRun start Fresh (Asked lines.Discover) l (read_of 0 m (good_units reads.down))) (sym (append-nil past)) reads.run;
       }
 
   -- ---- what a line is answered
 
   asked_run : (line : Line) (past : List Entry) (m : Machine) (event : HostEvent) → IsAskedBy line m.host.state event → MayAll m.host.state (event ∷ []) → (came : List LineUnit)
-      → Run start (Asked line) past (read_of 0 m came)
-      → Run start Open (past ++ stamp m.outside.outer (answers m.host.state event))
+      → CarefulRun start Fresh (Asked line) past (read_of 0 m came)
+      → CarefulRun start Fresh Open (past ++ stamp m.outside.outer (answers m.host.state event))
       (at_time m.keys (kept m.records m.host.state (event ∷ [])) (after m.host.state event) came 0 (time_of (has_entered m.outside.outer (answers m.host.state event))))
   asked_run line past m event asked may came run =
-      stamp_run start m.outside.outer (Asked line) Open m.keys m.records (kept m.records m.host.state (event ∷ [])) m.host.state (after m.host.state event) came came 0 past
+      stamp_run start Fresh Fresh m.outside.outer (Asked line) Open m.keys m.records (kept m.records m.host.state (event ∷ [])) m.host.state (after m.host.state event) came came 0 past
       (answers m.host.state event) run
-      (λ awaits all numbered there. Stepped (step.Asks event) (line, refl, asked, may, numbered, refl) refl refl there)
+      (λ awaits all numbered there. stepped (step.Asks event) (line, refl, asked, may, numbered, refl) tt refl refl refl there)
 
   asked_reads : (line : Line) (past : List Entry) (m : Machine) (event : HostEvent) → IsAskedBy line m.host.state event → May m (Host_does event) → IsFine m (Host_does event)
-      → Reads start (Asked line) 0 past m → Reads start Open 0 (past ++ entries m (Host_does event)) (happens m (Host_does event))
+      → Reads start Fresh (Asked line) 0 past m → Reads start Fresh Open 0 (past ++ entries m (Host_does event)) (happens m (Host_does event))
   asked_reads line past m event asked may fine reads =
       let n : Machine = happens m (Host_does event) in
       let after_it : LineAfter m (Host_does event) reads.up reads.down = event_after m (Host_does event) reads.up reads.down reads.carried reads.frames may fine.0 fine.1 in
@@ -243,33 +243,33 @@ module _ (start : HostMachine) where
         frames = after_it.frames;
         rests = after_it.at_host ∙ reads.rests;
         only = reads.only;
-        run = subst (λ (k : Keys). Run start Open said (at_time k n.records n.host.state came 0 (time_of n.outside.outer))) (sym got.keys)
-            (subst (λ (r : Option (List (List ℕ))). Run start Open said (at_time m.keys r n.host.state came 0 (time_of n.outside.outer))) (sym got.records)
-            (subst (λ (h : HostState). Run start Open said (at_time m.keys (kept m.records m.host.state (event ∷ [])) h came 0 (time_of n.outside.outer))) (sym got.state)
-            (subst (λ (t : Time3). Run start Open said (at_time m.keys (kept m.records m.host.state (event ∷ [])) (after m.host.state event) came 0 t)) (sym got.time)
+        run = subst (λ (k : Keys). CarefulRun start Fresh Open said (at_time k n.records n.host.state came 0 (time_of n.outside.outer))) (sym got.keys)
+            (subst (λ (r : Option (List (List ℕ))). CarefulRun start Fresh Open said (at_time m.keys r n.host.state came 0 (time_of n.outside.outer))) (sym got.records)
+            (subst (λ (h : HostState). CarefulRun start Fresh Open said (at_time m.keys (kept m.records m.host.state (event ∷ [])) h came 0 (time_of n.outside.outer))) (sym got.state)
+            (subst (λ (t : Time3). CarefulRun start Fresh Open said (at_time m.keys (kept m.records m.host.state (event ∷ [])) (after m.host.state event) came 0 t)) (sym got.time)
             (subst (λ (l : List Entry).
-            Run start Open (past ++ l)
+            CarefulRun start Fresh Open (past ++ l)
             (at_time m.keys (kept m.records m.host.state (event ∷ [])) (after m.host.state event) came 0 (time_of (has_entered m.outside.outer (answers m.host.state event)))))
             (sym got.entered) (asked_run line past m event asked (may_one m event may) came reads.run)))));
       }
 
   -- one entry answers it
   told_run : (line : Line) (past : List Entry) (o : OuterState) (m : Machine) (came : List LineUnit) (one : Entry)
-      → ((all : List Entry) → Run start (Asked line) all (host_machine m.keys m.records m.host.state came o.clock 0 false)
-      → Run start Open (all ++ one ∷ []) (host_machine m.keys m.records m.host.state came o.clock 0 false))
-      → Run start (Asked line) past (at_time m.keys m.records m.host.state came 0 (time_of o))
-      → Run start Open (past ++ stamp o (one ∷ [])) (at_time m.keys m.records m.host.state came 0 (time_of (has_entered o (one ∷ []))))
+      → ((all : List Entry) → CarefulRun start Fresh (Asked line) all (host_machine m.keys m.records m.host.state came o.clock 0 false)
+      → CarefulRun start Fresh Open (all ++ one ∷ []) (host_machine m.keys m.records m.host.state came o.clock 0 false))
+      → CarefulRun start Fresh (Asked line) past (at_time m.keys m.records m.host.state came 0 (time_of o))
+      → CarefulRun start Fresh Open (past ++ stamp o (one ∷ [])) (at_time m.keys m.records m.host.state came 0 (time_of (has_entered o (one ∷ []))))
   told_run line past o m came one goes run =
-      stamp_run start o (Asked line) Open m.keys m.records m.records m.host.state m.host.state came came 0 past (one ∷ []) run by
+      stamp_run start Fresh Fresh o (Asked line) Open m.keys m.records m.records m.host.state m.host.state came came 0 past (one ∷ []) run by
     where
-      by : (awaits : Bool) (all : List Entry) → (awaits ≡ true → one ∷ [] ≡ []) → Run start (Asked line) all (host_machine m.keys m.records m.host.state came o.clock 0 awaits)
-          → Run start Open (all ++ one ∷ []) (host_machine m.keys m.records m.host.state came o.clock 0 awaits)
+      by : (awaits : Bool) (all : List Entry) → (awaits ≡ true → one ∷ [] ≡ []) → CarefulRun start Fresh (Asked line) all (host_machine m.keys m.records m.host.state came o.clock 0 awaits)
+          → CarefulRun start Fresh Open (all ++ one ∷ []) (host_machine m.keys m.records m.host.state came o.clock 0 awaits)
       by true all numbered there = absurd (let bad : one ∷ [] ≡ [] = numbered refl in cc)
       by false all numbered there = goes all there
 
   -- the host and its keeper refuse it
-  refused_reads : (line : Line) (past : List Entry) (m : Machine) (refused : Refusal) → May m (Refuses line refused) → IsFine m (Refuses line refused) → Reads start (Asked line) 0 past m
-      → Reads start Open 0 (past ++ entries m (Refuses line refused)) (happens m (Refuses line refused))
+  refused_reads : (line : Line) (past : List Entry) (m : Machine) (refused : Refusal) → May m (Refuses line refused) → IsFine m (Refuses line refused) → Reads start Fresh (Asked line) 0 past m
+      → Reads start Fresh Open 0 (past ++ entries m (Refuses line refused)) (happens m (Refuses line refused))
   unfolding happens entries outcome devices_after May
   refused_reads line past m refused may fine reads =
       let event : Event = Refuses line refused in
@@ -283,12 +283,12 @@ module _ (start : HostMachine) where
         rests = reads.rests;
         only = reads.only;
         run = told_run line past m.outside.outer m came (entry.Refused refused)
-            (λ all there. Stepped (step.Refuses refused) (line, refl, inl (same_refused m line refused came m.outside.outer.clock 0 false may), refl, refl) refl refl there) reads.run;
+            (λ all there. stepped (step.Refuses refused) (line, refl, inl (same_refused m line refused came m.outside.outer.clock 0 false may), refl, refl) tt refl refl refl there) reads.run;
       }
 
   -- the stored values of a node are shown
-  shows_reads : (node : ℕ) (past : List Entry) (m : Machine) → May m (Shows_values node) → IsFine m (Shows_values node) → Reads start (Asked (lines.Store node)) 0 past m
-      → Reads start Open 0 (past ++ entries m (Shows_values node)) (happens m (Shows_values node))
+  shows_reads : (node : ℕ) (past : List Entry) (m : Machine) → May m (Shows_values node) → IsFine m (Shows_values node) → Reads start Fresh (Asked (lines.Store node)) 0 past m
+      → Reads start Fresh Open 0 (past ++ entries m (Shows_values node)) (happens m (Shows_values node))
   unfolding happens entries outcome devices_after
   shows_reads node past m may fine reads =
       let event : Event = Shows_values node in
@@ -301,12 +301,12 @@ module _ (start : HostMachine) where
         rests = reads.rests;
         only = reads.only;
         run = told_run (lines.Store node) past m.outside.outer m (good_units reads.down) (shown_values m.host.state node)
-            (λ all there. Stepped (step.Shows node) (refl, refl, refl) refl refl there) reads.run;
+            (λ all there. stepped (step.Shows node) (refl, refl, refl) tt refl refl refl there) reads.run;
       }
 
   -- ---- a restart
 
-  starts_reads : (past : List Entry) (m : Machine) (state : HostState) → May m (Restarts state) → IsFine m (Restarts state) → Reads start (Asked lines.Restart) 0 past m
+  starts_reads : (past : List Entry) (m : Machine) (state : HostState) → May m (Restarts state) → IsFine m (Restarts state) → Reads start Fresh (Asked lines.Restart) 0 past m
       → ReadsCleared start (past ++ entries m (Restarts state)) (happens m (Restarts state))
   unfolding happens entries May
   starts_reads past m state may fine reads =
@@ -318,7 +318,7 @@ module _ (start : HostMachine) where
         carried = after_it.carried;
         frames = after_it.frames;
         rests = after_it.at_host ∙ reads.rests;
-        run = Stepped (step.Restarts state) (refl, may, refl) refl refl reads.run;
+        run = stepped (step.Restarts state) (refl, may, refl) tt refl refl refl reads.run;
       }
 
   cleared_aside : (side : Side) (count : ℕ) → AllByRecursion IsOfOthers (cleared_entries side count)
@@ -330,17 +330,17 @@ module _ (start : HostMachine) where
 
   -- bytes on their way are lost, which is told
   clear_run : (past : List Entry) (m : Machine) (o : OuterState) (told : List Entry) → AllByRecursion IsOfOthers told → time_of o ≡ time_of m.outside.outer
-      → Run start Open past (at_time m.keys m.records m.host.state [] 0 (time_of m.outside.outer))
-      → Run start Open (past ++ stamp o told) (at_time m.keys m.records m.host.state [] 0 (time_of (has_entered o told)))
+      → CarefulRun start Fresh Open past (at_time m.keys m.records m.host.state [] 0 (time_of m.outside.outer))
+      → CarefulRun start Fresh Open (past ++ stamp o told) (at_time m.keys m.records m.host.state [] 0 (time_of (has_entered o told)))
   clear_run past m o told asides same run =
-      stamp_run start o Open Open m.keys m.records m.records m.host.state m.host.state [] [] 0 past told
-      (subst (λ (t : Time3). Run start Open past (at_time m.keys m.records m.host.state [] 0 t)) (sym same) run) by
+      stamp_run start Fresh Fresh o Open Open m.keys m.records m.records m.host.state m.host.state [] [] 0 past told
+      (subst (λ (t : Time3). CarefulRun start Fresh Open past (at_time m.keys m.records m.host.state [] 0 t)) (sym same) run) by
     where
-      by : (awaits : Bool) (all : List Entry) → (awaits ≡ true → told ≡ []) → Run start Open all (host_machine m.keys m.records m.host.state [] o.clock 0 awaits)
-          → Run start Open (all ++ told) (host_machine m.keys m.records m.host.state [] o.clock 0 awaits)
+      by : (awaits : Bool) (all : List Entry) → (awaits ≡ true → told ≡ []) → CarefulRun start Fresh Open all (host_machine m.keys m.records m.host.state [] o.clock 0 awaits)
+          → CarefulRun start Fresh Open (all ++ told) (host_machine m.keys m.records m.host.state [] o.clock 0 awaits)
       by true all numbered there =
-          subst (λ (l : List Entry). Run start Open l (host_machine m.keys m.records m.host.state [] o.clock 0 true)) (sym (ap (λ (l : List Entry). all ++ l) (numbered refl) ∙ append-nil all)) there
-      by false all numbered there = asides_run start m.keys m.records m.host.state 0 Open tt o.clock told all [] asides there
+          subst (λ (l : List Entry). CarefulRun start Fresh Open l (host_machine m.keys m.records m.host.state [] o.clock 0 true)) (sym (ap (λ (l : List Entry). all ++ l) (numbered refl) ∙ append-nil all)) there
+      by false all numbered there = asides_run start Fresh m.keys m.records m.host.state 0 Open tt o.clock told all [] asides there
 
   clears_up : (past : List Entry) (m : Machine) → May m (Outside_does (Clears_pipe Host)) → IsFine m (Outside_does (Clears_pipe Host)) → ReadsCleared start past m
       → ReadsCleared start (past ++ entries m (Outside_does (Clears_pipe Host))) (happens m (Outside_does (Clears_pipe Host)))
@@ -359,7 +359,7 @@ module _ (start : HostMachine) where
       }
 
   clears_down : (past : List Entry) (m : Machine) → May m (Outside_does (Clears_pipe Chip)) → IsFine m (Outside_does (Clears_pipe Chip)) → ReadsCleared start past m
-      → Reads start Open 0 (past ++ entries m (Outside_does (Clears_pipe Chip))) (happens m (Outside_does (Clears_pipe Chip)))
+      → Reads start Fresh Open 0 (past ++ entries m (Outside_does (Clears_pipe Chip))) (happens m (Outside_does (Clears_pipe Chip)))
   unfolding happens entries outcome devices_after
   clears_down past m may fine reads =
       let event : Event = Outside_does (Clears_pipe Chip) in
@@ -372,7 +372,7 @@ module _ (start : HostMachine) where
         frames = after_it.frames;
         rests = after_it.at_host ∙ reads.rests;
         only = subst AreFrames (sym (ap good_units after_it.down_is)) tt;
-        run = subst (λ (l : List LineUnit). Run start Open (past ++ entries m event) (read_of 0 (happens m event) l)) (sym (ap good_units after_it.down_is))
+        run = subst (λ (l : List LineUnit). CarefulRun start Fresh Open (past ++ entries m event) (read_of 0 (happens m event) l)) (sym (ap good_units after_it.down_is))
             (clear_run past m x.outer x.entries (cleared_aside Chip (length m.outside.outer.to_host.bytes)) refl reads.run);
       }
 
@@ -380,15 +380,15 @@ module _ (start : HostMachine) where
 
   -- it is refused outside
   turned_away : (line : Line) (past : List Entry) (m : Machine) (event : OuterEvent) (refused : Refusal) → is_of_others (line ∷ []) ≡ true
-      → outcome m.outside event ≡ tells m.outside.outer (entry.Refused refused ∷ []) → May m (Outside_does event) → IsFine m (Outside_does event) → Reads start (Asked line) 0 past m
-      → Reads start Open 0 (past ++ entries m (Outside_does event)) (happens m (Outside_does event))
+      → outcome m.outside event ≡ tells m.outside.outer (entry.Refused refused ∷ []) → May m (Outside_does event) → IsFine m (Outside_does event) → Reads start Fresh (Asked line) 0 past m
+      → Reads start Fresh Open 0 (past ++ entries m (Outside_does event)) (happens m (Outside_does event))
   unfolding happens entries
   turned_away line past m event refused others is may fine reads =
       let n : Machine = happens m (Outside_does event) in
       let after_it : LineAfter m (Outside_does event) reads.up reads.down = event_after m (Outside_does event) reads.up reads.down reads.carried reads.frames may fine.0 fine.1 in
       let came : List LineUnit = good_units reads.down in
       let ran =
-      told_run line past m.outside.outer m came (entry.Refused refused) (λ all there. Stepped (step.Refuses refused) (line, refl, inr others, refl, refl) refl refl there) reads.run in
+      told_run line past m.outside.outer m came (entry.Refused refused) (λ all there. stepped (step.Refuses refused) (line, refl, inr others, refl, refl) tt refl refl refl there) reads.run in
       record {
         up = after_it.up_after;
         down = reads.down;
@@ -396,18 +396,18 @@ module _ (start : HostMachine) where
         frames = after_it.frames;
         rests = after_it.at_host ∙ reads.rests;
         only = reads.only;
-        run = subst (λ (y : Outcome). Run start Open (past ++ stamp y.outer y.entries) (at_time m.keys m.records m.host.state came 0 (time_of (has_entered y.outer y.entries)))) (sym is) ran;
+        run = subst (λ (y : Outcome). CarefulRun start Fresh Open (past ++ stamp y.outer y.entries) (at_time m.keys m.records m.host.state came 0 (time_of (has_entered y.outer y.entries)))) (sym is) ran;
       }
 
   acts_bytes : (o : OuterState) (found : Option State) (event : DeviceEvent) (route : Option Route) → (acts_at o found event route).outer.to_host.bytes ≡ o.to_host.bytes
   acts_bytes o None event route = refl
   acts_bytes o (Some device) event route = refl
 
-  module _ (line : Line) (others : is_of_others (line ∷ []) ≡ true) (past : List Entry) (m : Machine) (reads : Reads start (Asked line) 0 past m) where
+  module _ (line : Line) (others : is_of_others (line ∷ []) ≡ true) (past : List Entry) (m : Machine) (reads : Reads start Fresh (Asked line) 0 past m) where
     abbrev Goes : OuterEvent → Type 0
-    Goes event = May m (Outside_does event) → IsFine m (Outside_does event) → Reads start Open 0 (past ++ entries m (Outside_does event)) (happens m (Outside_does event))
+    Goes event = May m (Outside_does event) → IsFine m (Outside_does event) → Reads start Fresh Open 0 (past ++ entries m (Outside_does event)) (happens m (Outside_does event))
 
-    opened : Reads start Open 0 past m
+    opened : Reads start Fresh Open 0 past m
     opened = opens line past m (others_ask_nothing line others) reads
 
     -- a device does something, or there is none
@@ -416,7 +416,7 @@ module _ (start : HostMachine) where
     device_reads event does route None within is may fine = turned_away line past m event refusal.NoDevice others is may fine reads
     device_reads event does route (Some place) within is may fine =
         let found : Option State = slice_get m.outside.devices place in
-        quiet_reads start Open 0 past m event tt within may fine (subst (λ (y : Outcome). AllByRecursion IsOfOthers y.entries) (sym is) (acts_aside m.outside.outer found does route))
+        quiet_reads start Fresh Open 0 past m event tt within may fine (subst (λ (y : Outcome). AllByRecursion IsOfOthers y.entries) (sym is) (acts_aside m.outside.outer found does route))
         (ap (λ (y : Outcome). y.outer.to_host.bytes) is ∙ acts_bytes m.outside.outer found does route) opened
 
     settings_aside : (node : ℕ) (settings : List Setting) → AllByRecursion IsOfOthers (map (λ (setting : Setting). entry.Device node setting) settings)
@@ -426,14 +426,14 @@ module _ (start : HostMachine) where
     shown_reads : (node : ℕ) (device : Option State) → outcome m.outside (Shows node) ≡ tells m.outside.outer (shown_entries node device) → Goes (Shows node)
     shown_reads node None is may fine = turned_away line past m (Shows node) refusal.NoDevice others is may fine reads
     shown_reads node (Some device) is may fine =
-        quiet_reads start Open 0 past m (Shows node) tt tt may fine (subst (λ (y : Outcome). AllByRecursion IsOfOthers y.entries) (sym is) (settings_aside node (shown_of device)))
+        quiet_reads start Fresh Open 0 past m (Shows node) tt tt may fine (subst (λ (y : Outcome). AllByRecursion IsOfOthers y.entries) (sym is) (settings_aside node (shown_of device)))
         (ap (λ (y : Outcome). y.outer.to_host.bytes) is) opened
 
     heard_again : (number : ℕ) (drawn : List ℕ) (route : Option Route) (refused : Option RepeatRefusal) → AllChange m.outside.outer.to_host.marks.garbles
         → outcome m.outside (Repeats number drawn route) ≡ repeats m.outside refused (mesh.Repeats number drawn route) → MayRepeat m.outside refused (mesh.Repeats number drawn route)
         → Goes (Repeats number drawn route)
     heard_again number drawn route None changes is happens_so may fine =
-        told_reads start Open 0 past m (Repeats number drawn route) tt tt may fine changes (repeats_told m.outside number drawn route (ap (λ (y : Outcome). y.entries) is) happens_so) opened
+        told_reads start Fresh tt Open 0 past m (Repeats number drawn route) tt tt may fine changes (repeats_told m.outside number drawn route (ap (λ (y : Outcome). y.entries) is) happens_so) opened
     heard_again number drawn route (Some NeverSent) changes is happens_so may fine = turned_away line past m (Repeats number drawn route) refusal.NeverSent others is may fine reads
     heard_again number drawn route (Some Forgotten) changes is happens_so may fine = turned_away line past m (Repeats number drawn route) refusal.Forgotten others is may fine reads
     heard_again number drawn route (Some (Stale later)) changes is happens_so may fine = turned_away line past m (Repeats number drawn route) (refusal.Stale later) others is may fine reads
@@ -458,12 +458,12 @@ module _ (start : HostMachine) where
     abbrev Effect : Line → List Event → Type 0
     Effect line events = EffectReads start line events past m
 
-    asks_reads : (refused : Option Refused) (line : Line) (event : HostEvent) (events : List Event) → (refused ≡ None → IsAskedBy line m.host.state event) → Reads start (Asked line) 0 past m
+    asks_reads : (refused : Option Refused) (line : Line) (event : HostEvent) (events : List Event) → (refused ≡ None → IsAskedBy line m.host.state event) → Reads start Fresh (Asked line) 0 past m
         → Asks refused line event events → Effect line events
     asks_reads None line event events asked reads is = Asks_host event [] is tt (asked refl) reads
     asks_reads (Some one) line event events asked reads (refused, shown, is) = Refuses_line refused is reads
 
-    done_reads : (line : Line) (event : HostEvent) (rest events : List Event) → AllByRecursion LeavesHost rest → IsAskedBy line m.host.state event → Reads start (Asked line) 0 past m
+    done_reads : (line : Line) (event : HostEvent) (rest events : List Event) → AllByRecursion LeavesHost rest → IsAskedBy line m.host.state event → Reads start Fresh (Asked line) 0 past m
         → IsDone line (Host_does event ∷ rest) events → Effect line events
     done_reads line event rest events leaves asked reads (inl is) = Asks_host event rest is leaves asked reads
     done_reads line event rest events leaves asked reads (inr (refused, is)) = Refuses_line refused is reads
@@ -471,7 +471,7 @@ module _ (start : HostMachine) where
     inner_is : (event : OuterEvent) (inner : List OuterEvent) (events : List Event) → inner ≡ event ∷ [] → events ≡ map Outside_does inner → events ≡ Outside_does event ∷ []
     inner_is event inner events one are = are ∙ ap (λ (l : List OuterEvent). map Outside_does l) one
 
-    pub effect_reads : (line : Line) (events : List Event) → IsEffect line m events → Reads start (Asked line) (ticks_of line) past m → Effect line events
+    pub effect_reads : (line : Line) (events : List Event) → IsEffect line m events → Reads start Fresh (Asked line) (ticks_of line) past m → Effect line events
     effect_reads (lines.Command order) events is reads = done_reads (lines.Command order) (Accepts order (carriage_for m.host.state order)) [] events tt refl reads is
     effect_reads (lines.Tick count) events is reads = absurd is
     effect_reads (lines.Cut size) events is reads = Does_silently (Cuts size) is tt tt reads
@@ -522,11 +522,11 @@ module _ (start : HostMachine) where
           let tail = tail_is first e left rest is in
           subst (λ (l : List Event). Next first l) (sym tail) (subst (λ (x : Event). Next x rest) (sym head) (goes (subst (May m) head may) (subst (IsFine m) head fine)))
 
-      done_next : (rest : List Event) (e : Event) → AllByRecursion LeavesHost rest → (May m e → IsFine m e → Reads start Open 0 (past ++ entries m e) (happens m e)) → May m e → IsFine m e → Next e rest
+      done_next : (rest : List Event) (e : Event) → AllByRecursion LeavesHost rest → (May m e → IsFine m e → Reads start Fresh Open 0 (past ++ entries m e) (happens m e)) → May m e → IsFine m e → Next e rest
       done_next rest e leaves goes may fine = Is_done leaves (goes may fine)
 
       -- a line of which only silent events outside are left
-      leaves_next : (event : Event) (rest : List Event) → first ∷ left ≡ event ∷ rest → LeavesHost event → AllByRecursion LeavesHost rest → Reads start Open 0 past m → Next first left
+      leaves_next : (event : Event) (rest : List Event) → first ∷ left ≡ event ∷ rest → LeavesHost event → AllByRecursion LeavesHost rest → Reads start Fresh Open 0 past m → Next first left
       leaves_next (Outside_does event) rest is silent leaves reads = as_next (Outside_does event) rest is (done_next rest (Outside_does event) leaves (λ may fine. silent_reads past m event silent may fine reads))
       leaves_next event rest is silent leaves reads = absurd silent
 
@@ -537,10 +537,10 @@ module _ (start : HostMachine) where
           as_next (Refuses line refused) [] is (done_next [] (Refuses line refused) tt (λ may fine. refused_reads line past m refused may fine reads))
       effect_next changes (Shows_node node line_is is reads) =
           as_next (Shows_values node) [] is
-          (done_next [] (Shows_values node) tt (λ may fine. shows_reads node past m may fine (subst (λ (l : Line). Reads start (Asked l) 0 past m) line_is reads)))
+          (done_next [] (Shows_values node) tt (λ may fine. shows_reads node past m may fine (subst (λ (l : Line). Reads start Fresh (Asked l) 0 past m) line_is reads)))
       effect_next changes (Starts_again state line_is is reads) =
           as_next (Restarts state) (Outside_does (Clears_pipe Host) ∷ Outside_does (Clears_pipe Chip) ∷ []) is
-          (λ may fine. Clears_both refl (starts_reads past m state may fine (subst (λ (l : Line). Reads start (Asked l) 0 past m) line_is reads)))
+          (λ may fine. Clears_both refl (starts_reads past m state may fine (subst (λ (l : Line). Reads start Fresh (Asked l) 0 past m) line_is reads)))
       effect_next changes (Does_silently event is silent nothing reads) =
           as_next (Outside_does event) [] is (done_next [] (Outside_does event) tt (λ may fine. silent_reads past m event silent may fine (opens line past m nothing reads)))
       effect_next changes (Does_by_hand event is by_hand others reads) =
@@ -549,12 +549,12 @@ module _ (start : HostMachine) where
           as_next (Outside_does Discovers) asked is
           (λ may fine.
           Goes_on_asking line_is (same_places m asked asks)
-          (subst (λ (l : Line). Reads start (Asked l) 0 (past ++ entries m (Outside_does Discovers)) (happens m (Outside_does Discovers))) (sym line_is)
-          (discovery_reads past m may fine (subst (λ (l : Line). Reads start (Asked l) 0 past m) line_is reads))))
+          (subst (λ (l : Line). Reads start Fresh (Asked l) 0 (past ++ entries m (Outside_does Discovers)) (happens m (Outside_does Discovers))) (sym line_is)
+          (discovery_reads past m may fine (subst (λ (l : Line). Reads start Fresh (Asked l) 0 past m) line_is reads))))
       effect_next changes (Goes_on_asking line_is asks reads) = by (places_refusal m.host.state 1) refl asks
         where
-          there : Reads start (Asked lines.Discover) 0 past m
-          there = subst (λ (l : Line). Reads start (Asked l) 0 past m) line_is reads
+          there : Reads start Fresh (Asked lines.Discover) 0 past m
+          there = subst (λ (l : Line). Reads start Fresh (Asked l) 0 past m) line_is reads
 
           by : (rule : Option Refused) → places_refusal m.host.state 1 ≡ rule → Asks rule lines.Discover (Queues task.Members) (first ∷ left) → Next first left
           by None none is =
@@ -567,7 +567,7 @@ module _ (start : HostMachine) where
       effect_next changes (Is_done leaves reads) = leaves_next first left refl leaves.0 leaves.1 reads
 
     -- all are done
-    pub effect_done : (line : Line) → Effect line [] → Reads start Open 0 past m
+    pub effect_done : (line : Line) → Effect line [] → Reads start Fresh Open 0 past m
     effect_done line (Asks_host event rest is leaves asked reads) = absurd (let bad : [] ≡ Host_does event ∷ rest = is in cc)
     effect_done line (Refuses_line refused is reads) = absurd (let bad : [] ≡ Refuses line refused ∷ [] = is in cc)
     effect_done line (Shows_node node line_is is reads) = absurd (let bad : [] ≡ Shows_values node ∷ [] = is in cc)

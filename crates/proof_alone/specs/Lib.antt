@@ -2,6 +2,7 @@ pub mod State
 pub mod Steps
 pub mod Phases
 pub mod Runs
+pub mod Careful
 pub mod Reading
 pub mod Time
 pub mod Tables

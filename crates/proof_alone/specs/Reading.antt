@@ -32,25 +32,30 @@ use Rattle.proof_line.specs.Marks.{KnowMarks}
 use Rattle.proof_alone.specs.State.{HostMachine, host_machine}
 use Rattle.proof_alone.specs.Steps.{AreFrames, AsksNothing, IsAskedBy}
 use Rattle.proof_alone.specs.Phases.{Phase, Resting, Asked, Risen, Ticking, Open, Sleeping, Submitting}
-use Rattle.proof_alone.specs.Runs.{Knowledge, Run}
+use Rattle.proof_alone.specs.Runs.{Knowledge}
+use Rattle.proof_alone.specs.Careful.{CarefulRun, Stage, Fresh, Looked}
 
 -- the machine as a host alone, with so many ticks to come, and what has come for it
 abbrev pub read_of : ℕ → Machine → List LineUnit → HostMachine
 read_of left m came = host_machine m.keys m.records m.host.state came m.outside.outer.clock left (awaits_number m.outside.outer)
 
--- a run of the host alone has these entries, and leads to this phase with what the machine is read as; of what has come this is so
-pub record ReadsWith (Such : List LineUnit → Type 0) (start : HostMachine) (here : Phase) (left : ℕ) (past : List Entry) (m : Machine) : Type 0 where
+-- a careful run of the host alone has these entries, and leads to this stage and phase with what the machine is read as; of what has come this is so
+pub record ReadsWith (Such : List LineUnit → Type 0) (start : HostMachine) (stage : Stage) (here : Phase) (left : ℕ) (past : List Entry) (m : Machine) : Type 0 where
   pub up : List Item
   pub down : List Item
   pub carried : Carried m up down
   pub frames : HasFrames m.outside.outer.chip.state.port
   pub rests : m.host.decoder ≡ no_rest
   pub only : Such (good_units down)
-  pub run : Run start here past (read_of left m (good_units down))
+  pub run : CarefulRun start stage here past (read_of left m (good_units down))
 
 -- it is frames alone
-abbrev pub Reads : HostMachine → Phase → ℕ → List Entry → Machine → Type 0
-Reads start here left past m = ReadsWith AreFrames start here left past m
+abbrev pub Reads : HostMachine → Stage → Phase → ℕ → List Entry → Machine → Type 0
+Reads start stage here left past m = ReadsWith AreFrames start stage here left past m
+
+-- at rest, whether it has pumped since the last words or not: a line of no tick ends without a pump
+abbrev pub ReadsAtRest : HostMachine → ℕ → List Entry → Machine → Type 0
+ReadsAtRest start left past m = (stage : Stage) × Reads start stage Resting left past m
 
 -- and once the chip has taken bytes answers too, until the host takes those that are there: then no byte is held up
 abbrev pub OnlyThen : Bool → Machine → List LineUnit → Type 0
@@ -64,7 +69,7 @@ pub record ReadsCleared (start : HostMachine) (past : List Entry) (m : Machine) 
   pub carried : Carried m up down
   pub frames : HasFrames m.outside.outer.chip.state.port
   pub rests : m.host.decoder ≡ no_rest
-  pub run : Run start Open past (read_of 0 m [])
+  pub run : CarefulRun start Fresh Open past (read_of 0 m [])
 
 -- ---- the effect of a line
 
@@ -98,41 +103,41 @@ LeavesHost event = ⊥
 -- what is left of it: all; what it asks for once a discovery has begun; a pipe or both to be cleared; nothing that the host does
 pub data EffectReads (start : HostMachine) (line : Line) (left : List Event) (past : List Entry) (m : Machine) : Type 0 where
   Asks_host : (event : HostEvent) (rest : List Event) → left ≡ Host_does event ∷ rest → AllByRecursion LeavesHost rest → IsAskedBy line m.host.state event →
-      Reads start (Asked line) 0 past m → EffectReads start line left past m
-  Refuses_line : (refusal : Refusal) → left ≡ Refuses line refusal ∷ [] → Reads start (Asked line) 0 past m → EffectReads start line left past m
-  Shows_node : (node : ℕ) → line ≡ lines.Store node → left ≡ Shows_values node ∷ [] → Reads start (Asked line) 0 past m → EffectReads start line left past m
-  Starts_again : (state : HostState) → line ≡ lines.Restart → left ≡ restart_events state → Reads start (Asked line) 0 past m → EffectReads start line left past m
-  Does_silently : (event : OuterEvent) → left ≡ Outside_does event ∷ [] → IsSilent event → AsksNothing line → Reads start (Asked line) 0 past m →
+      Reads start Fresh (Asked line) 0 past m → EffectReads start line left past m
+  Refuses_line : (refusal : Refusal) → left ≡ Refuses line refusal ∷ [] → Reads start Fresh (Asked line) 0 past m → EffectReads start line left past m
+  Shows_node : (node : ℕ) → line ≡ lines.Store node → left ≡ Shows_values node ∷ [] → Reads start Fresh (Asked line) 0 past m → EffectReads start line left past m
+  Starts_again : (state : HostState) → line ≡ lines.Restart → left ≡ restart_events state → Reads start Fresh (Asked line) 0 past m → EffectReads start line left past m
+  Does_silently : (event : OuterEvent) → left ≡ Outside_does event ∷ [] → IsSilent event → AsksNothing line → Reads start Fresh (Asked line) 0 past m →
       EffectReads start line left past m
-  Does_by_hand : (event : OuterEvent) → left ≡ Outside_does event ∷ [] → IsByHand event → is_of_others (line ∷ []) ≡ true → Reads start (Asked line) 0 past m →
+  Does_by_hand : (event : OuterEvent) → left ≡ Outside_does event ∷ [] → IsByHand event → is_of_others (line ∷ []) ≡ true → Reads start Fresh (Asked line) 0 past m →
       EffectReads start line left past m
   Begins_discovery : (asked : List Event) → line ≡ lines.Discover → left ≡ Outside_does Discovers ∷ asked →
-      Asks (places_refusal m.host.state 1) lines.Discover (Queues Members) asked → Reads start (Asked line) 0 past m → EffectReads start line left past m
-  Goes_on_asking : line ≡ lines.Discover → Asks (places_refusal m.host.state 1) lines.Discover (Queues Members) left → Reads start (Asked line) 0 past m →
+      Asks (places_refusal m.host.state 1) lines.Discover (Queues Members) asked → Reads start Fresh (Asked line) 0 past m → EffectReads start line left past m
+  Goes_on_asking : line ≡ lines.Discover → Asks (places_refusal m.host.state 1) lines.Discover (Queues Members) left → Reads start Fresh (Asked line) 0 past m →
       EffectReads start line left past m
   Clears_both : left ≡ Outside_does (Clears_pipe Host) ∷ Outside_does (Clears_pipe Chip) ∷ [] → ReadsCleared start past m → EffectReads start line left past m
   Clears_one : left ≡ Outside_does (Clears_pipe Chip) ∷ [] → ReadsCleared start past m → EffectReads start line left past m
-  Is_done : AllByRecursion LeavesHost left → Reads start Open 0 past m → EffectReads start line left past m
+  Is_done : AllByRecursion LeavesHost left → Reads start Fresh Open 0 past m → EffectReads start line left past m
 
 -- ---- at each phase
 
 abbrev pub ReadsAt : HostMachine → sim.Phase → KnownOf
-ReadsAt start sim.Between past m = Reads start Resting 0 past m
-ReadsAt start (sim.Said_line line) past m = Reads start (Asked line) (ticks_of line) past (begun m)
-ReadsAt start (sim.Begun line) past m = Reads start (Asked line) (ticks_of line) past m
+ReadsAt start sim.Between past m = ReadsAtRest start 0 past m
+ReadsAt start (sim.Said_line line) past m = Reads start Fresh (Asked line) (ticks_of line) past (begun m)
+ReadsAt start (sim.Begun line) past m = Reads start Fresh (Asked line) (ticks_of line) past m
 ReadsAt start (sim.Doing line left) past m = EffectReads start line left past m
-ReadsAt start (sim.To_tick ticks) past m = Reads start Resting ticks past m
-ReadsAt start (sim.Ticked ticks) past m = Reads start Risen ticks past m
-ReadsAt start (sim.Arriving frames ticks) past m = Reads start Risen ticks past m
-ReadsAt start (sim.Giving results ticks) past m = Reads start Risen ticks past m
-ReadsAt start (sim.Ticking_devices place count ticks) past m = Reads start Risen ticks past m
-ReadsAt start (sim.Ticking_chip ticks) past m = Reads start Risen ticks past m
-ReadsAt start (sim.Ticking_decoder ticks) past m = Reads start Risen ticks past m
-ReadsAt start (sim.Ticking_host events ticks) past m = Silent events × Reads start (Ticking events) ticks past m
-ReadsAt start (sim.Sleeping passes ticks) past m = Reads start Sleeping ticks past m
-ReadsAt start (sim.Submitting passes ticks) past m = Reads start Submitting ticks past m
-ReadsAt start (sim.Moving passes ticks) past m = Reads start Resting ticks past m
-ReadsAt start (sim.Moved has_moved passes ticks) past m = ReadsWith (OnlyThen has_moved m) start Open ticks past m
+ReadsAt start (sim.To_tick ticks) past m = ReadsAtRest start ticks past m
+ReadsAt start (sim.Ticked ticks) past m = Reads start Fresh Risen ticks past m
+ReadsAt start (sim.Arriving frames ticks) past m = Reads start Fresh Risen ticks past m
+ReadsAt start (sim.Giving results ticks) past m = Reads start Fresh Risen ticks past m
+ReadsAt start (sim.Ticking_devices place count ticks) past m = Reads start Fresh Risen ticks past m
+ReadsAt start (sim.Ticking_chip ticks) past m = Reads start Fresh Risen ticks past m
+ReadsAt start (sim.Ticking_decoder ticks) past m = Reads start Fresh Risen ticks past m
+ReadsAt start (sim.Ticking_host events ticks) past m = Silent events × Reads start Fresh (Ticking events) ticks past m
+ReadsAt start (sim.Sleeping passes ticks) past m = Reads start Looked Sleeping ticks past m
+ReadsAt start (sim.Submitting passes ticks) past m = Reads start Looked Submitting ticks past m
+ReadsAt start (sim.Moving passes ticks) past m = Reads start Looked Resting ticks past m
+ReadsAt start (sim.Moved has_moved passes ticks) past m = ReadsWith (OnlyThen has_moved m) start Looked Open ticks past m
 
 -- what holds of each event of lines: both sides of the line are at rest where they tick or start again, and write frames that the format carries
 abbrev pub IsFine : Machine → Event → Type 0

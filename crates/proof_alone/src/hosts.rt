@@ -16,6 +16,7 @@ ghost use Rattle.proof_alone.specs.State.{HostMachine, first_alone};
 ghost use Rattle.proof_alone.specs.Phases.{Phase, Resting};
 ghost use Rattle.proof_alone.specs.Reading.{Anything, HostKnows, IsFine, ReadsMarked};
 ghost use Rattle.proof_alone.specs.Runs.{Run, Told, ToldWhole};
+ghost use Rattle.proof_alone.specs.Careful.{RunCarefully, ToldCarefully};
 
 use proof_line::marks_go_on;
 use proof_line::serial::{hosts_write_well, units_are_judged_whole};
@@ -23,7 +24,7 @@ use proof_line::world::lines_keep_and_ask_well;
 
 /// Over any lines from the first on, the last of which an allocation failure may have cut short, over a keeper that tells its records and has none at first,
 /// the transcript is that of a run of a host alone; where all were run whole, of one that ends at rest, with
-/// what the keeper tells in the end, and no tick of its last line to come.
+/// what the keeper tells in the end, and no tick of its last line to come. These runs are careful: they judge what has come as the program does.
 pub fn lines_are_a_hosts()
     ensures told { (keys : Keys) (devices : List State) (lines : List Spoken) →
         AreDone (first_machine keys (Some []) devices) lines →
@@ -35,6 +36,13 @@ pub fn lines_are_a_hosts()
         AreDone (first_machine keys (Some []) devices) lines → AreWhole (first_machine keys (Some []) devices) lines →
         (m : HostMachine) × Run (first_alone keys (Some [])) Resting (transcript_of (first_machine keys (Some []) devices) lines) m
         × (m.records ≡ (after_all (first_machine keys (Some []) devices) lines).records) × (m.left ≡ 0) }
+    ensures carefully { (keys : Keys) (devices : List State) (lines : List Spoken) →
+        AreDone (first_machine keys (Some []) devices) lines →
+        ToldCarefully (first_alone keys (Some [])) (transcript_of (first_machine keys (Some []) devices) lines) }
+    ensures rests { (keys : Keys) (devices : List State) (lines : List Spoken) →
+        AreDone (first_machine keys (Some []) devices) lines → AreWhole (first_machine keys (Some []) devices) lines →
+        (m : HostMachine) × RunCarefully (first_alone keys (Some [])) Resting (transcript_of (first_machine keys (Some []) devices) lines) m
+        × (m.records ≡ (after_all (first_machine keys (Some []) devices) lines).records) × (m.left ≡ 0) }
 {
     marks_go_on();
     units_are_judged_whole();
@@ -43,21 +51,26 @@ pub fn lines_are_a_hosts()
 }
 
 /// The walk by which it is so: at each phase of a line the machine is read as a host alone that such a run has led to, where both sides of the line are at
-/// rest as they tick, and write frames that the format carries. So what is known at each step of such runs is known of the host of the machine there.
+/// rest as they tick, and write frames that the format carries. So what is known at each step of such runs, which are careful, is known of the host of the
+/// machine there.
 pub fn machines_are_read_as_hosts()
     ensures walk { (start : HostMachine) → WalkWhere IsFine Anything (ReadsMarked start) }
     ensures first { (keys : Keys) (records : Option (List (List ℕ))) (devices : List State) →
         ReadsMarked (first_alone keys records) Between [] (first_machine keys records devices) }
     ensures runs { (start : HostMachine) (here : sim.Phase) (past : List Entry) (m : Machine) → ReadsMarked start here past m →
         HostKnows (Run start) here past m }
+    ensures carefully { (start : HostMachine) (here : sim.Phase) (past : List Entry) (m : Machine) → ReadsMarked start here past m →
+        HostKnows (RunCarefully start) here past m }
 {
     marks_go_on();
 }
 
-/// And what a host heard of a run of a host alone is told by such a run too, which leads to the same machine. So it is of what the host heard of any such
-/// lines.
+/// And what a host heard of a run of a host alone is told by such a run too, which leads to the same machine, and is careful if that one was. So it is of what
+/// the host heard of any such lines.
 pub fn what_is_heard_is_a_hosts()
     ensures told { (start : HostMachine) (told : List Entry) → Told start told → Told start (heard_by_host told) }
     ensures whole { (start : HostMachine) (told : List Entry) → ToldWhole start told → ToldWhole start (heard_by_host told) }
     ensures run { (start : HostMachine) (here : Phase) (told : List Entry) (m : HostMachine) → Run start here told m → Run start here (heard_by_host told) m }
+    ensures carefully { (start : HostMachine) (here : Phase) (told : List Entry) (m : HostMachine) → RunCarefully start here told m →
+        RunCarefully start here (heard_by_host told) m }
 {}

@@ -6,6 +6,7 @@ mod SaidDone
 mod Numbering
 pub use Rattle.proof_known.proofs.ForHost
 pub use Rattle.proof_known.proofs.Events
+pub use Rattle.proof_requests.proofs.Carefully
 pub use Rattle.proof_requests.proofs.Coming
 pub use Rattle.proof_requests.proofs.Hosting
 pub use Rattle.proof_requests.proofs.InOrder

@@ -15,10 +15,12 @@ ghost use Rattle.proof_commands.specs.Laws.{
   CollidesAsAsked,
   ConfirmsValues,
   DoesAsShown,
+  DoesWhatIsAsked,
   DoneByNodes,
   EndsEachInterview,
   FaresFrames,
   ForgetsHops,
+  GivesNonces,
   GroupsChanges,
   HasHeadline,
   HasWholeHeadline,
@@ -35,6 +37,7 @@ ghost use Rattle.proof_commands.specs.Laws.{
   LosesFrames,
   MarksAsAsked,
   MeetsFates,
+  NotesEnds,
   NotesPayloads,
   NumbersAir,
   NumbersMessages,
@@ -46,6 +49,7 @@ ghost use Rattle.proof_commands.specs.Laws.{
   ReportsAfterChange,
   RoutesFrames,
   SaysWhatIsNotKept,
+  SealsEachOnce,
   SendsAsDue,
   SendsToSleep,
   ShowsChanges,
@@ -86,10 +90,13 @@ use proof_audit::transcript::{
 use proof_host::{asides_keep_facts, laws_follow};
 use proof_replay::asking::{lines_ask_one_by_one, lines_say_how_done};
 use proof_replay::attempts::{lines_fall_asleep_as_told, lines_hold_as_asked};
+use proof_replay::ends::lines_note_ends;
 use proof_replay::known::waking::lines_wake_as_told;
 use proof_replay::lines_that_ran_are_heard;
+use proof_replay::nonces::{lines_count_nonces, lines_seal_once};
 use proof_replay::notes::{lines_note_in_full, lines_say_what_is_not_kept};
 use proof_replay::requests::{lines_answer_questions, lines_end_interviews};
+use proof_replay::rests::lines_leave_nothing;
 use proof_replay::sending::line::{
     lines_clear_at_restarts, lines_clear_nowhere_else, lines_clear_the_line,
     lines_collide_when_asked, lines_keep_links, lines_mark_units, lines_overrun_only_when_full,
@@ -271,12 +278,16 @@ fn stories_are_legal_on_line()
     stories_air_what_is_taken();
 }
 
-/// What hosts send has its reason in lines that were said, and in what nodes told.
+/// What hosts send has its reason in lines that were said, and in what nodes told; what they seal is for a nonce that serves once, and so is what they open.
 fn stories_send_what_is_due()
-    ensures { (key : List ℕ) (old new : Around) → SendsAsDue key old new }
+    ensures sends { (key : List ℕ) (old new : Around) → SendsAsDue key old new }
+    ensures seals { (key : List ℕ) (old new : Around) → SealsEachOnce key old new }
+    ensures nonces { (key : List ℕ) (old new : Around) → GivesNonces key old new }
 {
     lines_are_read_as_said();
     lines_send_what_is_due();
+    lines_seal_once();
+    lines_count_nonces();
 }
 
 /// Nodes count as awake as they told in lines that were said, fall asleep and are held.
@@ -303,13 +314,17 @@ fn stories_answer_questions()
     lines_say_how_done();
 }
 
-/// Requests stand one after another, and messages are numbered, in lines that were said.
+/// Requests stand one after another, messages are numbered, and where the host rests what lines asked for has ended, in lines that were said.
 fn stories_ask_one_by_one()
     ensures one { (key : List ℕ) (old new : Around) → AsksOneByOne key old new }
     ensures numbered { (key : List ℕ) (old new : Around) → NumbersMessages key old new }
+    ensures rests { (key : List ℕ) (old new : Around) → DoesWhatIsAsked key old new }
+    ensures ends { (key : List ℕ) (old new : Around) → NotesEnds key old new }
 {
     lines_are_read_as_said();
     lines_ask_one_by_one();
+    lines_leave_nothing();
+    lines_note_ends();
 }
 
 /// After each payload stands all that its messages have noted, and that a record was not kept where one was asked for, in lines that were said.

@@ -4,7 +4,7 @@ pub mod Events
 mod Hearing
 mod Knowing
 mod Saying
-mod Telling
+pub mod Telling
 mod Showing
 mod Recording
 mod Answering

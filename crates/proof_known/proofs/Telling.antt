@@ -124,7 +124,7 @@ done_one past (entry.Said words) none = absurd none
 done_one past (entry.Refused refusal) none = absurd none
 done_one past e none = ap doing_lines (folded-append doing_step nothing_done past (e ∷ [])) ∙ append-nil (lines_done past)
 
-done_more : (past told : List Entry) → AllByRecursion IsWordless told → lines_done (past ++ told) ≡ lines_done past
+pub done_more : (past told : List Entry) → AllByRecursion IsWordless told → lines_done (past ++ told) ≡ lines_done past
 done_more past [] all = ap lines_done (append-nil past)
 done_more past (e ∷ told) all = ap lines_done (sym (append_assoc past (e ∷ []) told)) ∙ done_more (past ++ e ∷ []) told all.1 ∙ done_one past e all.0
 

@@ -44,8 +44,8 @@ use Rattle.proof_asking.specs.proof_requests.proof_alone.State.{HostMachine, hos
 use Rattle.proof_asking.specs.proof_requests.proof_alone.Steps as step
 use Rattle.proof_asking.specs.proof_requests.proof_alone.Steps.{IsAskedBy}
 use Rattle.proof_asking.specs.proof_requests.proof_alone.Phases.{Phase, Resting, Asked, Open}
-use Rattle.proof_asking.specs.proof_requests.proof_alone.Runs.{Run}
-use Rattle.proof_asking.specs.proof_requests.proof_alone.Runs.Run.{Stepped, Turned}
+use Rattle.proof_asking.specs.proof_requests.proof_alone.Careful.{CarefulRun, Fresh, Reading, Stage, stage_pumped}
+use Rattle.proof_asking.proofs.Carefully.{stepped, turned}
 use Rattle.proof_replay.specs.Heard.{came_of}
 use Rattle.proof_replay.specs.HostSteps.{AreOrderly, HearsPart, HearsSteps, IsServed, WithPump, chip_word, clock_after, lone_at, restart_word, tick_words}
 use Rattle.proof_replay.specs.Linked.{KnowsLine, KnowsLineAt}
@@ -164,36 +164,37 @@ added events old new before outs did = record {
 
 module _ (start : HostMachine) (keys : Keys) (Beside : Option (List (List ℕ)) → Option (List (List ℕ)) → Type 0)
     (grows : (records held : Option (List (List ℕ))) (texts : List (List ℕ)) → Beside records held → Beside (with_texts records texts) (with_texts held texts)) (obey : HostsObey) where
-  abbrev At : Phase → List Entry → Place → ℕ → Type 0
-  At here past place clock = replaying.At start keys Beside grows obey here 0 false past (lone_at place clock)
+  abbrev At : Stage → Phase → List Entry → Place → ℕ → Type 0
+  At stage here past place clock = replaying.At start keys Beside grows obey stage here 0 false past (lone_at place clock)
 
   abbrev pub Rests0 : List Entry → Lone → Type 0
   Rests0 past m = replaying.Rests start keys Beside grows obey 0 past m
 
   -- from what events make of a host to the place where they led
-  moved : (here : Phase) (past : List Entry) (clock : ℕ) (awaits : Bool) (old new : Place) (events : List HostEvent) (outs : List HostOut)
+  moved : (stage : Stage) (here : Phase) (past : List Entry) (clock : ℕ) (awaits : Bool) (old new : Place) (events : List HostEvent) (outs : List HostOut)
       → Did events old.host.state new.host.state [] outs old.shelf new.shelf
       → (held : Option (List (List ℕ))) × Beside (with_texts old.shelf.records (texts_of (records_all old.host.state events))) held
-      × Run start here past (host_machine keys held (after_all old.host.state events) [] clock 0 awaits) × KnowsLineAt here 0 awaits past clock (after_all old.host.state events)
-      → (held : Option (List (List ℕ))) × Beside new.shelf.records held × Run start here past (host_machine keys held new.host.state [] clock 0 awaits)
+      × CarefulRun start stage here past (host_machine keys held (after_all old.host.state events) [] clock 0 awaits) × KnowsLineAt here 0 awaits past clock (after_all old.host.state events)
+      → (held : Option (List (List ℕ))) × Beside new.shelf.records held × CarefulRun start stage here past (host_machine keys held new.host.state [] clock 0 awaits)
       × KnowsLineAt here 0 awaits past clock new.host.state
-  moved here past clock awaits old new events outs did (held, beside, run, line) = (
+  moved stage here past clock awaits old new events outs did (held, beside, run, line) = (
     held,
     subst (λ (r : Option (List (List ℕ))). Beside r held) (sym (adds_is old.shelf.records new.shelf.records (texts_of (records_all old.host.state events)) did.records)) beside,
-    subst (λ (s : HostState). Run start here past (host_machine keys held s [] clock 0 awaits)) (sym did.state) run,
+    subst (λ (s : HostState). CarefulRun start stage here past (host_machine keys held s [] clock 0 awaits)) (sym did.state) run,
     subst (λ (s : HostState). KnowsLineAt here 0 awaits past clock s) (sym did.state) line,
   )
 
   -- ---- a pump
 
-  pub pump_part : (past : List Entry) (clock : ℕ) (old new : Place) (outs : List HostOut) → Ran Pumps old new outs → At Open past old clock → Rests0 (past ++ entries_of outs) (lone_at new clock)
+  pub pump_part : (stage : Stage) (past : List Entry) (clock : ℕ) (old new : Place) (outs : List HostOut) → Ran Pumps old new outs → At stage Open past old clock → Rests0 (past ++ entries_of outs) (lone_at new clock)
   unfolding happens entries May
-  pump_part past clock old new outs (does, decoder) at =
+  pump_part stage past clock old new outs (does, decoder) at =
       let m : Lone = lone_at old clock in
-      let run = pumped_run start keys Beside grows obey past m does.events does.are does.did.may at in (
+      let run = pumped_run start keys Beside grows obey stage past m does.events does.are does.did.may at in (
         false,
-        subst (λ (l : List HostOut). At Resting (past ++ entries_of l) new clock) (sym does.did.outs)
-            (moved Resting (past ++ entries_of (outs_all old.host.state does.events)) clock false old new does.events outs does.did run),
+        stage_pumped stage,
+        subst (λ (l : List HostOut). At (stage_pumped stage) Resting (past ++ entries_of l) new clock) (sym does.did.outs)
+            (moved (stage_pumped stage) Resting (past ++ entries_of (outs_all old.host.state does.events)) clock false old new does.events outs does.did run),
       )
 
   -- ---- a step
@@ -202,22 +203,23 @@ module _ (start : HostMachine) (keys : Keys) (Beside : Option (List (List ℕ)) 
   Part clock one old new both past = (part : List Entry) × HearsPart clock one old new both part × Rests0 (past ++ part) (lone_at new (clock_after one clock))
 
   -- words that are no line
-  none_said : (past : List Entry) (clock : ℕ) (place : Place) (said : List ℕ) → line_of (Said said) ≡ [] → Rests0 past (lone_at place clock) → At Open (past ++ Said said ∷ []) place clock
-  none_said past clock place said none (awaits, (held, beside, run, rests)) = (
+  none_said : (past : List Entry) (clock : ℕ) (place : Place) (said : List ℕ) → line_of (Said said) ≡ [] → Rests0 past (lone_at place clock)
+      → At Reading Open (past ++ Said said ∷ []) place clock
+  none_said past clock place said none (awaits, stage, (held, beside, run, rests)) = (
     held,
     beside,
-    Turned refl (Stepped (step.Says_nothing said) (refl, refl, none, refl) refl refl run),
+    turned refl tt refl (stepped (step.Says_nothing said) (refl, refl, none, refl) tt refl refl refl run),
     words_line obey past awaits clock place.host.state rests said [] [] tt none (λ now due. (refl, refl)) tt (ap ticks_asked none),
   )
 
   -- the words of a line
   line_said : (past : List Entry) (clock : ℕ) (place : Place) (line : Line) (said : List ℕ) → line_of (Said said) ≡ line ∷ [] → ticks_of line ≡ 0 → Rests0 past (lone_at place clock)
-      → At (Asked line) (past ++ Said said ∷ []) place clock
-  line_said past clock place line said read none (awaits, (held, beside, run, rests)) = (
+      → At Fresh (Asked line) (past ++ Said said ∷ []) place clock
+  line_said past clock place line said read none (awaits, stage, (held, beside, run, rests)) = (
     held,
     beside,
-    subst (λ (n : ℕ). Run start (Asked line) (past ++ Said said ∷ []) (host_machine keys held place.host.state [] clock n false)) none
-        (Stepped (step.Says said line) (refl, refl, read, refl) refl refl run),
+    subst (λ (n : ℕ). CarefulRun start Fresh (Asked line) (past ++ Said said ∷ []) (host_machine keys held place.host.state [] clock n false)) none
+        (stepped (step.Says said line) (refl, refl, read, refl) tt refl refl refl run),
     record { before = past; words = said; awaits = awaits; is = refl; read = read; rests = rests },
   )
 
@@ -230,19 +232,19 @@ module _ (start : HostMachine) (keys : Keys) (Beside : Option (List (List ℕ)) 
       let before : List Entry = asked ++ entry.Refused by.entered ∷ [] in
       let (held, beside, run, k) = line_said past clock old line said read (served_ticks line served) rests in
       let none : ticks_asked (line ∷ []) ≡ 0 = refused_ticks line (alone (lone_at old clock)) by.entered by.is in
-      let told : Run start Open before (host_machine keys held old.host.state [] clock 0 false) =
-      Stepped (step.Refuses by.entered) (line, refl, inl (by.whatever keys held), refl, refl) refl refl run in
-      let there : At Open before both.mid clock = (
+      let told : CarefulRun start Fresh Open before (host_machine keys held old.host.state [] clock 0 false) =
+      stepped (step.Refuses by.entered) (line, refl, inl (by.whatever keys held), refl, refl) tt refl refl refl run in
+      let there : At Fresh Open before both.mid clock = (
         held,
         subst (λ (r : Option (List (List ℕ))). Beside r held) (sym (none_added old.shelf.records both.mid.shelf.records still.records)) beside,
-        subst (λ (p : HostParts). Run start Open before (host_machine keys held p.state [] clock 0 false)) (sym still.host) told,
+        subst (λ (p : HostParts). CarefulRun start Fresh Open before (host_machine keys held p.state [] clock 0 false)) (sym still.host) told,
         subst (λ (p : HostParts). KnowsLine before clock 0 p.state) (sym still.host) (refused_line obey line asked clock old.host.state by.entered none k),
       ) in (
         Said said ∷ (entry.Refused by.entered ∷ entries_of both.rest),
         (said, read, by.entered, by.is, refl),
         subst (λ (l : List Entry). Rests0 l (lone_at new clock))
             (append_assoc asked (entry.Refused by.entered ∷ []) (entries_of both.rest) ∙ append_assoc past (Said said ∷ []) (entry.Refused by.entered ∷ entries_of both.rest))
-            (pump_part before clock both.mid new both.rest both.pumped there),
+            (pump_part Fresh before clock both.mid new both.rest both.pumped there),
       )
 
   taken_part : (past : List Entry) (clock : ℕ) (line : Line) (answer : Answer) (old mid new : Place) (rest : List HostOut) → IsServed line → IsTaken line answer old mid → Ran Pumps mid new rest
@@ -258,14 +260,14 @@ module _ (start : HostMachine) (keys : Keys) (Beside : Option (List (List ℕ)) 
       let did : Did (one.event ∷ []) h mid.host.state [] [] old.shelf mid.shelf =
       subst (λ (l : List HostEvent). Did l h mid.host.state [] [] old.shelf mid.shelf) (taken.does.are ∙ one.are) taken.does.did in
       let same : answers h one.event ≡ told = sym (append-nil (answers h one.event)) ∙ ap (λ (l : List HostEvent). flat_map (answers h) l) (sym one.are) in
-      let there : At Open (before ++ told) mid clock =
-      subst (λ (l : List Entry). At Open (before ++ l) mid clock) same
-      (moved Open (before ++ answers h one.event) clock false old mid (one.event ∷ []) [] did
+      let there : At Fresh Open (before ++ told) mid clock =
+      subst (λ (l : List Entry). At Fresh Open (before ++ l) mid clock) same
+      (moved Fresh Open (before ++ answers h one.event) clock false old mid (one.event ∷ []) [] did
       (asked_says start keys Beside grows obey line before (lone_at old clock) one.event one.asked did.may (line_said past clock old line said read one.no_ticks rests))) in (
         Said said ∷ (told ++ entries_of rest),
         (said, read, refl),
         subst (λ (l : List Entry). Rests0 l (lone_at new clock)) (append_assoc before told (entries_of rest) ∙ append_assoc past (Said said ∷ []) (told ++ entries_of rest))
-            (pump_part (before ++ told) clock mid new rest pumped there),
+            (pump_part Fresh (before ++ told) clock mid new rest pumped there),
       )
 
   bytes_part : (past : List Entry) (clock : ℕ) (bytes : List ℕ) (old new : Place) (both : WithPump (Takes bytes) old new) → Rests0 past (lone_at old clock) → Part clock (Takes bytes) old new both past
@@ -279,19 +281,19 @@ module _ (start : HostMachine) (keys : Keys) (Beside : Option (List (List ℕ)) 
       let taken =
       taken_run start keys Beside grows obey before (lone_at old clock) bytes both.mid.host.decoder fed.items fed.events
       (record { feeds = fed.feeds; stream = fed.stream; judged = fed.judged; may = fed.did.may }) (none_said past clock old chip_word chip_is rests) in
-      let there : At Open (before ++ (came ++ first)) both.mid clock =
-      subst (λ (l : List HostOut). At Open (before ++ (came ++ entries_of l)) both.mid clock) (sym fed.did.outs)
-      (moved Open (before ++ (came ++ entries_of (outs_all old.host.state fed.events))) clock false old both.mid fed.events both.first fed.did taken) in (
+      let there : At Reading Open (before ++ (came ++ first)) both.mid clock =
+      subst (λ (l : List HostOut). At Reading Open (before ++ (came ++ entries_of l)) both.mid clock) (sym fed.did.outs)
+      (moved Reading Open (before ++ (came ++ entries_of (outs_all old.host.state fed.events))) clock false old both.mid fed.events both.first fed.did taken) in (
         Said chip_word ∷ (came ++ (first ++ rest)),
         refl,
         subst (λ (l : List Entry). Rests0 l (lone_at new clock))
             (append_assoc before (came ++ first) rest ∙ (ap (λ (l : List Entry). before ++ l) (append_assoc came first rest) ∙ append_assoc past (Said chip_word ∷ []) (came ++ (first ++ rest))))
-            (pump_part (before ++ (came ++ first)) clock both.mid new both.rest both.pumped there),
+            (pump_part Reading (before ++ (came ++ first)) clock both.mid new both.rest both.pumped there),
       )
 
   tick_part : (past : List Entry) (clock : ℕ) (old new : Place) (both : WithPump Ticks old new) → Rests0 past (lone_at old clock) → Part clock Ticks old new both past
   unfolding happens entries May
-  tick_part past clock old new both (awaits, (held, beside, run, rests)) =
+  tick_part past clock old new both (awaits, stage, (held, beside, run, rests)) =
       let h : HostState = old.host.state in
       let before : List Entry = past ++ Said tick_words ∷ [] in
       let outs : List HostOut = both.first ++ both.rest in
@@ -303,13 +305,14 @@ module _ (start : HostMachine) (keys : Keys) (Beside : Option (List (List ℕ)) 
       did_both (tick_events h) pumped.events h both.mid.host.state new.host.state [] both.first outs old.shelf both.mid.shelf new.shelf first
       (added pumped.events both.mid new both.first both.rest pumped.did) in
       let pumps : pump_events (after_all h (tick_events h)) pumped.events = subst (λ (s : HostState). pump_events s pumped.events) first.state pumped.are in
-      let (awaits', there) =
+      let (awaits', led, there) =
       tick_one start keys Beside grows obey before (lone_at old clock) pumped.events 0 pumps did.may (
         false,
+        Fresh,
         (
           held,
           beside,
-          Turned (inr (1, refl, refl)) (Stepped (step.Says tick_words (lines.Tick 1)) (refl, refl, tick_is, refl) refl refl run),
+          turned (inr (1, refl, refl)) tt refl (stepped (step.Says tick_words (lines.Tick 1)) (refl, refl, tick_is, refl) tt refl refl refl run),
           rests_at obey before clock 1 h (ticks_line obey past awaits clock h rests tick_words 1 tick_is),
         ),
       ) in (
@@ -317,9 +320,10 @@ module _ (start : HostMachine) (keys : Keys) (Beside : Option (List (List ℕ)) 
         refl,
         (
           awaits',
-          subst (λ (l : List Entry). replaying.At start keys Beside grows obey Resting 0 awaits' l (lone_at new (clock + 1))) (append_assoc past (Said tick_words ∷ []) (timed (clock + 1) outs))
-              (subst (λ (l : List HostOut). replaying.At start keys Beside grows obey Resting 0 awaits' (before ++ timed (clock + 1) l) (lone_at new (clock + 1))) (sym did.outs)
-              (moved Resting (before ++ timed (clock + 1) (outs_all h (tick_events h ++ pumped.events))) (clock + 1) awaits' old new (tick_events h ++ pumped.events) outs did there)),
+          led,
+          subst (λ (l : List Entry). replaying.At start keys Beside grows obey led Resting 0 awaits' l (lone_at new (clock + 1))) (append_assoc past (Said tick_words ∷ []) (timed (clock + 1) outs))
+              (subst (λ (l : List HostOut). replaying.At start keys Beside grows obey led Resting 0 awaits' (before ++ timed (clock + 1) l) (lone_at new (clock + 1))) (sym did.outs)
+              (moved led Resting (before ++ timed (clock + 1) (outs_all h (tick_events h ++ pumped.events))) (clock + 1) awaits' old new (tick_events h ++ pumped.events) outs did there)),
         ),
       )
 

@@ -27,7 +27,9 @@ use Rattle.proof_asking.specs.proof_requests.proof_alone.State.{HostMachine, fir
 use Rattle.proof_asking.specs.proof_requests.proof_alone.Steps as step
 use Rattle.proof_asking.specs.proof_requests.proof_alone.Phases.{Phase, Asked, Open, Resting}
 use Rattle.proof_asking.specs.proof_requests.proof_alone.Runs.{Run}
-use Rattle.proof_asking.specs.proof_requests.proof_alone.Runs.Run.{Begins, Stepped}
+use Rattle.proof_asking.specs.proof_requests.proof_alone.Runs.Run.{Begins}
+use Rattle.proof_asking.specs.proof_requests.proof_alone.Careful.{CarefulRun, Fresh}
+use Rattle.proof_asking.proofs.Carefully.{found, stepped}
 use Rattle.proof_asking.specs.proof_known.Known.{AreForHost, AreSaidToHost, IsSaidToHost, KnowsRecords}
 use Rattle.proof_asking.proofs.ForHost.{said_for_host}
 use Rattle.proof_replay.specs.HostSteps.{HaveHeard, HearsMore, HearsRun, Holds, IsRunSteps, StartsAfter, restart_word}
@@ -64,7 +66,7 @@ holds_last many (Some texts) held some agrees = agrees
 -- nothing was heard before, where the keeper holds nothing
 pub none_before : HostsObey → (keys : Keys) (number : ℕ) (told : Option (List (List ℕ))) → Holds number told (Some []) → HaveHeard keys number told []
 none_before obey keys number told holds =
-    record { held = Some []; state = first_host keys; clock = 0; awaits = false; run = Begins; line = first_rests obey keys; holds = holds; said = tt }
+    record { held = Some []; state = first_host keys; clock = 0; awaits = false; run = Begins; careful = tt; line = first_rests obey keys; holds = holds; said = tt }
 
 none_of : (records : List Record) → length records ≡ 0 → AreTextsOf records []
 none_of [] none = tt
@@ -110,12 +112,16 @@ kept_as_told keys whole heard told held agrees laws = record {
   questions = laws.questions;
   interviews = laws.interviews;
   says_done = laws.says_done;
+  ends = laws.ends;
   one_by_one = laws.one_by_one;
   numbered = laws.numbered;
   begins = laws.begins;
+  rests = laws.rests;
   queues = laws.queues;
   ticks = laws.ticks;
   sends = laws.sends;
+  seals_once = laws.seals_once;
+  nonces = laws.nonces;
   link = laws.link;
 }
 
@@ -128,17 +134,17 @@ module _ (laws : (keys : Keys) (whole : Bool) (here : Phase) (heard : List Entry
   abbrev restarted : List Entry
   restarted = past ++ Said restart_word ∷ []
 
-  started : (held : Option (List (List ℕ))) × Agrees place.shelf.records held × Run (first_alone keys (Some [])) Open restarted (host_machine keys held place.host.state [] before.clock 0 false)
+  started : (held : Option (List (List ℕ))) × Agrees place.shelf.records held × CarefulRun (first_alone keys (Some [])) Fresh Open restarted (host_machine keys held place.host.state [] before.clock 0 false)
       × KnowsLine restarted before.clock 0 place.host.state
   started =
       let state : HostState = opened keys opens.records in
-      let said : Run (first_alone keys (Some [])) (Asked lines.Restart) restarted (host_machine keys before.held before.state [] before.clock 0 false) =
-      Stepped (step.Says restart_word lines.Restart) (refl, refl, restart_is, refl) refl refl before.run in
-      let there : Run (first_alone keys (Some [])) Open restarted (host_machine keys before.held state [] before.clock 0 false) =
-      Stepped (step.Restarts state) (refl, opens_from keys number told before.held place.host before.holds opens, refl) (sym (append-nil restarted)) refl said in (
+      let said : CarefulRun (first_alone keys (Some [])) Fresh (Asked lines.Restart) restarted (host_machine keys before.held before.state [] before.clock 0 false) =
+      stepped (step.Says restart_word lines.Restart) (refl, refl, restart_is, refl) tt refl refl refl (found before.run before.careful) in
+      let there : CarefulRun (first_alone keys (Some [])) Fresh Open restarted (host_machine keys before.held state [] before.clock 0 false) =
+      stepped (step.Restarts state) (refl, opens_from keys number told before.held place.host before.holds opens, refl) tt refl (sym (append-nil restarted)) refl said in (
         before.held,
         subst (λ (r : Option (List (List ℕ))). Agrees r before.held) (sym (none_added told place.shelf.records adds)) (agrees_first number told before.held before.holds),
-        subst (λ (h : HostParts). Run (first_alone keys (Some [])) Open restarted (host_machine keys before.held h.state [] before.clock 0 false)) (sym opens.state) there,
+        subst (λ (h : HostParts). CarefulRun (first_alone keys (Some [])) Fresh Open restarted (host_machine keys before.held h.state [] before.clock 0 false)) (sym opens.state) there,
         subst (λ (h : HostParts). KnowsLine restarted before.clock 0 h.state) (sym opens.state)
             (restart_line obey past before.awaits before.clock before.state before.line restart_word state restart_is (obey.opened keys opens.records)),
       )
@@ -156,7 +162,7 @@ module _ (laws : (keys : Keys) (whole : Bool) (here : Phase) (heard : List Entry
   starts_so =
       let (held, agrees, run, line) = started in
       let m : HostMachine = host_machine keys held place.host.state [] before.clock 0 false in
-      starts_told place.shelf.records held agrees (starts_held held place.host.state (listening keys Open restarted m run) (recorded keys restarted m run))
+      starts_told place.shelf.records held agrees (starts_held held place.host.state (listening keys Open restarted m run.run) (recorded keys restarted m run.run))
 
   -- what was heard, after what had been
   all_heard : (heard : List Entry) → restarted ++ heard ≡ past ++ Said restart_word ∷ heard
@@ -176,16 +182,16 @@ module _ (laws : (keys : Keys) (whole : Bool) (here : Phase) (heard : List Entry
   hears_so : (whole : Bool) (steps : List Step) (last : Place) (heard : List Entry) (m : Lone) → IsRunSteps whole steps → HearsRun before.clock steps place last heard
       → Rested (restarted ++ heard) m → (whole ≡ true → m.records ≡ last.shelf.records) → HearsMore keys past before.clock whole steps place last
   hears_so whole steps last heard m orderly hears rests records =
-      let (awaits, (held, agrees, run, rest)) = rests in
+      let (awaits, stage, (held, agrees, run, rest)) = rests in
       let line : LineRests (past ++ Said restart_word ∷ heard) awaits m.clock 0 m.host.state =
       subst (λ (l : List Entry). LineRests l awaits m.clock 0 m.host.state) (all_heard heard) rest in
-      let all : Run (first_alone keys (Some [])) Resting (past ++ Said restart_word ∷ heard) (host_machine keys held m.host.state [] m.clock 0 awaits) =
-      subst (λ (l : List Entry). Run (first_alone keys (Some [])) Resting l (host_machine keys held m.host.state [] m.clock 0 awaits)) (all_heard heard) run in
+      let all : CarefulRun (first_alone keys (Some [])) stage Resting (past ++ Said restart_word ∷ heard) (host_machine keys held m.host.state [] m.clock 0 awaits) =
+      subst (λ (l : List Entry). CarefulRun (first_alone keys (Some [])) stage Resting l (host_machine keys held m.host.state [] m.clock 0 awaits)) (all_heard heard) run in
       let said : AreSaidToHost (past ++ Said restart_word ∷ heard) = all_said heard (run_said before.clock whole steps place last heard orderly hears) in
       let link : KeepsLink Host (ended whole (past ++ Said restart_word ∷ heard)) = link_kept obey whole (past ++ Said restart_word ∷ heard) awaits m.clock m.host.state line in
       let keeps : HostsKeepLaws keys whole (past ++ Said restart_word ∷ heard) last.shelf.records =
       kept_as_told keys whole (past ++ Said restart_word ∷ heard) last.shelf.records held (λ is. subst (λ (r : Option (List (List ℕ))). Agrees r held) (records is) agrees)
-      (laws keys whole Resting (past ++ Said restart_word ∷ heard) (host_machine keys held m.host.state [] m.clock 0 awaits) all (λ is. (refl, refl))
+      (laws keys whole Resting (past ++ Said restart_word ∷ heard) (host_machine keys held m.host.state [] m.clock 0 awaits) all.run (λ is. (refl, refl))
       (said_for_host (past ++ Said restart_word ∷ heard) said) link) in
       record {
         heard = heard;
@@ -198,7 +204,8 @@ module _ (laws : (keys : Keys) (whole : Bool) (here : Phase) (heard : List Entry
           state = m.host.state;
           clock = m.clock;
           awaits = awaits;
-          run = all;
+          run = all.run;
+          careful = all.careful;
           line = line;
           holds = holds_last many last.shelf.records held some (subst (λ (r : Option (List (List ℕ))). Agrees r held) (records is) agrees);
           said = said;
@@ -209,7 +216,7 @@ module _ (laws : (keys : Keys) (whole : Bool) (here : Phase) (heard : List Entry
       → HearsMore keys past before.clock whole steps place last
   hears_more whole [] last outs none ran =
       let (held, agrees, run, line) = started in
-      let all : Run (first_alone keys (Some [])) Open (past ++ Said restart_word ∷ []) (host_machine keys held place.host.state [] before.clock 0 false) = run in
+      let all : Run (first_alone keys (Some [])) Open (past ++ Said restart_word ∷ []) (host_machine keys held place.host.state [] before.clock 0 false) = run.run in
       let link : KeepsLink Host (ended whole (past ++ Said restart_word ∷ [])) =
       subst (λ (b : Bool). KeepsLink Host (ended b (past ++ Said restart_word ∷ []))) (sym none) (open_kept obey restarted before.clock 0 place.host.state line) in
       let keeps : HostsKeepLaws keys whole (past ++ Said restart_word ∷ []) last.shelf.records =
@@ -228,7 +235,7 @@ module _ (laws : (keys : Keys) (whole : Bool) (here : Phase) (heard : List Entry
       let start = first_alone keys (Some []) in
       let (heard, hears, m, rests, records) =
       steps_go start keys Agrees agrees_on obey whole steps (restarted ++ entries_of first) before.clock mid last later orderly more
-      (pump_part start keys Agrees agrees_on obey restarted before.clock place mid first pumped started) in
+      (pump_part start keys Agrees agrees_on obey Fresh restarted before.clock place mid first pumped started) in
       hears_so whole (Pumps ∷ steps) last (entries_of first ++ heard) m orderly (mid, first, heard, pumped, hears, refl)
       (subst (λ (l : List Entry). Rested l m) (append_assoc restarted (entries_of first) heard) rests) records
   hears_more whole (Asks line answer ∷ steps) last outs orderly ran = absurd orderly

@@ -26,6 +26,7 @@ use Rattle.proof_asking.specs.proof_requests.law_host.Starting.{StartsFrom}
 use Rattle.proof_asking.specs.proof_requests.proof_alone.State.{first_alone, host_machine}
 use Rattle.proof_asking.specs.proof_requests.proof_alone.Phases.{Resting}
 use Rattle.proof_asking.specs.proof_requests.proof_alone.Runs.{Run}
+use Rattle.proof_asking.specs.proof_requests.proof_alone.Careful.{Careful}
 use Rattle.proof_asking.specs.proof_known.Known.{AreSaidToHost}
 use Rattle.proof_replay.specs.Heard.{came_of}
 use Rattle.proof_replay.specs.Linked.{LineRests}
@@ -134,13 +135,14 @@ Holds number None held = (number ≡ 0) × (held ≡ Some [])
 Holds number (Some texts) held = held ≡ Some texts
 
 -- Hosts with these keys have heard this, in earlier runs, over a keeper that holds so many records now and tells these; so many ticks have passed. The last
--- one was at rest, their links have kept the rules, and no line was for others.
+-- one was at rest, they judged what came as programs do, their links have kept the rules, and no line was for others.
 pub record HaveHeard (keys : Keys) (number : ℕ) (told : Option (List (List ℕ))) (past : List Entry) : Type 0 where
   pub held : Option (List (List ℕ))
   pub state : HostState
   pub clock : ℕ
   pub awaits : Bool
   pub run : Run (first_alone keys (Some [])) Resting past (host_machine keys held state [] clock 0 awaits)
+  pub careful : Careful run
   pub line : LineRests past awaits clock 0 state
   pub holds : Holds number told held
   pub said : AreSaidToHost past

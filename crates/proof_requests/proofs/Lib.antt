@@ -30,6 +30,7 @@ pub mod Questions
 pub mod Interviews
 pub use Rattle.proof_waking.proofs.HostOuts
 pub use Rattle.proof_waking.proofs.Running
+pub use Rattle.proof_waking.proofs.Carefully
 pub use Rattle.proof_waking.proofs.Coming
 pub use Rattle.proof_waking.proofs.Hosting
 pub use Rattle.proof_waking.proofs.Stamps

@@ -18,6 +18,7 @@ pub use Rattle.proof_alone.proofs.Carrying
 pub use Rattle.proof_alone.proofs.Parts as proof_traffic_Parts
 pub use Rattle.proof_alone.proofs.Calm
 pub use Rattle.proof_alone.proofs.HostLinks
+pub use Rattle.proof_alone.proofs.Carefully
 pub use Rattle.proof_alone.proofs.Coming
 pub use Rattle.proof_alone.proofs.Hosting
 pub use Rattle.proof_alone.proofs.Stamps

@@ -3,7 +3,7 @@ use Rattle.std.proofs.Common.{◌≡◌, Bool, true, false, ℕ, List, [], ◌�
 use Rattle.std.specs.Prelude.{Option, drop}
 use Rattle.law_host.specs.Following.{ended_whole}
 use Rattle.law_host.specs.Notes.{course_of, first_start}
-use Rattle.law_host.specs.Worked.{after_begun, after_later_nonce, after_lock_begun, after_sessions, after_sleeper_begun, after_values, after_waking, dropped_first, dropped_of_other, ended_by_first, ended_by_other, ended_by_refused, ended_by_work, ended_of_another, ended_openly, ended_sealed, ended_otherwise, hold_left_out, old_left_out, unkept_unasked, unread_left_out, value_again, value_left_out, value_otherwise, value_stored_though_full, value_twice, woken_by_another}
+use Rattle.law_host.specs.Worked.{after_begun, after_later_nonce, after_lock_begun, after_sessions, after_sleeper_begun, after_values, after_waking, dropped_first, dropped_of_other, ended_by_first, ended_by_other, ended_by_refused, ended_by_work, ended_of_another, ended_openly, ended_sealed, ended_otherwise, hold_left_out, left_beside_copy, old_left_out, unkept_unasked, unread_left_out, value_again, value_left_out, value_otherwise, value_stored_though_full, value_twice, woken_by_another}
 use Rattle.law_time.specs.WrongEnds.{awake_after_link, awake_in_next_line}
 use Rattle.law_transcript.specs.Worked.{the_lock, the_sensor, the_switch}
 use Rattle.law_time.proofs.Computing.{computing}
@@ -21,6 +21,10 @@ returns-clause-twice c = unfit [] (heeds_of (the_switch ∷ [])) first_start val
 pub returns-clause-again : goal.returns-clause-again
 unfolding computing
 returns-clause-again c = unfit [] (heeds_of (the_switch ∷ [])) first_start value_again (λ choices. refl)
+
+pub returns-clause-beside_copy : goal.returns-clause-beside_copy
+unfolding computing
+returns-clause-beside_copy c = unended [] (heeds_of (the_switch ∷ [])) first_start left_beside_copy (λ choices. refl)
 
 -- whether the record of the outcome was kept or not, something is to be noted at the end
 old_fails : (keepings : List Bool) (texts : List (Option (List ℕ)))

@@ -2,7 +2,7 @@ use Rattle.law_time.specs.Heeds.{heeds_of}
 use Rattle.std.proofs.Common.{[], ◌∷◌, refl}
 use Rattle.std.specs.Prelude.{drop}
 use Rattle.law_host.specs.Notes.{first_start}
-use Rattle.law_host.specs.Worked.{after_begun, after_later_nonce, after_lock_begun, after_sessions, after_sleeper_begun, after_values, after_waking, all_kept, begun_unkept, failure_told, held_at_failure, last_session, other_told, report_refused, told_openly, unread_payload, unread_sealed, unsupported_told, value_heard, value_unstored, woken, work_told}
+use Rattle.law_host.specs.Worked.{after_begun, after_later_nonce, after_lock_begun, after_sessions, after_sleeper_begun, after_values, after_waking, all_kept, begun_unkept, failure_told, given_up_beside_copy, held_at_failure, last_session, other_told, report_refused, told_openly, unread_payload, unread_sealed, unsupported_told, value_heard, value_unstored, woken, work_told}
 use Rattle.law_time.specs.WorkedEnds.{asleep_given_up, asleep_in_silence, given_up_at_answer, interview_refused, interview_uninformed}
 use Rattle.law_time.specs.WorkedTurns.{dropped_after_report}
 use Rattle.law_time.specs.WorkedWaits.{answered_errands, waited_attempts}
@@ -42,6 +42,10 @@ returns-clause-answered c = noted [] (heeds_of (the_switch ∷ [])) first_start 
 pub returns-clause-waited : goal.returns-clause-waited
 unfolding computing
 returns-clause-waited c = noted [] (heeds_of (the_switch ∷ [])) first_start waited_attempts all_kept refl
+
+pub returns-clause-beside_copy : goal.returns-clause-beside_copy
+unfolding computing
+returns-clause-beside_copy c = noted [] (heeds_of (the_switch ∷ [])) first_start given_up_beside_copy all_kept refl
 
 pub returns-clause-value : goal.returns-clause-value
 unfolding computing

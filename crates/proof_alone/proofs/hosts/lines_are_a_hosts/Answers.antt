@@ -11,8 +11,8 @@ use Rattle.proof_alone.specs.Reading.{Anything, IsFine, ReadsMarked}
 use Rattle.proof_alone.proofs.ReadingWalk.{all_fine, all_told, first_reads, keeper_told, reading_walk}
 use Rattle.proof_alone.proofs.hosts.lines_are_a_hosts.Goals as goal
 
-pub returns-clause-told : goal.returns-clause-told
-returns-clause-told c = λ keys devices lines are.
+pub returns-clause-carefully : goal.returns-clause-carefully
+returns-clause-carefully c = λ keys devices lines are.
     let m = first_machine keys (Some []) devices in
     let start = first_alone keys (Some []) in
     let events = events_of lines in
@@ -26,8 +26,8 @@ returns-clause-told c = λ keys devices lines are.
     (c.marks_go_on.ensures.first keys (Some []) devices, first_reads keys (Some []) devices) in
     all_told start lead.0 (transcript_of m lines) (after_all m lines) lead.1.1
 
-pub returns-clause-keeper : goal.returns-clause-keeper
-returns-clause-keeper c = λ keys devices lines are whole.
+pub returns-clause-rests : goal.returns-clause-rests
+returns-clause-rests c = λ keys devices lines are whole.
     let m = first_machine keys (Some []) devices in
     let start = first_alone keys (Some []) in
     let events = events_of lines in
@@ -41,5 +41,11 @@ returns-clause-keeper c = λ keys devices lines are whole.
     (c.marks_go_on.ensures.first keys (Some []) devices, first_reads keys (Some []) devices) in
     keeper_told start (transcript_of m lines) (after_all m lines) known.1
 
+pub returns-clause-told : goal.returns-clause-told
+returns-clause-told c = λ keys devices lines are. let end = returns-clause-carefully c keys devices lines are in (end.0, end.1, end.2)
+
+pub returns-clause-keeper : goal.returns-clause-keeper
+returns-clause-keeper c = λ keys devices lines are whole. let end = returns-clause-rests c keys devices lines are whole in (end.0, end.1.0, end.2, end.3)
+
 pub returns-clause-whole : goal.returns-clause-whole
-returns-clause-whole c = λ keys devices lines are whole. let end = returns-clause-keeper c keys devices lines are whole in (end.0, end.1)
+returns-clause-whole c = λ keys devices lines are whole. let end = returns-clause-rests c keys devices lines are whole in (end.0, end.1.0)

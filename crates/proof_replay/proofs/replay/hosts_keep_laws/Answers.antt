@@ -3,13 +3,15 @@ use Rattle.std.proofs.Common.{◌≡◌, Bool, true, false, List, [], refl, subs
 use Rattle.std.specs.Prelude.{Some}
 use Rattle.s0_crypto.specs.declared.key_pair.Keys.{Keys}
 use Rattle.zw_text.specs.declared.entry.Entry.{Entry}
-use Rattle.law_time.specs.Waking.{FallsAsleep}
 use Rattle.proof_asking.specs.proof_requests.proof_alone.State.{HostMachine, first_alone}
 use Rattle.proof_asking.specs.proof_requests.proof_alone.Phases.{Phase, Resting}
 use Rattle.proof_asking.specs.proof_requests.proof_alone.Runs.{Run, Told, ToldWhole}
 use Rattle.law_transcript.specs.Payloads.{BeginsWithUnit}
 use Rattle.law_wire.specs.Serial.{ended}
 use Rattle.proof_notes.specs.Full.{NotesInFull}
+use Rattle.proof_ends.specs.Ends.{NotesOfEnds}
+use Rattle.proof_rests.specs.Undone.{LeavesNothing}
+use Rattle.law_time.specs.Waking.{FallsAsleep}
 use Rattle.proof_replay.proofs.replay.hosts_keep_laws.Goals as goal
 
 -- a law of runs, and of those that end at rest
@@ -19,10 +21,11 @@ by_whole Law start full part true here heard m run rests = full heard (m, subst 
 by_whole Law start full part false here heard m run rests = part heard (here, m, run)
 
 -- and one that needs that no tick is to come
-sleeps_by : (start : HostMachine) → ((heard : List Entry) (m : HostMachine) → Run start Resting heard m → m.left ≡ 0 → FallsAsleep true heard) → ((heard : List Entry) → Told start heard → FallsAsleep false heard)
-    → (whole : Bool) (here : Phase) (heard : List Entry) (m : HostMachine) → Run start here heard m → (whole ≡ true → (here ≡ Resting) × (m.left ≡ 0)) → FallsAsleep whole heard
-sleeps_by start full part true here heard m run rests = full heard m (subst (λ (p : Phase). Run start p heard m) (rests refl).0 run) (rests refl).1
-sleeps_by start full part false here heard m run rests = part heard (here, m, run)
+by_rest : (Law : Bool → List Entry → Type 0) (start : HostMachine) → ((heard : List Entry) (m : HostMachine) → Run start Resting heard m → m.left ≡ 0 → Law true heard)
+    → ((heard : List Entry) → Told start heard → Law false heard)
+    → (whole : Bool) (here : Phase) (heard : List Entry) (m : HostMachine) → Run start here heard m → (whole ≡ true → (here ≡ Resting) × (m.left ≡ 0)) → Law whole heard
+by_rest Law start full part true here heard m run rests = full heard m (subst (λ (p : Phase). Run start p heard m) (rests refl).0 run) (rests refl).1
+by_rest Law start full part false here heard m run rests = part heard (here, m, run)
 
 pub returns : goal.returns
 returns c = λ keys whole here heard m run rests fine link. record {
@@ -35,18 +38,25 @@ returns c = λ keys whole here heard m run rests fine link. record {
   unkept = c.hosts_say_what_is_not_kept.ensures keys heard (here, m, run);
   wakes = c.hosts_wake_as_told.ensures keys (Some []) heard (here, m, run);
   sleeps =
-      sleeps_by (first_alone keys (Some [])) (c.hosts_fall_asleep_as_told.ensures.whole keys) (c.hosts_fall_asleep_as_told.ensures.told keys) whole here heard m run rests;
+      by_rest (λ (b : Bool) (l : List Entry). FallsAsleep b l) (first_alone keys (Some [])) (c.hosts_fall_asleep_as_told.ensures.whole keys) (c.hosts_fall_asleep_as_told.ensures.told keys) whole here heard
+      m run rests;
   holds = c.hosts_hold_as_asked.ensures keys heard (here, m, run);
   questions = c.hosts_answer_questions.ensures keys heard (here, m, run);
   interviews = c.hosts_end_interviews.ensures keys heard (here, m, run);
   says_done = λ key same. c.hosts_say_how_done.ensures key heard (subst (λ (k : Keys). Told (first_alone k (Some [])) heard) same (here, m, run));
+  ends =
+      by_rest (λ (b : Bool) (l : List Entry). NotesOfEnds b l) (first_alone keys (Some [])) (c.hosts_note_ends.ensures.whole keys) (c.hosts_note_ends.ensures.told keys) whole here heard m run rests;
   one_by_one = (c.hosts_ask_one_by_one.ensures.told keys heard (here, m, run)).0;
   numbered = (c.hosts_ask_one_by_one.ensures.told keys heard (here, m, run)).1;
   begins =
       by_whole (λ (b : Bool) (l : List Entry). BeginsWithUnit (ended b l)) (first_alone keys (Some [])) (c.hosts_ask_one_by_one.ensures.whole keys)
       (λ (l : List Entry) told. (c.hosts_ask_one_by_one.ensures.told keys l told).2) whole here heard m run rests;
+  rests =
+      by_rest (λ (b : Bool) (l : List Entry). LeavesNothing b l) (first_alone keys (Some [])) (c.hosts_leave_nothing.ensures.whole keys) (c.hosts_leave_nothing.ensures.told keys) whole here heard m run rests;
   queues = λ none. c.hosts_fit_their_queue.ensures.told keys heard (here, m, run) none fine;
   ticks = c.hosts_tell_time.ensures.counts keys (Some []) heard (here, m, run);
   sends = λ key same. c.hosts_send_what_is_due.ensures.told key heard (subst (λ (k : Keys). Told (first_alone k (Some [])) heard) same (here, m, run));
+  seals_once = c.hosts_seal_once.ensures.told keys heard (here, m, run);
+  nonces = c.hosts_count_nonces.ensures.told keys heard (here, m, run);
   link = link;
 }

@@ -7,7 +7,8 @@ use Rattle.host_model.proofs.EventLists.{none_added}
 use Rattle.world_model.specs.State.{with_texts}
 use Rattle.run_replay.specs.Machine.{first_replay, lone_of}
 use Rattle.proof_asking.specs.proof_requests.proof_alone.State.{first_alone, host_machine}
-use Rattle.proof_asking.specs.proof_requests.proof_alone.Runs.Run.{Begins}
+use Rattle.proof_asking.specs.proof_requests.proof_alone.Careful.{Looked}
+use Rattle.proof_asking.proofs.Carefully.{starts}
 use Rattle.proof_asking.proofs.ForHost.{said_for_host}
 use Rattle.proof_replay.specs.Heard.{heard_of, lone_after}
 use Rattle.proof_replay.proofs.LineHeard.{first_rests, link_kept, obeys}
@@ -28,14 +29,15 @@ pub returns : goal.returns
 returns c = λ key records lines are.
     let m = lone_of (first_replay key) records in
     let obey = obeys c.hosts_obey_the_line.ensures.first c.hosts_obey_the_line.ensures.opened c.hosts_obey_the_line.ensures.each c.hosts_obey_the_line.ensures.units in
-    let (awaits, (held, (texts, tells, adds), run, line)) =
+    let (awaits, stage, (held, (texts, tells, adds), run, line)) =
     all_go (first_alone (keys_of key) (Some [])) (keys_of key) (Added records)
     (λ r h more (some, same, adds). (some ++ more, ap (λ (o : Option (List (List ℕ))). with_texts o more) same, more_added records r some more adds)) obey [] m lines are
-    (false, (Some [], ([], refl, none_added records), Begins, first_rests obey (keys_of key))) in
+    (false, Looked, (Some [], ([], refl, none_added records), starts (first_alone (keys_of key) (Some [])), first_rests obey (keys_of key))) in
     record {
       last = host_machine (keys_of key) held (lone_after m lines).host.state [] (lone_after m lines).clock 0 awaits;
       added = texts;
-      run = run;
+      run = run.run;
+      careful = run.careful;
       over = refl;
       for_host = said_for_host (heard_of m lines) (replayed_said m lines are);
       tells = tells;

@@ -1,0 +1,11 @@
+mod Payloads
+mod Queued
+mod Since
+mod Taking
+mod Walking
+mod Grounds
+mod Ordered
+mod Accounts
+mod Reports
+mod Opening
+mod Counting

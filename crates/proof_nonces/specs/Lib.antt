@@ -1,0 +1,4 @@
+pub mod Sealing
+pub mod Known
+pub mod Giving
+pub mod Counted

@@ -1,0 +1,46 @@
+//! For which nonces a host seals messages.
+
+ghost use Rattle.std.specs.Prelude.{Some, List, []};
+ghost use Rattle.s0_crypto.specs.declared.key_pair.Keys.{Keys};
+ghost use Rattle.device_sim.specs.State.{State};
+ghost use Rattle.zw_text.specs.declared.entry.Entry.{Entry};
+ghost use Rattle.world_model.specs.State.{first_machine};
+ghost use Rattle.world_lines.specs.Spoken.{Spoken, transcript_of};
+ghost use Rattle.world_lines.specs.Done.{AreDone};
+ghost use Rattle.proof_known.specs.law_host.Heard.{heard_by_host};
+ghost use Rattle.proof_known.specs.proof_alone.State.{HostMachine, first_alone};
+ghost use Rattle.proof_known.specs.proof_alone.Phases.{Phase};
+ghost use Rattle.proof_known.specs.proof_alone.Runs.{Run, Told};
+ghost use Rattle.proof_nonces.specs.Known.{KnowsSealing};
+ghost use Rattle.proof_nonces.specs.Sealing.{SealsOnce};
+
+use host_model::attempts_have_what_they_give;
+use proof_attempts::requests::hosts_ask_as_told;
+use proof_known::hosts_know_what_was_told;
+use proof_known::waking::alone::{lines_are_a_hosts, what_is_heard_is_a_hosts};
+use proof_messages::hosts_leave_nonces;
+
+/// In any run of a host alone, also where it starts again, over a keeper that tells its records and has none at first: each message that it asks its chip to
+/// send sealed is sealed, under eight bytes of the host's own, for a nonce that its node told in a payload that was judged after the host had last asked it for
+/// one, openly or sealed with the host's keys; and since then nothing else was sealed for the node. So no nonce serves twice, unless its node tells it again.
+pub fn hosts_seal_once()
+    ensures told { (keys : Keys) (told : List Entry) → Told (first_alone keys (Some [])) told → SealsOnce keys told }
+    ensures known { (keys : Keys) (here : Phase) (told : List Entry) (m : HostMachine) → Run (first_alone keys (Some [])) here told m → KnowsSealing keys here told m }
+{
+    attempts_have_what_they_give();
+    hosts_leave_nonces();
+    hosts_ask_as_told();
+    hosts_know_what_was_told();
+}
+
+/// So it is over any lines from the first on, the last of which an allocation failure may have cut short, over a keeper that tells its records and has none at
+/// first; and of what a host heard of them.
+pub fn lines_seal_once()
+    ensures { (keys : Keys) (devices : List State) (lines : List Spoken) → AreDone (first_machine keys (Some []) devices) lines →
+        SealsOnce keys (transcript_of (first_machine keys (Some []) devices) lines)
+        × SealsOnce keys (heard_by_host (transcript_of (first_machine keys (Some []) devices) lines)) }
+{
+    lines_are_a_hosts();
+    what_is_heard_is_a_hosts();
+    hosts_seal_once();
+}

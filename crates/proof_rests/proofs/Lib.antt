@@ -1,0 +1,8 @@
+mod Freeing
+mod Entries
+mod Counting
+mod Wanted
+mod Walking
+mod Interviewing
+mod AtRests
+mod Done
