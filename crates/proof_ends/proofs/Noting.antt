@@ -226,12 +226,15 @@ module _ (past : List Entry) (g : HostState) (nodes : NodesSo past g) where
       interviews_so : node_interviewed (request_last past) ≡ seconds_of p
       interviews_so = ap node_interviewed end.request ∙ purpose_interviews p id
 
-      -- of which nothing is noted
-      quiet_end : errands_of p ≡ [] → seconds_of p ≡ [] → told ≡ [] → Noted past told id p how
-      quiet_end errands seconds none = inr (none, (asks_so ∙ errands, interviews_so ∙ seconds))
-
       no_sleep : nodes_of p ≡ [] → sleep_notes past ≡ []
       no_sleep none = ap (λ (l : List ℕ). flat_map (sleep_note past) l) (end.tells_so ∙ none)
+
+      -- of which nothing is noted
+      quiet_by : errands_of p ≡ [] → seconds_of p ≡ [] → sleep_notes past ≡ [] → told ≡ [] → Noted past told id p how
+      quiet_by errands seconds sleeps none = inr (none, (asks_so ∙ errands, sleeps, interviews_so ∙ seconds))
+
+      quiet_end : errands_of p ≡ [] → seconds_of p ≡ [] → nodes_of p ≡ [] → told ≡ [] → Noted past told id p how
+      quiet_end errands seconds untold none = quiet_by errands seconds (no_sleep untold) none
 
       none_asked : errands_of p ≡ [] → DoneNotes past []
       none_asked errands = inl (asks_so ∙ errands, refl)
@@ -280,7 +283,10 @@ module _ (past : List Entry) (g : HostState) (nodes : NodesSo past g) where
 
     -- a node is told that there is no more for it
     told_by : (n : ℕ) (how : How) (fell : Bool) → EndOf past told id (Housekeeping (NoMore n)) how → falls_asleep (node_of g n) ≡ fell → told ≡ asleep_entry fell n → Noted past told id (Housekeeping (NoMore n)) how
-    told_by n how false end is are = quiet_end (Housekeeping (NoMore n)) how end refl refl are
+    told_by n how false end is are =
+        let sleeps : sleep_notes past ≡ [] =
+        ap (λ (l : List ℕ). flat_map (sleep_note past) l) end.tells_so ∙ ap (λ (l : List Entry). l ++ []) (sleep_is n end.well ∙ ap (λ (b : Bool). asleep_entry b n) is) in
+        quiet_by (Housekeeping (NoMore n)) how end refl refl sleeps are
     told_by n how true end is are =
         let p : Purpose = Housekeeping (NoMore n) in
         let sleeps : sleep_notes past ≡ entry.Asleep n ∷ [] =
@@ -316,8 +322,7 @@ module _ (past : List Entry) (g : HostState) (nodes : NodesSo past g) where
         let e = end.ends (entry.Neighbours n list) [] are in
         answered_end p how end (entry.Neighbours n list) are refl refl (λ (is : p ≡ Abort). let bad = is in cc)
         (inl (interviews_so p how end, sym (ap₂ (λ (q : List Request) (l : List Response). answer_to q l) end.request e.so.2)))
-    neighbours_end n (AtResponse (responses.SendData answer)) end are = quiet_end (Housekeeping (Neighbours n)) _ end refl refl are
-    neighbours_end n how end are = quiet_end (Housekeeping (Neighbours n)) how end refl refl are
+    neighbours_end n how end are = quiet_end (Housekeeping (Neighbours n)) how end refl refl refl are
 
     failed_end : (n : ℕ) (how : How) → EndOf past told id (Housekeeping (IsFailed n)) how → told ≡ failed_entry n how → Noted past told id (Housekeeping (IsFailed n)) how
     failed_end n (AtResponse (responses.IsFailedNode has_failed)) end are =
@@ -326,13 +331,13 @@ module _ (past : List Entry) (g : HostState) (nodes : NodesSo past g) where
         let e = end.ends (entry.Failed n has_failed) [] are in
         answered_end p how end (entry.Failed n has_failed) are refl refl (λ (is : p ≡ Abort). let bad = is in cc)
         (inl (interviews_so p how end, sym (ap₂ (λ (q : List Request) (l : List Response). answer_to q l) end.request e.so.2)))
-    failed_end n how end are = quiet_end (Housekeeping (IsFailed n)) how end refl refl are
+    failed_end n how end are = quiet_end (Housekeeping (IsFailed n)) how end refl refl refl are
 
     -- a part of an attempt
     attempt_by : (n : ℕ) (more : Bool) (payload : List ℕ) (how : How) (over : AttemptEnd) → EndOf past told id (Attempt n more payload) how → EndSo (node_of g n) over
         → told ≡ attempt_entries n over (open_command (node_of g n)) → Noted past told id (Attempt n more payload) how
-    attempt_by n more payload how NoneRan end so are = quiet_end (Attempt n more payload) how end refl refl are
-    attempt_by n more payload how Again end so are = quiet_end (Attempt n more payload) how end refl refl are
+    attempt_by n more payload how NoneRan end so are = quiet_end (Attempt n more payload) how end refl refl refl are
+    attempt_by n more payload how Again end so are = quiet_end (Attempt n more payload) how end refl refl refl are
     attempt_by n more payload how (Unanswered fell) end so are =
         let p : Purpose = Attempt n more payload in
         let gives : GivesUp past n told = gives_up_so told n fell end.well.0 so are in
@@ -353,8 +358,8 @@ module _ (past : List Entry) (g : HostState) (nodes : NodesSo past g) where
         )
 
     part_by : (n : ℕ) (more : Bool) (payload : List ℕ) (how : How) (part : PartEnd) → EndOf past told id (Attempt n more payload) how → told ≡ part_entries g n part → Noted past told id (Attempt n more payload) how
-    part_by n more payload how Good end are = quiet_end (Attempt n more payload) how end refl refl are
-    part_by n more payload how Passed_over end are = quiet_end (Attempt n more payload) how end refl refl are
+    part_by n more payload how Good end are = quiet_end (Attempt n more payload) how end refl refl refl are
+    part_by n more payload how Passed_over end are = quiet_end (Attempt n more payload) how end refl refl refl are
     part_by n more payload how Bad end are = attempt_by n more payload how (attempt_end (node_of g n)) end (attempt_so (node_of g n)) are
 
     pub end_noted : (p : Purpose) (how : How) → EndOf past told id p how → told ≡ end_entries g (record { purpose = p; how = how }) → Noted past told id p how
@@ -364,8 +369,8 @@ module _ (past : List Entry) (g : HostState) (nodes : NodesSo past g) where
     end_noted (Housekeeping (Second n)) how end are = second_end n how end are
     end_noted (Housekeeping (Neighbours n)) how end are = neighbours_end n how end are
     end_noted (Housekeeping (IsFailed n)) how end are = failed_end n how end are
-    end_noted (Housekeeping task) how end are = quiet_end (Housekeeping task) how end refl refl are
-    end_noted Abort how end are = quiet_end Abort how end refl refl are
+    end_noted (Housekeeping task) how end are = quiet_end (Housekeeping task) how end refl refl refl are
+    end_noted Abort how end are = quiet_end Abort how end refl refl refl are
 
     -- an interview whose information came, whether that is kept or not
     pub interview_noted : (n basic generic specific : ℕ) (classes : List ℕ) (capability : ℕ) → EndOf past told id (Housekeeping (Second n)) (AtUpdate (Received n basic generic specific classes) (Some capability))

@@ -34,7 +34,7 @@ use Rattle.law_transcript.specs.Lists.{EachAfter}
 use Rattle.law_transcript.specs.Restarts.{is_restart}
 use Rattle.law_time.specs.Moments.{clock, now_at}
 use Rattle.law_time.specs.Ends.{has_ended, is_given_up, is_silent}
-use Rattle.law_time.specs.Judged.{acknowledged}
+use Rattle.law_time.specs.Judged.{acknowledged, is_data}
 use Rattle.law_time.specs.Requests.{asked}
 use Rattle.law_time.specs.Sessions.{is_open}
 use Rattle.law_time.specs.Waking.{is_awake_sleeper}
@@ -64,7 +64,7 @@ use Rattle.host_model.specs.After.{after, failing_if, gives_up, line_ticked, req
 use Rattle.host_model.specs.Did.{after_all}
 use Rattle.host_model.specs.Ticking.{first_ticks, tick_events, ticking_nodes}
 use Rattle.host_model.specs.Events as happening
-use Rattle.host_model.specs.Events.{HostEvent, Hears, Requests_do, Interviews, Interview_unkept, Line_ticks, Node_ticks, Queues_no_more, Drops_no_more, Begins, Begin_unkept}
+use Rattle.host_model.specs.Events.{HostEvent, Requests_do, Interviews, Interview_unkept, Line_ticks, Node_ticks, Begins, Begin_unkept}
 use Rattle.host_model.specs.Outs.{answer_to, answers, copy_out, failing_entries, noted, outs, request_entries}
 use Rattle.host_model.specs.Taking.{InterviewEvents, told_requests}
 use Rattle.host_model.proofs.Submitted.{SleepersAre, next_is, no_more_is}
@@ -101,7 +101,7 @@ use Rattle.proof_attempts.proofs.Requested.{Unsubmitted}
 use Rattle.proof_attempts.proofs.Slept.{frame_tells}
 use Rattle.proof_attempts.proofs.Wrote.{Wrote, first_same, paused_old, writes}
 use Rattle.proof_attempts.proofs.Wrote.Wrote.{Quietly, Again, Anew}
-use Rattle.proof_ends.specs.Ends.{EndNotes, GiveUps, GivesUp, Reads, is_late, is_ticking, owes_end, owes_none, ticking_step}
+use Rattle.proof_ends.specs.Ends.{EndNotes, GiveUps, GivesUp, Reads, is_late, is_ticking, owes_end, owes_none, ticking_from, ticking_step}
 use Rattle.proof_ends.specs.Ends.GiveUps.{None_yet, One_more}
 use Rattle.proof_ends.specs.Ends.Reads.{Stands, Asks, Ends, Passes, Restarts, Refuses, Ticks, Ticks_late}
 use Rattle.proof_ends.proofs.Noting.{EndOf, IsLate, IsLoud, NodesSo, Noted, end_noted, interview_noted, late_so, loud_so, node_noted, owes_by}
@@ -204,37 +204,45 @@ as_known here is past m same known = subst (λ (p : Phase). KnowsReads p past m)
 
 -- what keeps the host's part of a tick to come
 abbrev KeepsTick : Entry → Type 0
-KeepsTick e = ticking_step true e ≡ true
+KeepsTick e = (past : List Entry) → ticking_step past true e ≡ true
+
+ticking_more : (start : List Entry) (ticking : Bool) (told : List Entry) (e : Entry) → ticking_from start ticking (told ++ e ∷ []) ≡ ticking_step (start ++ told) (ticking_from start ticking told) e
+ticking_more start ticking [] e = ap (λ (l : List Entry). ticking_step l ticking e) (sym (append-nil start))
+ticking_more start ticking (x ∷ told) e =
+    ticking_more (start ++ x ∷ []) (ticking_step start ticking x) told e ∙ ap (λ (l : List Entry). ticking_step l (ticking_from start ticking (x ∷ told)) e) (append_assoc start (x ∷ []) told)
+
+ticking_one : (past : List Entry) (e : Entry) → is_ticking (past ++ e ∷ []) ≡ ticking_step past (is_ticking past) e
+ticking_one past e = ticking_more [] false past e
 
 keeps_tick : (past told : List Entry) → AllByRecursion KeepsTick told → is_ticking past ≡ true → is_ticking (past ++ told) ≡ true
 keeps_tick past [] all is = ap is_ticking (append-nil past) ∙ is
 keeps_tick past (e ∷ told) all is =
     ap is_ticking (sym (append_assoc past (e ∷ []) told))
-    ∙ keeps_tick (past ++ e ∷ []) told all.1 (folded-append ticking_step false past (e ∷ []) ∙ ap (λ (b : Bool). ticking_step b e) is ∙ all.0)
+    ∙ keeps_tick (past ++ e ∷ []) told all.1 (ticking_one past e ∙ ap (λ (b : Bool). ticking_step past b e) is ∙ all.0 past)
 
 others_keep : (e : Entry) → IsOfOthers e → KeepsTick e
-others_keep (entry.Air frame sender receiver repeaters payload) others = refl
-others_keep (entry.Heard frame) others = refl
-others_keep (entry.Lost frame) others = refl
-others_keep (entry.Unheard frame) others = refl
-others_keep (entry.Dev node by setting) others = refl
-others_keep (entry.Device node setting) others = refl
-others_keep (entry.Forget first second) others = refl
-others_keep entry.ChipFull others = refl
-others_keep (entry.Cleared side count) others = refl
+others_keep (entry.Air frame sender receiver repeaters payload) others = λ past. refl
+others_keep (entry.Heard frame) others = λ past. refl
+others_keep (entry.Lost frame) others = λ past. refl
+others_keep (entry.Unheard frame) others = λ past. refl
+others_keep (entry.Dev node by setting) others = λ past. refl
+others_keep (entry.Device node setting) others = λ past. refl
+others_keep (entry.Forget first second) others = λ past. refl
+others_keep entry.ChipFull others = λ past. refl
+others_keep (entry.Cleared side count) others = λ past. refl
 others_keep e others = absurd others
 
 mark_keeps : (e : Entry) → IsOfUnit e → KeepsTick e
-mark_keeps (entry.Dropped Host) mark = refl
-mark_keeps (entry.Garbled Host unit) mark = refl
-mark_keeps (entry.Overrun Host) mark = refl
+mark_keeps (entry.Dropped Host) mark = λ past. refl
+mark_keeps (entry.Garbled Host unit) mark = λ past. refl
+mark_keeps (entry.Overrun Host) mark = λ past. refl
 mark_keeps e mark = absurd mark
 
 missed_keep : (text : List ℕ) (marks : List Entry) → DidNotCome marks → AllByRecursion KeepsTick (entry.Written Chip text ∷ marks)
-missed_keep text (entry.Dropped Chip ∷ []) did = (refl, (refl, tt))
-missed_keep text (entry.Overrun Chip ∷ []) did = (refl, (refl, tt))
-missed_keep text (entry.Garbled Chip unit ∷ []) did = (refl, (refl, tt))
-missed_keep text (entry.Garbled Chip unit ∷ entry.Overrun Chip ∷ []) did = (refl, (refl, (refl, tt)))
+missed_keep text (entry.Dropped Chip ∷ []) did = ((λ past. refl), ((λ past. refl), tt))
+missed_keep text (entry.Overrun Chip ∷ []) did = ((λ past. refl), ((λ past. refl), tt))
+missed_keep text (entry.Garbled Chip unit ∷ []) did = ((λ past. refl), ((λ past. refl), tt))
+missed_keep text (entry.Garbled Chip unit ∷ entry.Overrun Chip ∷ []) did = ((λ past. refl), ((λ past. refl), ((λ past. refl), tt)))
 missed_keep text marks did = absurd did
 
 -- entries of others, where no part of the host runs
@@ -585,7 +593,7 @@ module _ (shows : ShowsOpen) (first : HostEvent) (left : List HostEvent) (past t
     line_left turn = (failing_if (gives_up turn (turn_ticked turn)) (line_ticked m.state)).requests.under_way
 
     abbrev LineLeaves : Option UnderWay → Type 0
-    LineLeaves way = LateReads (is_none way) past told ⊎ (Reads (is_none way) (past ++ told) × AllByRecursion KeepsTick told)
+    LineLeaves way = LateReads (is_none way) past told ⊎ (Reads (is_none way) (past ++ told) × (is_ticking past ≡ true → is_ticking (past ++ told) ≡ true))
 
     copied_reads : (before : ℕ) → AreFrames m.came → TieAsked past before before m.came (doing_of m.state) → (f : FrameParts) (copies ticks : ℕ) → m.state.side.turn ≡ Paused f copies ticks
         → AreTold (line_outs m.state (Paused f copies ticks)) told → ReadsAt past m → LineLeaves (line_left (Paused f copies ticks))
@@ -601,7 +609,9 @@ module _ (shows : ShowsOpen) (first : HostEvent) (left : List HostEvent) (past t
             let old = paused_old (Ticking (first ∷ left)) past told m before frames tie f copies ticks turn_is in
             inr (
               unit_read (is_none m.state.requests.under_way) past told marks _ unit old is all nothing (owes_by past ground.0.1) reads,
-              subst (AllByRecursion KeepsTick) (sym are) (refl, all-weaker IsOfUnit KeepsTick mark_keeps marks all),
+              λ ticks. ap (λ (l : List Entry). is_ticking (past ++ l)) are ∙ ap is_ticking (sym (append_assoc past (entry.Written Host unit ∷ []) marks))
+                  ∙ keeps_tick (past ++ entry.Written Host unit ∷ []) marks (all-weaker IsOfUnit KeepsTick mark_keeps marks all)
+                  (ticking_one past (entry.Written Host unit) ∙ ap₂ (λ (a b : Bool). a && is_data unit && not b) ticks old),
             )
         by false is = inl (inl (reads, is))
 
@@ -638,7 +648,7 @@ module _ (shows : ShowsOpen) (first : HostEvent) (left : List HostEvent) (past t
         by : LineLeaves (line_left m.state.side.turn) → ReadsTick left (past ++ told) (done m Line_ticks)
         by (inl late) = made Line_ticks past told refl late (ticks_start fresh.0 fresh.1) numbered above (fresh_then told)
         by (inr (reads, keeps)) =
-            made Line_ticks (past ++ told) [] (sym (append-nil (past ++ told))) (inl (reads, refl)) (λ is. keeps_tick past told keeps (ticks_start fresh.0 fresh.1 is)) (λ is. refl) above (fresh_then [])
+            made Line_ticks (past ++ told) [] (sym (append-nil (past ++ told))) (inl (reads, refl)) (λ is. keeps (ticks_start fresh.0 fresh.1 is)) (λ is. refl) above (fresh_then [])
 
     -- the request's part: its wait ends
     silent_reads : (nodes : List HostEvent) → first ∷ left ≡ Requests_do request_ticks BeforeItsTick ∷ nodes → HalfTick past m → AreTold (outs m.state (Requests_do request_ticks BeforeItsTick)) told → ReadsAt past m
@@ -991,7 +1001,7 @@ module _ (shows : ShowsOpen) (walk : TellsWalk) where
     timed = past ++ entry.Time m.clock ∷ []
 
     timed_ticks : is_ticking timed ≡ true
-    timed_ticks = folded-append ticking_step false past (entry.Time m.clock ∷ [])
+    timed_ticks = ticking_one past (entry.Time m.clock)
 
     time_reads : (here : Phase) → KnowsSleep here past m → (OwesNoEnd past) → ReadsAt past m → ReadsAt timed m
     time_reads here ground owes reads =
@@ -1051,7 +1061,7 @@ module _ (shows : ShowsOpen) (walk : TellsWalk) where
       leads next here (past ++ e ∷ []) m may.3 (loose_goes here past (e ∷ []) m m may.0 refl refl (others_aside e may.1, tt) (others_keep e may.1, tt) (between_owes here past m may.0 ground.0.1) known)
   step_reads here next past m (Comes unit) may ground known =
       leads next here (past ++ entries m (Comes unit)) (happens m (Comes unit)) may.2
-      (loose_goes here past (entries m (Comes unit)) m (happens m (Comes unit)) may.0 refl refl ((refl, λ p. refl, λ p. refl, λ b. refl), tt) (refl, tt) (between_owes here past m may.0 ground.0.1) known)
+      (loose_goes here past (entries m (Comes unit)) m (happens m (Comes unit)) may.0 refl refl ((refl, λ p. refl, λ p. refl, λ b. refl), tt) ((λ p. refl), tt) (between_owes here past m may.0 ground.0.1) known)
   step_reads here next past m (Misses text marks) may ground known =
       leads next here (past ++ entry.Written Chip text ∷ marks) m may.3
       (loose_goes here past (entry.Written Chip text ∷ marks) m m may.0 refl refl (missed_aside text marks may.1) (missed_keep text marks may.1) (between_owes here past m may.0 ground.0.1) known)

@@ -9,7 +9,7 @@ use Rattle.zw_text.specs.declared.entry.Ended.TheVariants.{Unanswered}
 use Rattle.zw_text.specs.declared.entry.Refusal.{Refusal}
 use Rattle.zw_text.specs.declared.entry.Entry.{Entry}
 use Rattle.zw_text.specs.declared.entry.Entry.TheVariants.{Said, Refused, Written, Out, Asleep, Interviewed, InterviewFailed, Done, Neighbours, Failed, Unkept, Time}
-use Rattle.zw_text.specs.Transcript.{folded, line_last, line_of}
+use Rattle.zw_text.specs.Transcript.{line_last, line_of}
 use Rattle.law_transcript.specs.Restarts.{is_restart}
 use Rattle.law_transcript.specs.Units.{Carried, sending_in, sending_of}
 use Rattle.law_time.specs.Moments.{now_at}
@@ -68,9 +68,9 @@ pub record EndNotes (past notes : List Entry) : Type 0 where
   pub answer_so : AnswerNotes past answer
   pub outcome_so : OutcomeNotes past outcome
 
--- a request whose end in silence, or by the line, has nothing noted but of attempts and sleep
+-- a request of whose end there is nothing to note but that a command is given up; an answer to a question stands directly after it
 abbrev pub NotesNothing : List Entry → Type 0
-NotesNothing past = (nodes_asked past ≡ []) × (node_interviewed (request_last past) ≡ [])
+NotesNothing past = (nodes_asked past ≡ []) × (sleep_notes past ≡ []) × (node_interviewed (request_last past) ≡ [])
 
 -- ---- what stands beside
 
@@ -116,14 +116,18 @@ may_stand over past entry = not (is_of_end entry) && not (is_turn past entry) &&
 
 -- ---- in a tick
 
--- since the number of the tick the host has written copies at most: else there are entries of others and of the chip
-abbrev pub ticking_step : Bool → Entry → Bool
-ticking_step ticking (Time tick) = true
-ticking_step ticking (Written Host unit) = ticking && is_data unit
-ticking_step ticking entry = ticking && (is_of_outside entry || is_mark entry)
+-- since the number of the tick the host has written copies of its last request at most; else there are entries of others and of the chip
+abbrev pub ticking_step : List Entry → Bool → Entry → Bool
+ticking_step past ticking (Time tick) = true
+ticking_step past ticking (Written Host unit) = ticking && is_data unit && not (is_new (asked past) unit)
+ticking_step past ticking entry = ticking && (is_of_outside entry || is_mark entry)
+
+abbrev pub ticking_from : List Entry → Bool → List Entry → Bool
+ticking_from past ticking [] = ticking
+ticking_from past ticking (entry ∷ rest) = ticking_from (past ++ entry ∷ []) (ticking_step past ticking entry) rest
 
 abbrev pub is_ticking : List Entry → Bool
-is_ticking past = folded ticking_step false past
+is_ticking past = ticking_from [] false past
 
 -- the commands of nodes are given up one after another, in the order of the numbers of the nodes, up to this one
 pub data GiveUps (past : List Entry) : (last : ℕ) (notes : List Entry) → Type 0 where
