@@ -6,11 +6,14 @@
 //! The definitions are in `specs/`: `Sealing` and `Giving` (the laws), `Known` and `Counted` (what is known at each phase). `proofs/Payloads` has which payloads
 //! are of Security 0, `Queued` what waits to be asked, `Since` what stays with further entries, `Taking` where a nonce is taken, and `Walking` the walk over
 //! what is sealed. `Ordered` has lists in order, `Accounts` the nonces that are given and drawn, `Reports` those that are sent and wait, `Opening` what was
-//! judged and opened, and `Counting` the walk over them; `Grounds` is what both walks stand on.
+//! judged and opened, and `Counting` the walk over them; `Grounds` is what both walks stand on. `Standing` computes whether a question stands, for a rejected
+//! transcript (`rejected_seals`).
 #![tactic(auto)]
 
 mod giving;
 mod sealing;
+mod worked;
 
 pub use giving::{hosts_count_nonces, lines_count_nonces};
 pub use sealing::{hosts_seal_once, lines_seal_once};
+pub use worked::rejected_seals;
