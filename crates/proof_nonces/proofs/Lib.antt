@@ -9,3 +9,4 @@ mod Accounts
 mod Reports
 mod Opening
 mod Counting
+mod Standing
