@@ -3,6 +3,7 @@ pub mod Apart
 pub mod Flying
 pub mod Walking
 pub mod Listeners
+pub mod Unheard
 pub mod HeardCalls
 pub mod Outwards
 pub mod AttemptEnds
