@@ -181,7 +181,6 @@ frame_heard m drawn route may heard given later routed all =
 -- ---- the walk
 
 module _ (air : Airs) where
-
   module _ (few : Walk AsksNothing KnowFew) where
     does_all : (here next : Phase) (past : List Entry) (m : Machine) (event : Event) → Goes here m event next → May m event → IsHeardThen m event → IsStretched (past ++ entries m event) → KnowHeard here past m
         → Knows next (past ++ entries m event) (happens m event) × AllSayHeard (unheard (happens m event).outside.outer)
@@ -190,9 +189,11 @@ module _ (air : Airs) where
         let at = known before in
         let tied = at.0.tied before.quiet in
         let later = (few.event here next past m event goes may (λ stretched. at.0)).1 is in
-        let next_tied = later.tied is.quiet in
-        (later, event_says SaysHeard air answer_heard here next m event goes may (tied.0, tied.2, tied.3, tied.6)
-            (λ drawn route is given later_given. frame_heard m drawn route (subst (May m) is may) (subst (IsHeardThen m) is heard) given later_given tied.3 at.1) tied.1 at.1 next_tied.0)
+        let next_tied = later.tied is.quiet in (
+          later,
+          event_says SaysHeard air answer_heard here next m event goes may (tied.0, tied.2, tied.3, tied.6)
+              (λ drawn route is given later_given. frame_heard m drawn route (subst (May m) is may) (subst (IsHeardThen m) is heard) given later_given tied.3 at.1) tied.1 at.1 next_tied.0,
+        )
 
     pub heard_walk : WalkWhere IsHeardThen AsksNothing KnowHeard
     heard_walk = record {

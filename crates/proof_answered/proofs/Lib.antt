@@ -10,3 +10,5 @@ pub mod AttemptEnds
 pub mod FirstWalk
 pub mod TurnOrder
 pub mod Staffing
+pub mod Speaking
+pub mod Staffed

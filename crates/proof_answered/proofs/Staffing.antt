@@ -370,7 +370,7 @@ effect_sent these m (Outside_does (Cuts size)) is = tt
 effect_sent these m (Outside_does event) is = absurd is
 effect_sent these m event is = tt
 
-sent_on : (these : List Bool) (here next : Phase) (m : Machine) (event : Event) → Goes here m event next → May m event → LineAt here m → TieAt here m → KnowsWorkers these m.host.state → IsSentTo these m event
+pub sent_on : (these : List Bool) (here next : Phase) (m : Machine) (event : Event) → Goes here m event next → May m event → LineAt here m → TieAt here m → KnowsWorkers these m.host.state → IsSentTo these m event
 sent_on these (Said_line line) next m event (is, to) may line_at tie knows = sent_as these m event _ is tt
 sent_on these (Doing line (first ∷ left)) next m event (is, to) may line_at tie knows = sent_as these m event first is (effect_sent these m first line_at.0.0)
 sent_on these (To_tick (suc ticks)) next m event (is, to) may line_at tie knows = sent_as these m event _ is tt

@@ -248,4 +248,3 @@ module _ (Says : FrameParts → Type 0) where
         as_is next (Sleeping passes ticks) m event (Host_takes (length m.outside.outer.to_host.bytes) rest items done) is to
         (λ later. host_part_says air m rest items done b passes (may_is m event _ is may) at.0 all)
     event_says answer here next m event goes may at arrives awaits all = absurd goes
-
