@@ -82,7 +82,7 @@ none_wants false b c d e f g none wants = absurd (let no : false ≡ true = want
 still_wants : (n : NodeState) → IsStill n → wants_no_more n ≡ true → ⊥
 still_wants n still wants = none_wants n.awake (is_false n.listens) (is_some n.classes) (is_unasked n.no_more) (is_false (has_waiting n)) (is_idle n.series) (n.hold == 0) still.rests wants
 
-still_rests : Resting IsStill
+pub still_rests : Resting IsStill
 still_rests = record { ticks = tick_so IsStill still_so; works = λ n still. none_works n still.idle still.none_waits; wants = still_wants }
 
 -- ---- the request, of these nodes
