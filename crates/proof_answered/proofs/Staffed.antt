@@ -52,7 +52,7 @@ both_all p (x ∷ xs) ys all =
     and_both : (a b : Bool) → a ≡ true → b ≡ true → (a && b) ≡ true
     and_both a b one two = rw one two
 
-worked_before : (these : List Bool) (past told : List Entry) → IsWorkedFor these (past ++ told) → IsWorkedFor these past
+pub worked_before : (these : List Bool) (past told : List Entry) → IsWorkedFor these (past ++ told) → IsWorkedFor these past
 worked_before these past told is = record {
   stretched = stretched_before past told is.stretched;
   lines = (both_all (is_line_for these) (lines_run past) (lines_run told) (ap (λ (ls : List Line). list_all (is_line_for these) ls) (sym (shown-append line_of past told)) ∙ is.lines)).0;
