@@ -11,7 +11,7 @@ mod Opening
 mod SeriesSteps
 mod Finishing
 mod KeptAwake
-mod Doings
+pub mod Doings
 mod SeriesTold
 mod SeriesGoes
 mod SeriesTie
@@ -21,10 +21,10 @@ pub mod Requested
 pub mod Wrote
 mod Slept
 mod Owing
-mod Late
+pub mod Late
 mod Sleeping
 mod Asleep
-mod AttemptsGo
+pub mod AttemptsGo
 pub use Rattle.proof_work.proofs.Times
 pub use Rattle.proof_work.proofs.HostNotes
 pub use Rattle.proof_requests.proofs.Carried as proof_requests_Carried
@@ -41,3 +41,7 @@ pub use Rattle.proof_requests.proofs.proof_waking_Apart
 pub use Rattle.proof_requests.proofs.proof_waking_Settling
 pub use Rattle.proof_requests.proofs.Telling as proof_requests_Telling
 pub use Rattle.proof_requests.proofs.Running
+pub use Rattle.proof_requests.proofs.Ended as proof_requests_Ended
+pub use Rattle.proof_requests.proofs.Growing as proof_requests_Growing
+pub use Rattle.proof_requests.proofs.Standing as proof_requests_Standing
+pub use Rattle.proof_requests.proofs.Judging as proof_requests_Judging

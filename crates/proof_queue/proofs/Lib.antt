@@ -1,4 +1,4 @@
-mod Books
+pub mod Books
 mod Leaving
 mod Undropped
 mod Refused

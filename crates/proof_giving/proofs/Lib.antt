@@ -1,0 +1,5 @@
+mod Told
+mod Begun
+mod Asking
+mod Badly
+mod Stays

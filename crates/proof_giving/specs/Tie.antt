@@ -1,0 +1,76 @@
+-- The attempts of the series of a node, in a host alone and by its transcript (this project's own rule): as the transcript counts them while the request of the host is under way, and by
+-- how that ended once it has; whether that request is of them; and how many parts of the running one were sent, and
+-- that a text that it has still to send is sealed.
+use Rattle.std.specs.Prelude.{◌≡◌, ℕ, ◌≤◌, ◌==◌, ◌&&◌, is_none, map, Bool, true, false, Some, List}
+use Rattle.encap.specs.Opening.{begins_with}
+use Rattle.zw_words.specs.declared.side.Side.TheVariants.{Host}
+use Rattle.zw_text.specs.declared.entry.Entry.{Entry}
+use Rattle.zw_text.specs.declared.entry.Entry.TheVariants.{Written}
+use Rattle.law_time.specs.Attempts.{Attempts}
+use Rattle.law_time.specs.Ends.{is_abort_frame}
+use Rattle.law_time.specs.Heeds.{Heeds}
+use Rattle.law_time.specs.Judged.{acknowledged, is_data}
+use Rattle.law_time.specs.Queue.{queue_before}
+use Rattle.law_time.specs.Requests.{are_none, asked}
+use Rattle.host_requests.specs.declared.task.Purpose.{Purpose}
+use Rattle.host_requests.specs.declared.task.Purpose.TheVariants.{Attempt, Housekeeping, Abort}
+use Rattle.host_requests.specs.declared.under_way.UnderWay.{UnderWay}
+use Rattle.host_node.specs.State.{NodeState}
+use Rattle.host_node.specs.declared.series.Series.TheVariants.{Running}
+use Rattle.host_model.specs.State.{HostState, node_of}
+use Rattle.host_model.specs.Events.{HostEvent, Submits_abort, Submits_front, Starts, Gives_text, Gives_segment}
+use Rattle.proof_attempts.specs.Attempts.{AreAttempts, has_ended_badly}
+use Rattle.proof_attempts.specs.proof_requests.Asking.{Doing, HasEnded, WasAsked}
+use Rattle.proof_attempts.specs.proof_requests.Standing.{standing_of}
+use Rattle.proof_queue.specs.Waiting.{want_of_task}
+use Rattle.proof_giving.specs.Told.{attempts_so_far}
+
+-- a request is of an attempt of the node
+abbrev pub is_for : ℕ → Purpose → Bool
+is_for n (Attempt node more payload) = node == n
+is_for n purpose = false
+
+-- what waits where a request for this purpose is new: nothing where it is of an attempt, and something where it has waited
+abbrev pub WantsFit : Purpose → List (List ℕ) → Type 0
+WantsFit (Attempt node more payload) wants = wants ≡ []
+WantsFit (Housekeeping task) wants = are_none wants ≡ false
+WantsFit Abort wants = Unit {0}
+
+-- an event at which a request is submitted
+abbrev pub IsRequest : HostEvent → Type 0
+IsRequest Submits_abort = Unit {0}
+IsRequest Submits_front = Unit {0}
+IsRequest (Starts n plan more payload) = Unit {0}
+IsRequest (Gives_text n payload) = Unit {0}
+IsRequest (Gives_segment n more payload) = Unit {0}
+IsRequest event = ⊥
+
+-- the last request has ended badly by a time, once it is no longer under way
+abbrev pub is_badly_over : Heeds → ℕ → List Entry → HostState → ℕ → Bool
+is_badly_over heeds n past h now = is_none h.requests.under_way && has_ended_badly heeds past (asked past) now n
+
+-- of a running attempt something was sent, and of one that sends segments as many as were given; that has no text to seal
+pub record SentAs (told : Attempts) (node : NodeState) : Type 0 where
+  pub some : 1 ≤ told.sent
+  pub segments : 1 ≤ node.segments → (told.sent ≡ node.next_segment) × (node.text ≡ None) × (node.pending ≡ None)
+
+-- a frame, and none that is an abort
+abbrev pub IsNoAbort : List ℕ → Type 0
+IsNoAbort frame = (is_data frame ≡ true) × (is_abort_frame frame ≡ false)
+
+-- a node, looked at at its own time, and the request at that of the host
+pub record AttemptsSo (heeds : Heeds) (n : ℕ) (past : List Entry) (h : HostState) (time now : ℕ) : Type 0 where
+  pub are : AreAttempts (attempts_so_far heeds n past) (node_of h n) time (is_badly_over heeds n past h now)
+  pub own : (u : UnderWay) → h.requests.under_way ≡ Some u → (attempts_so_far heeds n past).own ≡ is_for n u.purpose
+  pub sent : (node_of h n).series ≡ Running → SentAs (attempts_so_far heeds n past) (node_of h n)
+  pub sends : (attempts_so_far heeds n past).own ≡ true → IsNoAbort (asked past).frame
+  pub text : (sealed : List ℕ) → (node_of h n).text ≡ Some sealed → begins_with sealed 0x98 0x81 ≡ true
+
+-- what waits by the transcript at a request is what waits in the host
+abbrev pub WaitsAsTold : Heeds → List Entry → HostState → Type 0
+WaitsAsTold heeds past h = (unit : List ℕ) → (queue_before heeds past (Written Host unit)).wants ≡ map want_of_task h.requests.queue
+
+-- the last request was asked, and has ended by the time that the line has counted to
+pub record IsOver (past : List Entry) (now : ℕ) (d : Doing) : Type 0 where
+  pub was : WasAsked past
+  pub ended : HasEnded (standing_of (asked past)) now (acknowledged past) d.leaving

@@ -1,0 +1,46 @@
+//! Whether the last request of a host has ended badly, by its transcript.
+
+ghost use Rattle.std.specs.Prelude.{◌≡◌, ◌≤◌, ◌++◌, Bool, false, true, None, List, [], ◌∷◌, ℕ};
+ghost use Rattle.std.specs.List.{AllByRecursion};
+ghost use Rattle.serial_frame.specs.Frame.{FrameParts};
+ghost use Rattle.serial_frame.specs.declared.unit.TheConstants.{ACK};
+ghost use Rattle.serial_frame.specs.declared.unit.Unit.{Unit as LineUnit};
+ghost use Rattle.serial_frame.specs.declared.unit.Unit.TheVariants.{Framed};
+ghost use Rattle.zw_words.specs.declared.side.Side.TheVariants.{Chip, Host};
+ghost use Rattle.zw_text.specs.declared.entry.Entry.{Entry};
+ghost use Rattle.zw_text.specs.declared.entry.Entry.TheVariants.{Said, Refused, Written};
+ghost use Rattle.zw_text.specs.declared.entry.Refusal.{Refusal};
+ghost use Rattle.zw_text.specs.Transcript.{line_of};
+ghost use Rattle.law_transcript.specs.Restarts.{is_restart};
+ghost use Rattle.law_time.specs.Attempts.{ends_badly};
+ghost use Rattle.law_time.specs.Ends.{is_abort_frame};
+ghost use Rattle.law_time.specs.Judged.{is_data};
+ghost use Rattle.law_time.specs.Moments.{clock};
+ghost use Rattle.law_time.specs.Requests.{asked, is_answer};
+ghost use Rattle.proof_attempts.specs.proof_requests.Asking.{Doing, TieAsked};
+ghost use Rattle.proof_attempts.specs.proof_requests.Standing.{IsAside, with_entries};
+ghost use Rattle.proof_attempts.specs.proof_requests.proof_alone.Steps.{IsOfUnit};
+ghost use Rattle.proof_attempts.specs.proof_requests.proof_waking.Judged.{TieFrames};
+ghost use Rattle.proof_giving.specs.Tie.{IsOver};
+
+/// A request that is no longer under way, and was asked, has ended. Whether it has badly stays so: by entries that its rules do not look at, the words of a
+/// line, also in vain; and later, after an answer of the chip, and after a frame that is acknowledged.
+pub fn bad_ends_stay()
+    ensures over { (past : List Entry) (line_now now : ℕ) (came : List LineUnit) (d : Doing) → TieAsked past line_now now came d → d.under_way ≡ None →
+        is_data (asked past).frame ≡ true → IsOver past line_now d }
+    ensures aside { (inner : Bool) (past : List Entry) (now : ℕ) (told : List Entry) → is_data (asked past).frame ≡ true →
+        asked (past ++ told) ≡ with_entries (asked past) told → AllByRecursion IsAside told →
+        ends_badly (asked (past ++ told)) inner now ≡ ends_badly (asked past) inner now }
+    ensures said { (inner : Bool) (past : List Entry) (now : ℕ) (words : List ℕ) → is_data (asked past).frame ≡ true →
+        is_restart (line_of (Said words)) ≡ false → ends_badly (asked (past ++ Said words ∷ [])) inner now ≡ ends_badly (asked past) inner now }
+    ensures in_vain { (inner : Bool) (past : List Entry) (now : ℕ) (words : List ℕ) (refusal : Refusal) → is_data (asked past).frame ≡ true →
+        ends_badly (asked (past ++ Said words ∷ (Refused refusal ∷ []))) inner now ≡ ends_badly (asked past) inner now }
+    ensures later { (inner : Bool) (past : List Entry) (now : ℕ) (d : Doing) → IsOver past now d → is_abort_frame (asked past).frame ≡ false →
+        (later : ℕ) → now ≤ later → ends_badly (asked past) inner later ≡ ends_badly (asked past) inner now }
+    ensures answered { (inner : Bool) (past : List Entry) (now : ℕ) (d : Doing) → IsOver past now d → is_abort_frame (asked past).frame ≡ false →
+        (unit : List ℕ) (came : List LineUnit) → is_answer unit ≡ true → clock past ≡ now → TieFrames past came →
+        ends_badly (asked (past ++ Written Chip unit ∷ [])) inner now ≡ ends_badly (asked past) inner now }
+    ensures judged { (inner : Bool) (past : List Entry) (now : ℕ) (d : Doing) → IsOver past now d → is_abort_frame (asked past).frame ≡ false →
+        (f : FrameParts) (rest : List LineUnit) (marks : List Entry) → AllByRecursion IsOfUnit marks → clock past ≡ now → TieFrames past (Framed f ∷ rest) →
+        ends_badly (asked (past ++ Written Host (ACK ∷ []) ∷ marks)) inner now ≡ ends_badly (asked past) inner now }
+{}
