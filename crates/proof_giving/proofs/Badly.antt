@@ -20,12 +20,12 @@ use Rattle.proof_attempts.specs.proof_requests.Standing.{Standing, ending_in, fa
 use Rattle.proof_attempts.proofs.proof_requests_Ended.{ended_answered, ended_copied, ended_judged, ended_later, frame_answered, gave_up}
 use Rattle.proof_attempts.proofs.Ending.{frame_ending, line_gives, silence_is}
 
-last_true : (a b c : Bool) → c ≡ true → (a || b || c) ≡ true
+pub last_true : (a b c : Bool) → c ≡ true → (a || b || c) ≡ true
 last_true true b c is = refl
 last_true false true c is = refl
 last_true false false c is = is
 
-mid_true : (a b c : Bool) → b ≡ true → (a || b || c) ≡ true
+pub mid_true : (a b c : Bool) → b ≡ true → (a || b || c) ≡ true
 mid_true true b c is = refl
 mid_true false true c is = refl
 mid_true false false c is = absurd (let bad : false ≡ true = is in cc)
@@ -51,18 +51,22 @@ module _ (inner : Bool) where
   badness s now count leaving (inl e) = is_bad_end e.one
   badness s now count leaving (inr other) = true
 
-  by_frame : (s : Standing) (now count : ℕ) (leaving : Leaving) (e : EndedByFrame s now count leaving) → badly_in s now ≡ is_bad_end e.one
-  by_frame s now count leaving e =
+  -- where a frame has ended it nothing else has
+  pub by_ending : (s : Standing) (now : ℕ) (one : Judging) → ending_in s ≡ one ∷ [] → badly_in s now ≡ is_bad_end one
+  by_ending s now one is =
       ap₂ (λ (a b : Bool). a || b)
-      (ap₂ (λ (a b : Bool). a || b) (ap (λ (l : List Judging). list_any is_bad_end l) (frame_ending s now count leaving e)) (ap (λ (l : List ℕ). list_any (λ tick. nat_le tick now) l) silent))
+      (ap₂ (λ (a b : Bool). a || b) (ap (λ (l : List Judging). list_any is_bad_end l) is) (ap (λ (l : List ℕ). list_any (λ tick. nat_le tick now) l) silent))
       (ap (λ (l : List ℕ). list_any (λ tick. nat_le tick now) l) given)
-      ∙ only_first (is_bad_end e.one)
+      ∙ only_first (is_bad_end one)
     where
       silent : silence_in s ≡ []
-      silent = ap (λ (l : List Judging). if are_none l then filter (λ wait. list_all (waits_before_failing wait) (failing_in s)) (wait_in s) else []) (frame_ending s now count leaving e)
+      silent = ap (λ (l : List Judging). if are_none l then filter (λ wait. list_all (waits_before_failing wait) (failing_in s)) (wait_in s) else []) is
 
       given : giving_up_in s ≡ []
-      given = ap (λ (l : List Judging). if are_none l && are_none (silence_in s) then flat_map (λ fails. fails.tick ∷ []) (failing_in s) else []) (frame_ending s now count leaving e)
+      given = ap (λ (l : List Judging). if are_none l && are_none (silence_in s) then flat_map (λ fails. fails.tick ∷ []) (failing_in s) else []) is
+
+  by_frame : (s : Standing) (now count : ℕ) (leaving : Leaving) (e : EndedByFrame s now count leaving) → badly_in s now ≡ is_bad_end e.one
+  by_frame s now count leaving e = by_ending s now e.one (frame_ending s now count leaving e)
 
   by_wait : (s : Standing) (now : ℕ) (leaving : Leaving) (e : EndedInSilence s now leaving) → badly_in s now ≡ true
   by_wait s now leaving e =

@@ -20,7 +20,7 @@ use Rattle.law_time.specs.Judged.{acknowledged, frames_come, is_data, judged, la
 use Rattle.law_time.specs.Moments.{clock}
 use Rattle.law_time.specs.Requests.{Answer, Asked, Judging, asked, is_answer}
 use Rattle.host_requests.specs.declared.under_way.UnderWay.{UnderWay}
-use Rattle.proof_attempts.specs.proof_requests.Asking.{Doing, TieAsked, TieUnderWay}
+use Rattle.proof_attempts.specs.proof_requests.Asking.{Doing, TieAsked, TieUnderWay, WasAsked}
 use Rattle.proof_attempts.specs.proof_requests.Standing.{IsAside, Standing, standing_of, with_answer, with_entries, with_judging}
 use Rattle.proof_attempts.specs.proof_requests.proof_alone.Steps.{IsOfUnit}
 use Rattle.proof_attempts.specs.proof_requests.proof_waking.Judged.{TieFrames, frames_of}
@@ -35,6 +35,24 @@ pub over_of : (past : List Entry) (line_now now : ℕ) (came : List LineUnit) (d
 over_of past line_now now came d (inl nothing) none framed = absurd (let bad : false ≡ true = sym (ap is_data nothing.unasked) ∙ framed in cc)
 over_of past line_now now came d (inr (was, asks)) none framed =
     record { was = was; ended = subst (TieUnderWay (standing_of (asked past)) line_now now (acknowledged past) d.turn d.id d.leaving) none asks.under_way }
+
+-- how it stands once a frame of the chip is acknowledged
+abbrev pub judging_of : List Entry → FrameParts → Judging
+judging_of past f = record { unit = unit_text (Framed f); tick = clock past; place = acknowledged past + 1 }
+
+pub judged_stands : (past : List Entry) (f : FrameParts) (rest : List LineUnit) (marks : List Entry) → AllByRecursion IsOfUnit marks → WasAsked past → TieFrames past (Framed f ∷ rest)
+    → standing_of (asked (past ++ entry.Written Host (ACK ∷ []) ∷ marks)) ≡ with_judging (standing_of (asked past)) (judging_of past f)
+judged_stands past f rest marks marked was frames =
+    let acked : List Entry = past ++ entry.Written Host (ACK ∷ []) ∷ [] in
+    let last = (acknowledged_frames past (Framed f ∷ rest) rest (unit_text (Framed f)) (ACK ∷ []) refl refl frames).last in
+    let on : asked acked ≡ with_entries (asked past) (entry.Written Host (ACK ∷ []) ∷ []) = asked_on past (entry.Written Host (ACK ∷ []) ∷ []) refl (refl, tt) in
+    let quiet : AllByRecursion IsQuiet marks = all-weaker IsOfUnit IsQuiet mark_quiet marks marked in
+    ap (λ (l : List Entry). standing_of (asked l)) (sym (append_assoc past (entry.Written Host (ACK ∷ []) ∷ []) marks))
+    ∙ ap standing_of (quiet_on acked marks quiet)
+    ∙ stands_aside (asked acked) marks (ap (λ (a : Asked). is_data a.frame) on ∙ was.framed) (quiet_asides marks quiet)
+    ∙ ap standing_of on
+    ∙ stands_judged (asked past) (unit_text (Framed f)) was.framed (ap (λ (l : List Entry). last_of (judged (l ++ entry.Written Host (ACK ∷ []) ∷ []))) was.whole ∙ last)
+    ∙ ap (λ (l : List Entry). with_judging (standing_of (asked past)) (record { unit = unit_text (Framed f); tick = clock l; place = acknowledged l + 1 })) was.whole
 
 module _ (inner : Bool) (past : List Entry) (now : ℕ) where
   abbrev Stays : List Entry → Type 0
@@ -77,14 +95,5 @@ module _ (inner : Bool) (past : List Entry) (now : ℕ) where
     pub stays_judged : (f : FrameParts) (rest : List LineUnit) (marks : List Entry) → AllByRecursion IsOfUnit marks → clock past ≡ now → TieFrames past (Framed f ∷ rest)
         → Stays (entry.Written Host (ACK ∷ []) ∷ marks)
     stays_judged f rest marks marked time frames =
-        let one : Judging = record { unit = unit_text (Framed f); tick = clock past; place = acknowledged past + 1 } in
-        let acked : List Entry = past ++ entry.Written Host (ACK ∷ []) ∷ [] in
-        let last = (acknowledged_frames past (Framed f ∷ rest) rest (unit_text (Framed f)) (ACK ∷ []) refl refl frames).last in
-        let on : asked acked ≡ with_entries (asked past) (entry.Written Host (ACK ∷ []) ∷ []) = asked_on past (entry.Written Host (ACK ∷ []) ∷ []) refl (refl, tt) in
-        let quiet : AllByRecursion IsQuiet marks = all-weaker IsOfUnit IsQuiet mark_quiet marks marked in
-        ap (λ (l : List Entry). ends_badly (asked l) inner now) (sym (append_assoc past (entry.Written Host (ACK ∷ []) ∷ []) marks))
-        ∙ ap (λ (a : Asked). ends_badly a inner now) (quiet_on acked marks quiet)
-        ∙ ap (λ (s : Standing). badly_in inner s now) (stands_aside (asked acked) marks (ap (λ (a : Asked). is_data a.frame) on ∙ over.was.framed) (quiet_asides marks quiet) ∙ ap standing_of on
-        ∙ stands_judged (asked past) (unit_text (Framed f)) over.was.framed (ap (λ (l : List Entry). last_of (judged (l ++ entry.Written Host (ACK ∷ []) ∷ []))) over.was.whole ∙ last)
-        ∙ ap (λ (l : List Entry). with_judging (standing_of (asked past)) (record { unit = unit_text (Framed f); tick = clock l; place = acknowledged l + 1 })) over.was.whole)
-        ∙ badly_judged inner (standing_of (asked past)) one now (acknowledged past) d.leaving frame time refl over.ended
+        ap (λ (s : Standing). badly_in inner s now) (judged_stands past f rest marks marked over.was frames)
+        ∙ badly_judged inner (standing_of (asked past)) (judging_of past f) now (acknowledged past) d.leaving frame time refl over.ended
