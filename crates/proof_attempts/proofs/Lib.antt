@@ -13,7 +13,7 @@ mod Finishing
 mod KeptAwake
 pub mod Doings
 mod SeriesTold
-mod SeriesGoes
+pub mod SeriesGoes
 mod SeriesTie
 mod Payloads
 mod Carried
@@ -45,3 +45,4 @@ pub use Rattle.proof_requests.proofs.Ended as proof_requests_Ended
 pub use Rattle.proof_requests.proofs.Growing as proof_requests_Growing
 pub use Rattle.proof_requests.proofs.Standing as proof_requests_Standing
 pub use Rattle.proof_requests.proofs.Judging as proof_requests_Judging
+pub use Rattle.proof_requests.proofs.EndsHere as proof_requests_EndsHere

@@ -1,8 +1,8 @@
 -- Whether the last request has ended badly, by how it stands: once it has ended that stays, later, after an answer of the chip, after a frame that is judged, and after a copy.
-use Rattle.std.proofs.Common.{◌≡◌, ℕ, ◌+◌, ◌≤◌, ◌==◌, ◌&&◌, ◌||◌, nat_le, Bool, true, false, if◌then◌else◌, inl, inr, length, List, [], ◌∷◌, ◌++◌, Option, Some, None, refl, sym, ap, ap₂, ◌∙◌, arith}
+use Rattle.std.proofs.Common.{◌≡◌, ℕ, ◌+◌, ◌≤◌, ◌==◌, ◌&&◌, ◌||◌, nat_le, nat_lt, Bool, true, false, if◌then◌else◌, inl, inr, length, List, [], ◌∷◌, ◌++◌, Option, Some, None, refl, sym, ap, ap₂, ◌∙◌, arith}
 use Rattle.std.specs.List.{AllByRecursion, flat_map, list_all, list_any}
 use Rattle.std.specs.Prelude.{filter}
-use Rattle.std.proofs.lemmas.Bool.{both_ways, le-leb, or_left}
+use Rattle.std.proofs.lemmas.Bool.{both_ways, le-leb, lt-ltb, or_left}
 use Rattle.serial_frame.specs.declared.unit.Unit.{Unit as LineUnit}
 use Rattle.chip_functions.specs.declared.notice.Notice.{Notice}
 use Rattle.zw_words.specs.declared.side.Side.TheVariants.{Host, Chip}
@@ -10,14 +10,15 @@ use Rattle.zw_text.specs.declared.entry.Entry.{Entry}
 use Rattle.zw_text.specs.declared.entry.Entry.TheVariants as entry
 use Rattle.law_transcript.specs.Units.{is_frame, notice_in}
 use Rattle.law_time.specs.Attempts.{ends_badly, is_bad}
-use Rattle.law_time.specs.Ends.{is_abort_frame, is_before_failing, waits_before_failing}
+use Rattle.law_time.specs.Ends.{is_abort_frame, is_before_failing, wait_by, waits_before_failing}
 use Rattle.law_time.specs.Judged.{acknowledged, frames_come, is_data}
 use Rattle.law_time.specs.Moments.{clock}
 use Rattle.law_time.specs.Requests.{Answer, Asked, Failing, Judging, are_none, asked, is_answer}
 use Rattle.host_requests.specs.declared.under_way.UnderWay.{UnderWay}
 use Rattle.proof_attempts.specs.proof_requests.Asking.{AsksSo, Doing, EndedByFrame, EndedByLine, EndedInSilence, HasEnded, Leaving, TieAsked, TieUnderWay, WasAsked}
-use Rattle.proof_attempts.specs.proof_requests.Standing.{Standing, ending_in, failing_in, first_ending, giving_up_in, sent_in, silence_in, standing_of, wait_in, with_answer, with_copy, with_judging}
-use Rattle.proof_attempts.proofs.proof_requests_Ended.{ended_answered, ended_copied, ended_judged, ended_later, frame_answered, gave_up}
+use Rattle.proof_attempts.specs.proof_requests.Standing.{Standing, ending_in, failing_in, first_ending, giving_up_in, sent_in, responses_in, silence_in, standing_of, wait_in, with_answer, with_copy, with_judging}
+use Rattle.proof_attempts.proofs.proof_requests_Ended.{copy_stands, frame_answered, frame_judged, gave_up, given_up_later, line_answered, line_judged, sent_copied, silence_answered, silence_judged}
+use Rattle.proof_attempts.proofs.proof_requests_Judging.{ending_kept}
 use Rattle.proof_attempts.proofs.Ending.{frame_ending, line_gives, silence_is}
 
 pub last_true : (a b c : Bool) → c ≡ true → (a || b || c) ≡ true
@@ -47,10 +48,6 @@ module _ (inner : Bool) where
 
   -- ---- by its end
 
-  abbrev pub badness : (s : Standing) (now count : ℕ) (leaving : Leaving) → HasEnded s now count leaving → Bool
-  badness s now count leaving (inl e) = is_bad_end e.one
-  badness s now count leaving (inr other) = true
-
   -- where a frame has ended it nothing else has
   pub by_ending : (s : Standing) (now : ℕ) (one : Judging) → ending_in s ≡ one ∷ [] → badly_in s now ≡ is_bad_end one
   by_ending s now one is =
@@ -79,63 +76,84 @@ module _ (inner : Bool) where
       last_true (list_any is_bad_end (ending_in s)) (list_any (λ tick. nat_le tick now) (silence_in s)) (list_any (λ tick. nat_le tick now) (giving_up_in s))
       (ap (λ (l : List ℕ). list_any (λ tick. nat_le tick now) l) (line_gives s now count leaving e gave.fails gave.failing) ∙ or_left (nat_le gave.fails.tick now) false (le-leb gave.fails.tick now gave.by_now))
 
-  pub badly_so : (s : Standing) (now count : ℕ) (leaving : Leaving) → is_abort_frame s.frame ≡ false → (h : HasEnded s now count leaving) → badly_in s now ≡ badness s now count leaving h
-  badly_so s now count leaving other (inl e) = by_frame s now count leaving e
-  badly_so s now count leaving other (inr (inl e)) = by_wait s now leaving e
-  badly_so s now count leaving other (inr (inr (inl e))) = by_line s now count leaving e
-  badly_so s now count leaving other (inr (inr (inr e))) = absurd (both_ways (is_abort_frame s.frame) other e.abort)
-
   -- ---- it stays
-
-  later_same : (s : Standing) (now later count more : ℕ) (leaving : Leaving) (time : now ≤ later) (judged : count ≤ more) (h : HasEnded s now count leaving)
-      → badness s later more leaving (ended_later s now later count more leaving time judged h) ≡ badness s now count leaving h
-  later_same s now later count more leaving time judged (inl e) = refl
-  later_same s now later count more leaving time judged (inr (inl e)) = refl
-  later_same s now later count more leaving time judged (inr (inr (inl e))) = refl
-  later_same s now later count more leaving time judged (inr (inr (inr e))) = refl
-
-  pub badly_later : (s : Standing) (now later count more : ℕ) (leaving : Leaving) → is_abort_frame s.frame ≡ false → now ≤ later → count ≤ more → HasEnded s now count leaving → badly_in s later ≡ badly_in s now
-  badly_later s now later count more leaving other time judged h =
-      badly_so s later more leaving other (ended_later s now later count more leaving time judged h) ∙ later_same s now later count more leaving time judged h ∙ sym (badly_so s now count leaving other h)
 
   same_first : (one other : Judging) (l : List Judging) → l ≡ one ∷ [] → l ≡ other ∷ [] → other ≡ one
   same_first one other l is also = let both : other ∷ [] ≡ one ∷ [] = sym also ∙ is in cc
 
-  answered_same : (s : Standing) (answer : Answer) (now count : ℕ) (leaving : Leaving) (tick : answer.tick ≡ now) (frames : count ≤ answer.frames) (h : HasEnded s now count leaving)
-      → badness (with_answer s answer) now count leaving (ended_answered s answer now count leaving tick frames h) ≡ badness s now count leaving h
-  answered_same s answer now count leaving tick frames (inl e) =
-      let later = frame_answered s answer now count leaving tick frames e in ap is_bad_end (same_first e.one later.one (first_ending s) e.first later.first)
-  answered_same s answer now count leaving tick frames (inr (inl e)) = refl
-  answered_same s answer now count leaving tick frames (inr (inr (inl e))) = refl
-  answered_same s answer now count leaving tick frames (inr (inr (inr e))) = refl
+  -- by the same frame, or by any other end
+  same_frame : (s t : Standing) (now later count more : ℕ) (leaving : Leaving) (e : EndedByFrame s now count leaving) (after : EndedByFrame t later more leaving) → first_ending t ≡ e.one ∷ []
+      → badly_in t later ≡ badly_in s now
+  same_frame s t now later count more leaving e after first =
+      by_frame t later more leaving after ∙ ap is_bad_end (same_first e.one after.one (first_ending t) first after.first) ∙ sym (by_frame s now count leaving e)
+
+  frame_later : (s : Standing) (now later count : ℕ) (leaving : Leaving) → now ≤ later → EndedByFrame s now count leaving → EndedByFrame s later count leaving
+  frame_later s now later count leaving time e = let by_now = e.by_now in record { paid = e.paid; one = e.one; brings = e.brings; first = e.first; by_now = omega (arith, by_now, time); judged = e.judged; waits = e.waits; stands = e.stands }
+
+  wait_later : (s : Standing) (now later : ℕ) (leaving : Leaving) → now ≤ later → EndedInSilence s now leaving → EndedInSilence s later leaving
+  wait_later s now later leaving time e = let by_now = e.by_now in record { tick = e.tick; owed = e.owed; nothing = e.nothing; wait = e.wait; by_now = omega (arith, by_now, time); late = e.late; stands = e.stands }
+
+  line_later : (s : Standing) (now later count : ℕ) (leaving : Leaving) → now ≤ later → EndedByLine s now count leaving → EndedByLine s later count leaving
+  line_later s now later count leaving time e =
+      record { paid = e.paid; nothing = e.nothing; given_up = given_up_later s now later count count time (omega arith) e.given_up; no_frame = e.no_frame; no_wait = e.no_wait }
+
+  pub badly_later : (s : Standing) (now later count : ℕ) (leaving : Leaving) → is_abort_frame s.frame ≡ false → now ≤ later → HasEnded s now count leaving → badly_in s later ≡ badly_in s now
+  badly_later s now later count leaving other time (inl e) = same_frame s s now later count count leaving e (frame_later s now later count leaving time e) e.first
+  badly_later s now later count leaving other time (inr (inl e)) = by_wait s later leaving (wait_later s now later leaving time e) ∙ sym (by_wait s now leaving e)
+  badly_later s now later count leaving other time (inr (inr (inl e))) = by_line s later count leaving (line_later s now later count leaving time e) ∙ sym (by_line s now count leaving e)
+  badly_later s now later count leaving other time (inr (inr (inr e))) = absurd (both_ways (is_abort_frame s.frame) other e.abort)
 
   pub badly_answered : (s : Standing) (answer : Answer) (now count : ℕ) (leaving : Leaving) → is_abort_frame s.frame ≡ false → answer.tick ≡ now → count ≤ answer.frames → HasEnded s now count leaving
       → badly_in (with_answer s answer) now ≡ badly_in s now
-  badly_answered s answer now count leaving other tick frames h =
-      badly_so (with_answer s answer) now count leaving other (ended_answered s answer now count leaving tick frames h) ∙ answered_same s answer now count leaving tick frames h
-      ∙ sym (badly_so s now count leaving other h)
-
-  judged_same : (s : Standing) (one : Judging) (now count : ℕ) (leaving : Leaving) (tick : one.tick ≡ now) (place : one.place ≡ count + 1) (h : HasEnded s now count leaving)
-      → badness (with_judging s one) now (count + 1) leaving (ended_judged s one now count leaving tick place h) ≡ badness s now count leaving h
-  judged_same s one now count leaving tick place (inl e) = refl
-  judged_same s one now count leaving tick place (inr (inl e)) = refl
-  judged_same s one now count leaving tick place (inr (inr (inl e))) = refl
-  judged_same s one now count leaving tick place (inr (inr (inr e))) = refl
+  badly_answered s answer now count leaving other tick frames (inl e) =
+      same_frame s (with_answer s answer) now now count count leaving e (frame_answered s answer now count leaving tick frames e) e.first
+  badly_answered s answer now count leaving other tick frames (inr (inl e)) = by_wait (with_answer s answer) now leaving (silence_answered s answer now leaving tick e) ∙ sym (by_wait s now leaving e)
+  badly_answered s answer now count leaving other tick frames (inr (inr (inl e))) =
+      by_line (with_answer s answer) now count leaving (line_answered s answer now count leaving tick e) ∙ sym (by_line s now count leaving e)
+  badly_answered s answer now count leaving other tick frames (inr (inr (inr e))) = absurd (both_ways (is_abort_frame s.frame) other e.abort)
 
   pub badly_judged : (s : Standing) (one : Judging) (now count : ℕ) (leaving : Leaving) → is_abort_frame s.frame ≡ false → one.tick ≡ now → one.place ≡ count + 1 → HasEnded s now count leaving
       → badly_in (with_judging s one) now ≡ badly_in s now
-  badly_judged s one now count leaving other tick place h =
-      badly_so (with_judging s one) now (count + 1) leaving other (ended_judged s one now count leaving tick place h) ∙ judged_same s one now count leaving tick place h
-      ∙ sym (badly_so s now count leaving other h)
+  badly_judged s one now count leaving other tick place (inl e) =
+      same_frame s (with_judging s one) now now count (count + 1) leaving e (frame_judged s one now count leaving tick e) (ending_kept s one e.one e.first)
+  badly_judged s one now count leaving other tick place (inr (inl e)) = by_wait (with_judging s one) now leaving (silence_judged s one now leaving tick e) ∙ sym (by_wait s now leaving e)
+  badly_judged s one now count leaving other tick place (inr (inr (inl e))) =
+      by_line (with_judging s one) now (count + 1) leaving (line_judged s one now count leaving tick place e) ∙ sym (by_line s now count leaving e)
+  badly_judged s one now count leaving other tick place (inr (inr (inr e))) = absurd (both_ways (is_abort_frame s.frame) other e.abort)
 
-  copied_same : (s : Standing) (now count : ℕ) (leaving : Leaving) (few : s.copies ≤ 3) (unsent : sent_in s ≡ []) (h : HasEnded s now count leaving)
-      → badness (with_copy s now) now count leaving (ended_copied s now count leaving few unsent h) ≡ badness s now count leaving h
-  copied_same s now count leaving few unsent (inl e) = refl
-  copied_same s now count leaving few unsent (inr (inl e)) = refl
-  copied_same s now count leaving few unsent (inr (inr (inl e))) = absurd (let four = e.given_up.0 in omega (arith, four, few))
-  copied_same s now count leaving few unsent (inr (inr (inr e))) = absurd (let bad : [] ≡ e.sent.tick ∷ [] = sym unsent ∙ e.sent.sent in cc)
-
+  -- a copy of one that was not acknowledged
   pub badly_copied : (s : Standing) (now count : ℕ) (leaving : Leaving) → is_abort_frame s.frame ≡ false → s.copies ≤ 3 → sent_in s ≡ [] → HasEnded s now count leaving
       → badly_in (with_copy s now) now ≡ badly_in s now
-  badly_copied s now count leaving other few unsent h =
-      badly_so (with_copy s now) now count leaving other (ended_copied s now count leaving few unsent h) ∙ copied_same s now count leaving few unsent h ∙ sym (badly_so s now count leaving other h)
+  badly_copied s now count leaving other few unsent ended = by ended
+    where
+      wait : wait_in (with_copy s now) ≡ wait_in s
+      wait = ap (λ (l : List ℕ). if is_abort_frame s.frame then [] else wait_by l (responses_in s)) (sent_copied s now ∙ sym unsent)
+
+      by : HasEnded s now count leaving → badly_in (with_copy s now) now ≡ badly_in s now
+      by (inl e) =
+          let by_now = e.by_now in
+          same_frame s (with_copy s now) now now count count leaving e
+          (record {
+            paid = e.paid;
+            one = e.one;
+            brings = e.brings;
+            first = e.first;
+            by_now = e.by_now;
+            judged = e.judged;
+            waits = ap (λ (l : List ℕ). list_all (nat_lt e.one.tick) l) wait ∙ e.waits;
+            stands = copy_stands s now (is_before_failing e.one) (or_left (nat_lt e.one.tick (now + 15)) false (lt-ltb e.one.tick (now + 15) (omega (arith, by_now))));
+          }) e.first
+      by (inr (inl e)) =
+          let by_now = e.by_now in
+          by_wait (with_copy s now) now leaving
+          (record {
+            tick = e.tick;
+            owed = e.owed;
+            nothing = e.nothing;
+            wait = wait ∙ e.wait;
+            by_now = e.by_now;
+            late = e.late;
+            stands = copy_stands s now (waits_before_failing e.tick) (or_left (nat_lt e.tick (now + 15)) false (lt-ltb e.tick (now + 15) (omega (arith, by_now))));
+          }) ∙ sym (by_wait s now leaving e)
+      by (inr (inr (inl e))) = absurd (let four = e.given_up.0 in omega (arith, four, few))
+      by (inr (inr (inr e))) = absurd (both_ways (is_abort_frame s.frame) other e.abort)

@@ -10,7 +10,7 @@ use Rattle.encap.specs.declared.plan.Ends.{Ends}
 use Rattle.encap.specs.declared.plan.Outer.{Outer}
 use Rattle.encap.specs.declared.plan.Outer.TheVariants.{None as no_outer, Crc16, Security, Transport}
 use Rattle.transport_segments.specs.Parts.{slice_at}
-use Rattle.transport_segments.specs.Segment.{crc, segment_text, with_check}
+use Rattle.transport_segments.specs.Segment.{segment_text, with_check}
 use Rattle.host_orders.specs.Wrapping.{ends_of, form_of, message_of}
 use Rattle.host_orders.specs.declared.carriage.Carriage.{Carriage}
 use Rattle.host_orders.specs.declared.carriage.Form.{Form}
@@ -57,17 +57,22 @@ message_begins carriage order session = checked_begins carriage.outer _ (address
 
 -- ---- segments
 
+goes_by : (bytes : List ℕ) → slice_index bytes 0 ≡ 85 → goes_on bytes ≡ (nat_le 0xE0 (slice_index bytes 1) && nat_lt (slice_index bytes 1) 0xE8)
+goes_by bytes first =
+    ap₂ (λ (b c : Bool). b || (c && nat_le 0xE0 (slice_index bytes 1) && nat_lt (slice_index bytes 1) 0xE8))
+    (second_false (nat_le 2 (length bytes)) (slice_index bytes 0 == 0x98) (slice_index bytes 1 == 0x81) (ap (λ (k : ℕ). k == 0x98) first)) (ap (λ (k : ℕ). k == 0x55) first)
+
 segment_goes : (id size offset : ℕ) (payload : List ℕ) → size ≤ 512 → goes_on (segment_text id size offset payload) ≡ not (offset == 0)
 segment_goes id size offset payload few = by (offset == 0)
   where
-    goes : (command : ℕ) (more : List ℕ) → goes_on (85 ∷ command ∷ more) ≡ (nat_le 0xE0 command && nat_lt command 0xE8)
-    goes command more =
-        ap (λ (b : Bool). b || (nat_le 0xE0 command && nat_lt command 0xE8)) (second_false (nat_le 2 (length (85 ∷ command ∷ more))) false (command == 0x81) refl)
-
     by : (b : Bool)
         → goes_on (with_check (if b then 85 ∷ (192 + size / 256) ∷ size % 256 ∷ id * 16 ∷ payload else 85 ∷ (224 + size / 256) ∷ size % 256 ∷ (id * 16 + offset / 256) ∷ offset % 256 ∷ payload)) ≡ not b
-    by true = goes (192 + size / 256) _ ∙ ap (λ (c : Bool). c && nat_lt (192 + size / 256) 0xE8) (lt-leb 0xE0 (192 + size / 256) (omega (arith, few)))
-    by false = goes (224 + size / 256) _ ∙ ap₂ (λ (c d : Bool). c && d) (le-leb 0xE0 (224 + size / 256) (omega arith)) (lt-ltb (224 + size / 256) 0xE8 (omega (arith, few)))
+    by true =
+        goes_by (with_check (85 ∷ (192 + size / 256) ∷ size % 256 ∷ id * 16 ∷ payload)) refl
+        ∙ ap (λ (c : Bool). c && nat_lt (192 + size / 256) 0xE8) (lt-leb 0xE0 (192 + size / 256) (omega (arith, few)))
+    by false =
+        goes_by (with_check (85 ∷ (224 + size / 256) ∷ size % 256 ∷ (id * 16 + offset / 256) ∷ offset % 256 ∷ payload)) refl
+        ∙ ap₂ (λ (c d : Bool). c && d) (le-leb 0xE0 (224 + size / 256) (omega arith)) (lt-ltb (224 + size / 256) 0xE8 (omega (arith, few)))
 
 -- ---- what an attempt begins with
 

@@ -3,3 +3,4 @@ mod Begun
 mod Asking
 mod Badly
 mod Stays
+mod EndsSo

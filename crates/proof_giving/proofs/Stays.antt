@@ -76,7 +76,7 @@ module _ (inner : Bool) (past : List Entry) (now : ℕ) where
 
   module _ (d : Doing) (over : IsOver past now d) (frame : is_abort_frame (asked past).frame ≡ false) where
     pub stays_later : (later : ℕ) → now ≤ later → ends_badly (asked past) inner later ≡ ends_badly (asked past) inner now
-    stays_later later time = badly_later inner (standing_of (asked past)) now later (acknowledged past) (acknowledged past) d.leaving frame time (omega arith) over.ended
+    stays_later later time = badly_later inner (standing_of (asked past)) now later (acknowledged past) d.leaving frame time over.ended
 
     -- an answer of the chip
     pub stays_answered : (unit : List ℕ) (came : List LineUnit) → is_answer unit ≡ true → clock past ≡ now → TieFrames past came → Stays (entry.Written Chip unit ∷ [])

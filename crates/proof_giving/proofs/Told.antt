@@ -136,7 +136,7 @@ module _ (taken : List Entry → Carried → List Told) where
   asks_ahead past s [] = refl
   asks_ahead past s (e ∷ told) = asks_ahead (past ++ e ∷ []) (both_step past s e told) told
 
-  first : ℕ → Both
+  abbrev first : ℕ → Both
   first n = record { asks = no_requests; attempts = no_attempts n }
 
   so_far : (n : ℕ) (past : List Entry) → ahead_from both_step same_both [] (first n) past ≡ record { asks = requests heeds past; attempts = attempts_so_far heeds n past }

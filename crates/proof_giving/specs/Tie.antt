@@ -1,7 +1,7 @@
 -- The attempts of the series of a node, in a host alone and by its transcript (this project's own rule): as the transcript counts them while the request of the host is under way, and by
 -- how that ended once it has; whether that request is of them; and how many parts of the running one were sent, and
 -- that a text that it has still to send is sealed.
-use Rattle.std.specs.Prelude.{◌≡◌, ℕ, ◌≤◌, ◌==◌, ◌&&◌, is_none, map, Bool, true, false, Some, List}
+use Rattle.std.specs.Prelude.{◌≡◌, ℕ, ◌≤◌, ◌==◌, ◌&&◌, is_none, map, Bool, true, false, Some, None, List, []}
 use Rattle.encap.specs.Opening.{begins_with}
 use Rattle.zw_words.specs.declared.side.Side.TheVariants.{Host}
 use Rattle.zw_text.specs.declared.entry.Entry.{Entry}
@@ -17,6 +17,7 @@ use Rattle.host_requests.specs.declared.task.Purpose.TheVariants.{Attempt, House
 use Rattle.host_requests.specs.declared.under_way.UnderWay.{UnderWay}
 use Rattle.host_node.specs.State.{NodeState}
 use Rattle.host_node.specs.declared.series.Series.TheVariants.{Running}
+use Rattle.host_model.specs.Ends.{PartEnd, Good, Passed_over, Bad}
 use Rattle.host_model.specs.State.{HostState, node_of}
 use Rattle.host_model.specs.Events.{HostEvent, Submits_abort, Submits_front, Starts, Gives_text, Gives_segment}
 use Rattle.proof_attempts.specs.Attempts.{AreAttempts, has_ended_badly}
@@ -29,6 +30,12 @@ use Rattle.proof_giving.specs.Told.{attempts_so_far}
 abbrev pub is_for : ℕ → Purpose → Bool
 is_for n (Attempt node more payload) = node == n
 is_for n purpose = false
+
+-- the end of a part of an attempt that ends the attempt
+abbrev pub is_bad_part : PartEnd → Bool
+is_bad_part Good = false
+is_bad_part Passed_over = false
+is_bad_part Bad = true
 
 -- what waits where a request for this purpose is new: nothing where it is of an attempt, and something where it has waited
 abbrev pub WantsFit : Purpose → List (List ℕ) → Type 0

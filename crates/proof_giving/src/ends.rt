@@ -17,11 +17,17 @@ ghost use Rattle.law_time.specs.Ends.{is_abort_frame};
 ghost use Rattle.law_time.specs.Judged.{is_data};
 ghost use Rattle.law_time.specs.Moments.{clock};
 ghost use Rattle.law_time.specs.Requests.{asked, is_answer};
-ghost use Rattle.proof_attempts.specs.proof_requests.Asking.{Doing, TieAsked};
-ghost use Rattle.proof_attempts.specs.proof_requests.Standing.{IsAside, with_entries};
+ghost use Rattle.host_requests.specs.declared.end.How.{How};
+ghost use Rattle.host_requests.specs.declared.end.How.TheVariants.{LinkFailed, Silent};
+ghost use Rattle.host_requests.specs.declared.task.Purpose.{Purpose};
+ghost use Rattle.host_requests.specs.declared.task.Purpose.TheVariants.{Attempt};
+ghost use Rattle.host_model.specs.Ends.{part_end};
+ghost use Rattle.proof_attempts.specs.proof_requests.Asking.{Doing, TieAsked, WasAsked};
+ghost use Rattle.proof_attempts.specs.proof_requests.Ends.{EndsHere};
+ghost use Rattle.proof_attempts.specs.proof_requests.Standing.{IsAside, first_ending, standing_of, with_entries};
 ghost use Rattle.proof_attempts.specs.proof_requests.proof_alone.Steps.{IsOfUnit};
 ghost use Rattle.proof_attempts.specs.proof_requests.proof_waking.Judged.{TieFrames};
-ghost use Rattle.proof_giving.specs.Tie.{IsOver};
+ghost use Rattle.proof_giving.specs.Tie.{IsOver, is_bad_part};
 
 /// A request that is no longer under way, and was asked, has ended. Whether it has badly stays so: by entries that its rules do not look at, the words of a
 /// line, also in vain; and later, after an answer of the chip, and after a frame that is acknowledged.
@@ -43,4 +49,17 @@ pub fn bad_ends_stay()
     ensures judged { (inner : Bool) (past : List Entry) (now : ℕ) (d : Doing) → IsOver past now d → is_abort_frame (asked past).frame ≡ false →
         (f : FrameParts) (rest : List LineUnit) (marks : List Entry) → AllByRecursion IsOfUnit marks → clock past ≡ now → TieFrames past (Framed f ∷ rest) →
         ends_badly (asked (past ++ Written Host (ACK ∷ []) ∷ marks)) inner now ≡ ends_badly (asked past) inner now }
+{}
+
+/// Where the request of an attempt ends in the host it ends by its transcript, and badly there just where that end is bad for the attempt in the host: by a
+/// frame that is judged, which leaves one of a segment that others follow where that was not heard; in silence; and where the line gives it up.
+pub fn attempts_end_badly_as_told()
+    ensures frame { (past marks : List Entry) (f : FrameParts) (rest : List LineUnit) (now n id : ℕ) (more : Bool) (payload : List ℕ) (how : How) →
+        AllByRecursion IsOfUnit marks → TieFrames past (Framed f ∷ rest) → WasAsked past → first_ending (standing_of (asked past)) ≡ [] →
+        clock (past ++ Written Host (ACK ∷ []) ∷ marks) ≡ now → EndsHere (past ++ Written Host (ACK ∷ []) ∷ marks) id (Attempt n more payload) how →
+        ends_badly (asked (past ++ Written Host (ACK ∷ []) ∷ marks)) more now ≡ is_bad_part (part_end more how) }
+    ensures silent { (inner : Bool) (past : List Entry) (now id : ℕ) (purpose : Purpose) → clock past ≡ now → EndsHere past id purpose Silent →
+        ends_badly (asked past) inner now ≡ true }
+    ensures given_up { (inner : Bool) (past : List Entry) (now id : ℕ) (purpose : Purpose) → clock past ≡ now → EndsHere past id purpose LinkFailed →
+        ends_badly (asked past) inner now ≡ true }
 {}

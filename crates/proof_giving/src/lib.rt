@@ -3,9 +3,10 @@
 //! A transcript tells of each node how many attempts of its series have begun, what the last one has sent, and when that is over (`Attempts` of `law_time`):
 //! the attempts of several nodes are those of each, and grow entry by entry (`attempts_grow_by_entries`). They are tied to the node of the host while its
 //! request is under way, and by how that ended once it has: a request that is submitted is of an attempt of the node that is served, and of no other
-//! (`attempts_go_with_requests`); and whether the last request has ended badly stays as it is once it has ended (`bad_ends_stay`).
+//! (`attempts_go_with_requests`). That ends badly by the transcript just where its end is bad for the attempt in the host (`attempts_end_badly_as_told`), and
+//! whether it has stays as it is (`bad_ends_stay`).
 //! The definitions are in `specs/`: `Told` (the attempts of one node) and `Tie`. `proofs/Told` has how they grow, `Begun` which payloads go on with an
-//! attempt, `Asking` requests, and `Badly` how requests end.
+//! attempt, `Asking` requests, `Badly` whether one has ended badly by how it stands, `Stays` that it stays so, and `EndsSo` its end.
 #![tactic(auto)]
 
 mod attempts;
@@ -13,5 +14,5 @@ mod ends;
 mod requests;
 
 pub use attempts::attempts_grow_by_entries;
-pub use ends::bad_ends_stay;
+pub use ends::{attempts_end_badly_as_told, bad_ends_stay};
 pub use requests::attempts_go_with_requests;
