@@ -62,7 +62,7 @@ use Rattle.proof_attempts.specs.Attempts.{AreAttempts, has_ended_badly, is_over_
 use Rattle.proof_queue.specs.Waiting.{want_of_task}
 use Rattle.proof_queue.proofs.Books.{last_is}
 use Rattle.proof_giving.specs.Told.{LeavesAttempts, attempts_so_far}
-use Rattle.proof_giving.specs.Tie.{AttemptsSo, IsNoAbort, IsRequest, SentAs, WaitsAsTold, WantsFit, is_badly_over, is_for}
+use Rattle.proof_giving.specs.Tie.{AttemptsSo, IsNoAbort, IsRequest, NodeSo, SentAs, WaitsAsTold, WantsFit, is_badly_over, is_for}
 use Rattle.proof_giving.proofs.Told.{attempts_asked, attempts_left, node_is}
 use Rattle.proof_giving.proofs.Begun.{sealed_goes, segments_go, starts_begin}
 
@@ -96,15 +96,20 @@ over_as heeds n past last now told of =
 
 -- ---- nodes
 
--- what it makes of them, and of the node, where it is of an attempt of that or not
-record Asks (told : Attempts) (node : NodeState) (now : ℕ) : Type 0 where
-  are : AreAttempts told node now false
-  sent : node.series ≡ Running → SentAs told node
-  text : (sealed : List ℕ) → node.text ≡ Some sealed → begins_with sealed 0x98 0x81 ≡ true
+module _ (told : Attempts) (s : NodeState) (now : ℕ) (badly : Bool) (unit : List ℕ) (facts : NodeFacts s) (so : NodeSo told s now badly) where
+  are : AreAttempts told s now badly
+  are = so.are
 
-module _ (told : Attempts) (s : NodeState) (now : ℕ) (badly : Bool) (unit : List ℕ) (facts : NodeFacts s) (are : AreAttempts told s now badly) (sent : s.series ≡ Running → SentAs told s)
-    (text : (sealed : List ℕ) → s.text ≡ Some sealed → begins_with sealed 0x98 0x81 ≡ true) where
-  other_so : Asks (attempts_by_request false (is_over_by now badly told) unit told) s now
+  sent : s.series ≡ Running → SentAs told s
+  sent = so.sent
+
+  text : (sealed : List ℕ) → s.text ≡ Some sealed → begins_with sealed 0x98 0x81 ≡ true
+  text = so.text
+
+  abbrev Asks : Attempts → NodeState → Type 0
+  Asks told node = NodeSo told node now false
+
+  other_so : Asks (attempts_by_request false (is_over_by now badly told) unit told) s
   other_so = record {
     are = other_asked told s now badly false unit are;
     sent = λ is. let was = sent is in record { some = was.some; segments = was.segments };
@@ -126,7 +131,7 @@ module _ (told : Attempts) (s : NodeState) (now : ℕ) (badly : Bool) (unit : Li
 
   -- one that is due begins
   begins_so : (plan : Plan) → s.series ≡ Due → list_any (λ (carried : Carried). goes_on carried.payload) (sending_in unit) ≡ false
-      → Asks (attempts_by_request true (is_over_by now badly told) unit told) (after_start s plan) now
+      → Asks (attempts_by_request true (is_over_by now badly told) unit told) (after_start s plan)
   begins_so plan due first =
       record {
         are = begins told s now badly (is_over_by now badly told) unit plan are due (no_wait s.series refl due facts.series) first;
@@ -160,7 +165,7 @@ module _ (told : Attempts) (s : NodeState) (now : ℕ) (badly : Bool) (unit : Li
   further_is more = ap (λ (b : Bool). if b then record told { sent = told.sent + 1; own = true; ready = [] } else record (anew told) { begun = told.begun + 1; sent = 1; own = true }) more
 
   segment_so : s.series ≡ Running → 1 ≤ s.segments → list_any (λ (carried : Carried). goes_on carried.payload) (sending_in unit) ≡ true
-      → Asks (attempts_by_request true (is_over_by now badly told) unit told) (after_segment s) now
+      → Asks (attempts_by_request true (is_over_by now badly told) unit told) (after_segment s)
   segment_so runs some more =
       let was = (sent runs).segments some in
       let least = (sent runs).some in
@@ -171,7 +176,7 @@ module _ (told : Attempts) (s : NodeState) (now : ℕ) (badly : Bool) (unit : Li
       }
 
   text_so : s.series ≡ Running → (sealed : List ℕ) → s.text ≡ Some sealed → list_any (λ (carried : Carried). goes_on carried.payload) (sending_in unit) ≡ true
-      → Asks (attempts_by_request true (is_over_by now badly told) unit told) (after_text s) now
+      → Asks (attempts_by_request true (is_over_by now badly told) unit told) (after_text s)
   text_so runs sealed has more =
       let least = (sent runs).some in
       record {
@@ -248,7 +253,7 @@ module _ (taken : List Entry → Carried → List Told) (past told : List Entry)
     -- a request for this purpose is submitted, and the node does this at it
     submits : (event : HostEvent) (purpose : Purpose) → IsFree m.state → outs m.state event ≡ Write (Framed (frame_of purpose id)) ∷ [] → ReadsAs m.state purpose
         → WantsFit purpose (map want_of_task m.state.requests.queue) → (after m.state event).requests.under_way ≡ Some (record { purpose = purpose; progress = Submitted }) → AreTold (outs m.state event) told
-        → Asks (asked_by (is_for n purpose) purpose) (node_of (after m.state event) n) m.clock → AttemptsSo heeds n (past ++ told) (after m.state event) m.clock m.clock
+        → NodeSo (asked_by (is_for n purpose) purpose) (node_of (after m.state event) n) m.clock false → AttemptsSo heeds n (past ++ told) (after m.state event) m.clock m.clock
     submits event purpose free puts read fits under_way are goes =
         let f : FrameParts = frame_of purpose id in
         let unit : List ℕ = unit_text (Framed f) in
@@ -275,14 +280,12 @@ module _ (taken : List Entry → Carried → List Told) (past told : List Entry)
         let none : is_badly_over heeds n (past ++ told) (after m.state event) m.clock ≡ false
         = ap (λ (o : Option UnderWay). is_none o && has_ended_badly heeds (past ++ told) (asked (past ++ told)) m.clock n) under_way in
         record {
-          are = subst (λ (b : Bool). AreAttempts (attempts_so_far heeds n (past ++ told)) (node_of (after m.state event) n) m.clock b) (sym none)
-              (subst (λ (a : Attempts). AreAttempts a (node_of (after m.state event) n) m.clock false) (sym later) goes.are);
+          node = subst (λ (b : Bool). NodeSo (attempts_so_far heeds n (past ++ told)) (node_of (after m.state event) n) m.clock b) (sym none)
+              (subst (λ (a : Attempts). NodeSo a (node_of (after m.state event) n) m.clock false) (sym later) goes);
           own = λ u is.
               ap (λ (a : Attempts). a.own) later ∙ own_by (is_for n purpose) (is_over_by m.clock badly now) unit now
               ∙ ap (λ (p : Purpose). is_for n p) (sym (same_purpose purpose u (sym under_way ∙ is)));
-          sent = λ is. subst (λ (a : Attempts). SentAs a (node_of (after m.state event) n)) (sym later) (goes.sent is);
           sends = λ own. subst IsNoAbort (sym frame) (refl, no_abort purpose read (sym (ap (λ (a : Attempts). a.own) later ∙ own_by (is_for n purpose) (is_over_by m.clock badly now) unit now) ∙ own));
-          text = goes.text;
         }
 
     abbrev Goes : HostEvent → Type 0
@@ -291,20 +294,20 @@ module _ (taken : List Entry → Carried → List Told) (past told : List Entry)
     facts : NodeFacts s
     facts = ground.0.0.0.0.0.facts.host.nodes.facts n
 
-    unchanged : (event : HostEvent) (purpose : Purpose) → did m.state event ≡ [] → Asks (asked_by false purpose) (node_of (after m.state event) n) m.clock
+    unchanged : (event : HostEvent) (purpose : Purpose) → did m.state event ≡ [] → NodeSo (asked_by false purpose) (node_of (after m.state event) n) m.clock false
     unchanged event purpose none =
-        subst (λ (t : NodeState). Asks (asked_by false purpose) t m.clock) (sym (node_after m.state event n to ∙ ap (λ (l : List _). does_at n s l) none))
-        (other_so now s m.clock badly (unit_of purpose) facts so.are so.sent so.text)
+        subst (λ (t : NodeState). NodeSo (asked_by false purpose) t m.clock false) (sym (node_after m.state event n to ∙ ap (λ (l : List _). does_at n s l) none))
+        (other_so now s m.clock badly (unit_of purpose) facts so.node)
 
     -- by whether the node is the one that is served
     part : (event : HostEvent) (k : ℕ) (more : Bool) (payload : List ℕ) (served : NodeState) → node_of (after m.state event) n ≡ (if k == n then served else s)
-        → ((k == n) ≡ true → Asks (asked_by true (Attempt k more payload)) served m.clock) → Asks (asked_by (k == n) (Attempt k more payload)) (node_of (after m.state event) n) m.clock
+        → ((k == n) ≡ true → NodeSo (asked_by true (Attempt k more payload)) served m.clock false) → NodeSo (asked_by (k == n) (Attempt k more payload)) (node_of (after m.state event) n) m.clock false
     part event k more payload served node own =
-        subst (λ (t : NodeState). Asks (asked_by (k == n) (Attempt k more payload)) t m.clock) (sym node) (by (k == n) refl)
+        subst (λ (t : NodeState). NodeSo (asked_by (k == n) (Attempt k more payload)) t m.clock false) (sym node) (by (k == n) refl)
       where
-        by : (b : Bool) → (k == n) ≡ b → Asks (asked_by b (Attempt k more payload)) (if b then served else s) m.clock
+        by : (b : Bool) → (k == n) ≡ b → NodeSo (asked_by b (Attempt k more payload)) (if b then served else s) m.clock false
         by true is = own is
-        by false is = other_so now s m.clock badly (unit_of (Attempt k more payload)) facts so.are so.sent so.text
+        by false is = other_so now s m.clock badly (unit_of (Attempt k more payload)) facts so.node
 
     no_wants : m.state.requests.queue ≡ [] → map want_of_task m.state.requests.queue ≡ []
     no_wants none = ap (λ (l : List Task). map want_of_task l) none
@@ -319,7 +322,7 @@ module _ (taken : List Entry → Carried → List Told) (past told : List Entry)
         submits (Starts k plan more payload) (Attempt k more payload) next.0 refl read (no_wants may.0.0.no_task) refl are
         (part (Starts k plan more payload) k more payload (after_start s plan) (node_after m.state (Starts k plan more payload) n to)
         (λ same.
-        begins_so now s m.clock badly (unit_of (Attempt k more payload)) facts so.are so.sent so.text plan
+        begins_so now s m.clock badly (unit_of (Attempt k more payload)) facts so.node plan
         (subst (λ (j : ℕ). (node_of m.state j).series ≡ Due) (eqb-true k n same) may.0.2.0)
         (goes_by k more payload false read (starts_begin m.state k plan more payload ground.0.0.0.0.0.facts.host may.0.1))))
 
@@ -331,8 +334,8 @@ module _ (taken : List Entry → Carried → List Told) (past told : List Entry)
         (λ same.
         let has : s.text ≡ Some payload = subst (λ (j : ℕ). (node_of m.state j).text ≡ Some payload) (eqb-true k n same) may.0.1 in
         let runs : s.series ≡ Running = runs_by s.series s facts.series (ap (λ (o : Option (List ℕ)). is_some o || has_segment s) has) in
-        text_so now s m.clock badly (unit_of (Attempt k false payload)) facts so.are so.sent so.text runs payload has
-        (goes_by k false payload true read (sealed_goes payload (so.text payload has)))))
+        text_so now s m.clock badly (unit_of (Attempt k false payload)) facts so.node runs payload has
+        (goes_by k false payload true read (sealed_goes payload (so.node.text payload has)))))
 
     pub segment_goes : (k : ℕ) (more : Bool) (payload : List ℕ) → IsNext m.state (Gives_segment k more payload) → MayAll m.state (Gives_segment k more payload ∷ [])
         → ReadsAs m.state (Attempt k more payload) → AreTold (outs m.state (Gives_segment k more payload)) told → Goes (Gives_segment k more payload)
@@ -345,10 +348,10 @@ module _ (taken : List Entry → Carried → List Told) (past told : List Entry)
         let runs : s.series ≡ Running = runs_by s.series s facts.series (some_more (is_some s.text) (has_segment s) has) in
         let less = ltb-true s.next_segment s.segments has in
         let some : 1 ≤ s.segments = omega (arith, less) in
-        let least = (so.sent runs).some in
-        let given = ((so.sent runs).segments some).0 in
+        let least = (so.node.sent runs).some in
+        let given = ((so.node.sent runs).segments some).0 in
         let at : 1 ≤ (node_of m.state k).next_segment = subst (λ (j : ℕ). 1 ≤ (node_of m.state j).next_segment) (sym is) (omega (arith, least, given)) in
-        segment_so now s m.clock badly (unit_of (Attempt k more payload)) facts so.are so.sent so.text runs some
+        segment_so now s m.clock badly (unit_of (Attempt k more payload)) facts so.node runs some
         (goes_by k more payload true read (segments_go m.state ground.0.0.0.0.0.facts.host (node_of m.state k) _ (node_of m.state k).next_segment payload at may.0.2))))
       where
         some_more : (b c : Bool) → c ≡ true → (b || c) ≡ true
@@ -369,7 +372,7 @@ module _ (taken : List Entry → Carried → List Told) (past told : List Entry)
         → AreTold (outs m.state Submits_front) told → Goes Submits_front
     front_goes next may read under_way are =
         submits Submits_front (task_purpose m.state.requests.queue) next.0 refl read (front_fits m.state.requests.queue may.0.2) under_way are
-        (subst (λ (b : Bool). Asks (asked_by b (task_purpose m.state.requests.queue)) (node_of (after m.state Submits_front) n) m.clock) (sym (front_no m.state.requests.queue))
+        (subst (λ (b : Bool). NodeSo (asked_by b (task_purpose m.state.requests.queue)) (node_of (after m.state Submits_front) n) m.clock false) (sym (front_no m.state.requests.queue))
         (unchanged Submits_front (task_purpose m.state.requests.queue) refl))
 
     pub abort_goes : IsNext m.state Submits_abort → ReadsAs m.state Abort → AreTold (outs m.state Submits_abort) told → Goes Submits_abort

@@ -4,3 +4,4 @@ mod Asking
 mod Badly
 mod Stays
 mod EndsSo
+mod NodesGo

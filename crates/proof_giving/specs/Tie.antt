@@ -1,7 +1,7 @@
 -- The attempts of the series of a node, in a host alone and by its transcript (this project's own rule): as the transcript counts them while the request of the host is under way, and by
 -- how that ended once it has; whether that request is of them; and how many parts of the running one were sent, and
 -- that a text that it has still to send is sealed.
-use Rattle.std.specs.Prelude.{◌≡◌, ℕ, ◌≤◌, ◌==◌, ◌&&◌, is_none, map, Bool, true, false, Some, None, List, []}
+use Rattle.std.specs.Prelude.{◌≡◌, ℕ, ◌+◌, ◌≤◌, ◌==◌, ◌&&◌, is_none, map, not, nat_lt, Bool, true, false, Some, None, List, []}
 use Rattle.encap.specs.Opening.{begins_with}
 use Rattle.zw_words.specs.declared.side.Side.TheVariants.{Host}
 use Rattle.zw_text.specs.declared.entry.Entry.{Entry}
@@ -15,7 +15,7 @@ use Rattle.law_time.specs.Requests.{are_none, asked}
 use Rattle.host_requests.specs.declared.task.Purpose.{Purpose}
 use Rattle.host_requests.specs.declared.task.Purpose.TheVariants.{Attempt, Housekeeping, Abort}
 use Rattle.host_requests.specs.declared.under_way.UnderWay.{UnderWay}
-use Rattle.host_node.specs.State.{NodeState}
+use Rattle.host_node.specs.State.{NodeState, is_running}
 use Rattle.host_node.specs.declared.series.Series.TheVariants.{Running}
 use Rattle.host_model.specs.Ends.{PartEnd, Good, Passed_over, Bad}
 use Rattle.host_model.specs.State.{HostState, node_of}
@@ -61,17 +61,25 @@ pub record SentAs (told : Attempts) (node : NodeState) : Type 0 where
   pub some : 1 ≤ told.sent
   pub segments : 1 ≤ node.segments → (told.sent ≡ node.next_segment) × (node.text ≡ None) × (node.pending ≡ None)
 
+-- the attempt that runs is the third
+abbrev pub is_third : NodeState → Bool
+is_third node = is_running node.series && not (nat_lt (node.book.attempts + 1) 3)
+
+-- of a node by its attempts as they are told: at a time, whether the last request has ended badly or not; and a text that it has still to send is sealed
+pub record NodeSo (told : Attempts) (node : NodeState) (time : ℕ) (badly : Bool) : Type 0 where
+  pub are : AreAttempts told node time badly
+  pub sent : node.series ≡ Running → SentAs told node
+  pub text : (sealed : List ℕ) → node.text ≡ Some sealed → begins_with sealed 0x98 0x81 ≡ true
+
 -- a frame, and none that is an abort
 abbrev pub IsNoAbort : List ℕ → Type 0
 IsNoAbort frame = (is_data frame ≡ true) × (is_abort_frame frame ≡ false)
 
 -- a node, looked at at its own time, and the request at that of the host
 pub record AttemptsSo (heeds : Heeds) (n : ℕ) (past : List Entry) (h : HostState) (time now : ℕ) : Type 0 where
-  pub are : AreAttempts (attempts_so_far heeds n past) (node_of h n) time (is_badly_over heeds n past h now)
+  pub node : NodeSo (attempts_so_far heeds n past) (node_of h n) time (is_badly_over heeds n past h now)
   pub own : (u : UnderWay) → h.requests.under_way ≡ Some u → (attempts_so_far heeds n past).own ≡ is_for n u.purpose
-  pub sent : (node_of h n).series ≡ Running → SentAs (attempts_so_far heeds n past) (node_of h n)
   pub sends : (attempts_so_far heeds n past).own ≡ true → IsNoAbort (asked past).frame
-  pub text : (sealed : List ℕ) → (node_of h n).text ≡ Some sealed → begins_with sealed 0x98 0x81 ≡ true
 
 -- what waits by the transcript at a request is what waits in the host
 abbrev pub WaitsAsTold : Heeds → List Entry → HostState → Type 0

@@ -5,14 +5,18 @@
 //! request is under way, and by how that ended once it has: a request that is submitted is of an attempt of the node that is served, and of no other
 //! (`attempts_go_with_requests`). That ends badly by the transcript just where its end is bad for the attempt in the host (`attempts_end_badly_as_told`), and
 //! whether it has stays as it is (`bad_ends_stay`).
+//! So a node stays tied to its attempts, as they are told, at each of its events (`nodes_go_with_attempts`).
 //! The definitions are in `specs/`: `Told` (the attempts of one node) and `Tie`. `proofs/Told` has how they grow, `Begun` which payloads go on with an
-//! attempt, `Asking` requests, `Badly` whether one has ended badly by how it stands, `Stays` that it stays so, and `EndsSo` its end.
+//! attempt, `Asking` requests, `Badly` whether one has ended badly by how it stands, `Stays` that it stays so, `EndsSo` its end,
+//! and `NodesGo` the events of a node.
 #![tactic(auto)]
 
 mod attempts;
 mod ends;
+mod nodes;
 mod requests;
 
 pub use attempts::attempts_grow_by_entries;
 pub use ends::{attempts_end_badly_as_told, bad_ends_stay};
+pub use nodes::nodes_go_with_attempts;
 pub use requests::attempts_go_with_requests;
