@@ -1,16 +1,16 @@
 pub mod Lasting
 pub mod Ahead
-mod Nodes
+pub mod Nodes
 mod Releasing
-mod Counting
+pub mod Counting
 pub mod Ticking
-mod Telling
-mod Holding
+pub mod Telling
+pub mod Holding
 mod Working
-mod Opening
+pub mod Opening
 mod SeriesSteps
 mod Finishing
-mod KeptAwake
+pub mod KeptAwake
 pub mod Doings
 mod SeriesTold
 pub mod SeriesGoes

@@ -5,3 +5,5 @@ mod Badly
 mod Stays
 mod EndsSo
 mod NodesGo
+mod Over
+mod HostGoes

@@ -1,23 +1,26 @@
 -- The attempts of the series of a node, in a host alone and by its transcript (this project's own rule): as the transcript counts them while the request of the host is under way, and by
 -- how that ended once it has; whether that request is of them; and how many parts of the running one were sent, and
 -- that a text that it has still to send is sealed.
-use Rattle.std.specs.Prelude.{◌≡◌, ℕ, ◌+◌, ◌≤◌, ◌==◌, ◌&&◌, is_none, map, not, nat_lt, Bool, true, false, Some, None, List, []}
+use Rattle.std.specs.Prelude.{◌≡◌, ℕ, ◌+◌, ◌≤◌, ◌==◌, ◌&&◌, is_none, map, not, nat_lt, Bool, true, false, if◌then◌else◌, Option, Some, None, List, []}
+use Rattle.std.specs.List.{list_any}
 use Rattle.encap.specs.Opening.{begins_with}
 use Rattle.zw_words.specs.declared.side.Side.TheVariants.{Host}
 use Rattle.zw_text.specs.declared.entry.Entry.{Entry}
-use Rattle.zw_text.specs.declared.entry.Entry.TheVariants.{Written}
-use Rattle.law_time.specs.Attempts.{Attempts}
+use Rattle.zw_text.specs.declared.entry.Entry.TheVariants.{Out, Written}
+use Rattle.law_time.specs.Attempts.{Attempts, anew}
 use Rattle.law_time.specs.Ends.{is_abort_frame}
 use Rattle.law_time.specs.Heeds.{Heeds}
-use Rattle.law_time.specs.Judged.{acknowledged, is_data}
+use Rattle.law_time.specs.Judged.{acknowledged, is_data, last_of}
 use Rattle.law_time.specs.Queue.{queue_before}
 use Rattle.law_time.specs.Requests.{are_none, asked}
+use Rattle.host_requests.specs.declared.end.End.{End}
+use Rattle.host_requests.specs.declared.end.How.{How}
 use Rattle.host_requests.specs.declared.task.Purpose.{Purpose}
 use Rattle.host_requests.specs.declared.task.Purpose.TheVariants.{Attempt, Housekeeping, Abort}
 use Rattle.host_requests.specs.declared.under_way.UnderWay.{UnderWay}
 use Rattle.host_node.specs.State.{NodeState, is_running}
 use Rattle.host_node.specs.declared.series.Series.TheVariants.{Running}
-use Rattle.host_model.specs.Ends.{PartEnd, Good, Passed_over, Bad}
+use Rattle.host_model.specs.Ends.{PartEnd, Good, Passed_over, Bad, part_end}
 use Rattle.host_model.specs.State.{HostState, node_of}
 use Rattle.host_model.specs.Events.{HostEvent, Submits_abort, Submits_front, Starts, Gives_text, Gives_segment}
 use Rattle.proof_attempts.specs.Attempts.{AreAttempts, has_ended_badly}
@@ -36,6 +39,38 @@ abbrev pub is_bad_part : PartEnd → Bool
 is_bad_part Good = false
 is_bad_part Passed_over = false
 is_bad_part Bad = true
+
+-- one with which the node gives a sign
+abbrev pub is_good : PartEnd → Bool
+is_good Good = true
+is_good Passed_over = false
+is_good Bad = false
+
+-- the end of a request is such a one, of an attempt of the node
+abbrev pub is_bad_of : ℕ → Purpose → How → Bool
+is_bad_of n (Attempt node more payload) how = (node == n) && is_bad_part (part_end more how)
+is_bad_of n purpose how = false
+
+abbrev pub is_good_of : ℕ → Purpose → How → Bool
+is_good_of n (Attempt node more payload) how = (node == n) && is_good (part_end more how)
+is_good_of n purpose how = false
+
+abbrev pub is_bad_for : ℕ → Option End → Bool
+is_bad_for n None = false
+is_bad_for n (Some end) = is_bad_of n end.purpose end.how
+
+abbrev pub is_good_for : ℕ → Option End → Bool
+is_good_for n None = false
+is_good_for n (Some end) = is_good_of n end.purpose end.how
+
+-- the last session of the node carries the command
+abbrev pub is_last_of : NodeState → ℕ → Bool
+is_last_of node number = list_any (λ command. command == number) (last_of node.book.commands)
+
+-- by an entry the attempts begin anew where the command of the last session ends, of which these are
+abbrev pub anew_step : (ℕ → Bool) → Attempts → Entry → Attempts
+anew_step last attempts (Out command ended) = if last command then anew attempts else attempts
+anew_step last attempts entry = attempts
 
 -- what waits where a request for this purpose is new: nothing where it is of an attempt, and something where it has waited
 abbrev pub WantsFit : Purpose → List (List ℕ) → Type 0

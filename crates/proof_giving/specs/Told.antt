@@ -1,5 +1,6 @@
 -- The attempts of one node by the transcript, one entry after another (this project's own rule), and the entries that leave them.
-use Rattle.std.specs.Prelude.{ℕ, List, [], ◌∷◌, ◌++◌}
+use Rattle.std.specs.Prelude.{◌≡◌, ℕ, List, [], ◌∷◌, ◌++◌}
+use Rattle.serial_frame.specs.declared.unit.TheConstants.{NAK}
 use Rattle.zw_words.specs.declared.side.Side.TheVariants.{Host}
 use Rattle.zw_text.specs.declared.entry.Entry.{Entry}
 use Rattle.zw_text.specs.declared.entry.Entry.TheVariants.{Said, Refused, Written, Begin, Out}
@@ -24,3 +25,11 @@ LeavesAttempts (Written Host unit) = ⊥
 LeavesAttempts (Begin node session command) = ⊥
 LeavesAttempts (Out command ended) = ⊥
 LeavesAttempts e = Unit {0}
+
+-- neither a line or its refusal, nor a frame or an acknowledgement of the host, nor a session that begins
+abbrev pub GoesAlong : Entry → Type 0
+GoesAlong (Said words) = ⊥
+GoesAlong (Refused refusal) = ⊥
+GoesAlong (Written Host unit) = unit ≡ NAK ∷ []
+GoesAlong (Begin node session command) = ⊥
+GoesAlong e = Unit {0}

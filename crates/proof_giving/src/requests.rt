@@ -1,10 +1,22 @@
 //! Requests that a host alone submits, and the attempts of nodes by its transcript.
 
-ghost use Rattle.std.specs.Prelude.{◌≤◌, List, ◌∷◌, [], ◌++◌, ℕ};
+ghost use Rattle.std.specs.Prelude.{◌≡◌, ◌≤◌, ◌==◌, ◌+◌, ◌&&◌, if◌then◌else◌, Bool, false, true, List, ◌∷◌, [], ◌++◌, ℕ};
 ghost use Rattle.zw_text.specs.declared.entry.Entry.{Entry};
 ghost use Rattle.host_heard.specs.declared.told.Told.{Told};
 ghost use Rattle.law_transcript.specs.Units.{Carried};
-ghost use Rattle.host_model.specs.Events.{HostEvent};
+ghost use Rattle.zw_text.specs.Transcript.{folded};
+ghost use Rattle.law_time.specs.Attempts.{Attempts};
+ghost use Rattle.host_requests.specs.Events.{RequestsEvent, end_at};
+ghost use Rattle.host_node.specs.Steps.{tick_end};
+ghost use Rattle.host_node.specs.declared.attempt.Moment.{Moment};
+ghost use Rattle.host_node.specs.declared.series.Series.TheVariants.{Running};
+ghost use Rattle.host_model.specs.State.{HostState, node_of};
+ghost use Rattle.host_model.specs.Sessions.{open_command};
+ghost use Rattle.host_model.specs.Ends.{attempt_entries};
+ghost use Rattle.host_model.specs.Facts.{HostFacts};
+ghost use Rattle.host_model.specs.Outs.{request_entries};
+ghost use Rattle.host_model.specs.Events.{HostEvent, Node_ticks, Requests_do};
+ghost use Rattle.proof_attempts.specs.Attempts.{is_over_by};
 ghost use Rattle.host_model.specs.After.{after};
 ghost use Rattle.proof_attempts.specs.proof_requests.law_host.Heard.{heeds_alone};
 ghost use Rattle.proof_attempts.specs.proof_requests.proof_alone.State.{HostMachine};
@@ -12,7 +24,16 @@ ghost use Rattle.proof_attempts.specs.proof_requests.proof_alone.Steps.{Does};
 ghost use Rattle.proof_attempts.specs.proof_requests.proof_alone.Phases.{May, Submitting};
 ghost use Rattle.proof_attempts.specs.proof_requests.proof_alone.Runs.{both_know};
 ghost use Rattle.proof_attempts.specs.proof_requests.Walking.{Ground, KnowsAsked};
-ghost use Rattle.proof_giving.specs.Tie.{AttemptsSo, IsRequest, WaitsAsTold};
+ghost use Rattle.proof_giving.specs.Tie.{
+  AttemptsSo,
+  IsRequest,
+  NodeSo,
+  WaitsAsTold,
+  anew_step,
+  is_bad_for,
+  is_good_for,
+  is_last_of,
+};
 
 use host_model::attempts_have_what_they_give;
 
@@ -26,3 +47,17 @@ pub fn attempts_go_with_requests()
 {
     attempts_have_what_they_give();
 }
+
+/// Where the request of a host hears of the chip, of its line or of a tick, and a part of an attempt ends by that which is no good callback, each node stays tied
+/// to its attempts as the entries leave them: an attempt of its own is over where its last part ends badly, and those of others are not. So they do at each
+/// tick of a node.
+pub fn attempts_end_with_requests()
+    ensures request { (h : HostState) (event : RequestsEvent) (moment : Moment) (n : ℕ) (told : Attempts) (time : ℕ) (badly later : Bool) → HostFacts h → n ≤ 232 →
+        NodeSo told (node_of h n) time badly → (badly ≡ true → later ≡ true) → is_good_for n (end_at h.requests event) ≡ false →
+        ((node_of h n).series ≡ Running → is_bad_for n (end_at h.requests event) ≡ false → (told.own && later) ≡ false) →
+        ((node_of h n).series ≡ Running → is_bad_for n (end_at h.requests event) ≡ true → is_over_by time later told ≡ true) →
+        NodeSo (folded (anew_step (is_last_of (node_of h n))) told (request_entries h event)) (node_of (after h (Requests_do event moment)) n) time later }
+    ensures ticks { (h : HostState) (k n : ℕ) (told : Attempts) (time : ℕ) (badly : Bool) → HostFacts h → n ≤ 232 → NodeSo told (node_of h n) time badly →
+        NodeSo (folded (anew_step (is_last_of (node_of h n))) told (attempt_entries k (tick_end (node_of h k)) (open_command (node_of h k))))
+        (node_of (after h (Node_ticks k)) n) (if k == n then time + 1 else time) badly }
+{}

@@ -1,5 +1,6 @@
 -- Entry by entry.
 use Rattle.proof_giving.proofs.Told.{attempts_again, attempts_in_vain, attempts_left, attempts_one, attempts_said, attempts_start, each_is, node_is, requests_are}
+use Rattle.proof_giving.proofs.Over.{along_goes}
 use Rattle.proof_giving.proofs.attempts.attempts_grow_by_entries.Goals as goal
 
 pub returns-clause-each : goal.returns-clause-each
@@ -28,3 +29,6 @@ returns-clause-left c = attempts_left
 
 pub returns-clause-again : goal.returns-clause-again
 returns-clause-again c = attempts_again
+
+pub returns-clause-along : goal.returns-clause-along
+returns-clause-along c = along_goes
