@@ -90,7 +90,7 @@ goes_as : (unit : List ℕ) (n id : ℕ) (more : Bool) (payload : List ℕ) → 
 goes_as unit n id more payload read = ap (λ (l : List Request). list_any (λ (carried : Carried). goes_on carried.payload) (flat_map sending_of l)) read ∙ or_none (goes_on payload)
 
 -- whether the last one is over, as it is said of the request of the host
-over_as : (heeds : Heeds) (n : ℕ) (past : List Entry) (last : Asked) (now : ℕ) (told : Attempts) → told.node ≡ n → attempt_is_over heeds past last now told ≡ is_over_by now (has_ended_badly heeds past last now n) told
+pub over_as : (heeds : Heeds) (n : ℕ) (past : List Entry) (last : Asked) (now : ℕ) (told : Attempts) → told.node ≡ n → attempt_is_over heeds past last now told ≡ is_over_by now (has_ended_badly heeds past last now n) told
 over_as heeds n past last now told of =
     ap (λ (k : ℕ). is_late now told || (told.own && ends_badly last (list_any (is_of_inner heeds past k last.frame) (last_command k past)) now)) of
 

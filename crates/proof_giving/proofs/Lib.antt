@@ -7,3 +7,4 @@ mod EndsSo
 mod NodesGo
 mod Over
 mod HostGoes
+mod AtRest
