@@ -8,3 +8,4 @@ mod NodesGo
 mod Over
 mod HostGoes
 mod AtRest
+mod Orders
