@@ -9,3 +9,4 @@ mod Over
 mod HostGoes
 mod AtRest
 mod Orders
+mod Inner
