@@ -10,3 +10,4 @@ mod HostGoes
 mod AtRest
 mod Orders
 mod Inner
+mod Along

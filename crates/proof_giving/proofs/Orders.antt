@@ -31,6 +31,7 @@ use Rattle.serial_link.specs.State.{tick_side}
 use Rattle.proof_host.proofs.Commands.{taken_pushed, taken_set}
 use Rattle.proof_host.specs.Tables.{taken_at}
 use Rattle.proof_attempts.proofs.Doings.{Doing, did, does_at, end_does, failing_does, held_does, node_after, part_does, purpose_does, task_does}
+use Rattle.proof_giving.specs.Stays.{KeepsSessions, NoSession}
 use Rattle.proof_queue.proofs.Kept.{BookKept, book_same, occasion_kept, room_keeps, sign_kept, told_kept}
 
 -- ---- nodes
@@ -107,11 +108,6 @@ does_kept n s (d ∷ more) all =
     kept_on s.book next.book (does_at n next more).book (either_kept (d.node == n) s.book (after_node s d.event) s (event_kept s d.event all.0) (same_kept s)) (does_kept n next more all.1)
 
 -- ---- a host
-
--- no session begins
-abbrev pub NoSession : HostEvent → Type 0
-NoSession (Begins node session command) = ⊥
-NoSession event = Unit {0}
 
 part_none : (k : ℕ) (end : PartEnd) (moment : Moment) → AllByRecursion NoneBegins (part_does k end moment)
 part_none k Good moment = (tt, tt)
@@ -227,3 +223,9 @@ module _ (number : ℕ) where
   orders_kept h (Node_ticks n) c found = ended_same _ _ _
   orders_kept h (Begins n session command) c found = taken_set h.commands command _ number
   orders_kept h event c found = refl
+
+-- so the sessions of a node and its orders are kept
+pub event_keeps : (h : HostState) (event : HostEvent) (n : ℕ) → n < length h.nodes → NoSession event → KeepsSessions h (after h event) n
+event_keeps h event n within none =
+    let books = books_kept h event n within none in
+    record { commands = books.commands; opens = books.opens; orders = λ number c found. orders_kept number h event c found }
