@@ -157,3 +157,10 @@ module _ (inner : Bool) where
           }) ∙ sym (by_wait s now leaving e)
       by (inr (inr (inl e))) = absurd (let four = e.given_up.0 in omega (arith, four, few))
       by (inr (inr (inr e))) = absurd (both_ways (is_abort_frame s.frame) other e.abort)
+
+  -- one that no frame has ended has ended badly
+  pub unframed_badly : (s : Standing) (now count : ℕ) (leaving : Leaving) → is_abort_frame s.frame ≡ false → first_ending s ≡ [] → HasEnded s now count leaving → badly_in s now ≡ true
+  unframed_badly s now count leaving other none (inl e) = absurd (let bad : [] ≡ e.one ∷ [] = sym none ∙ e.first in cc)
+  unframed_badly s now count leaving other none (inr (inl e)) = by_wait s now leaving e
+  unframed_badly s now count leaving other none (inr (inr (inl e))) = by_line s now count leaving e
+  unframed_badly s now count leaving other none (inr (inr (inr e))) = absurd (both_ways (is_abort_frame s.frame) other e.abort)

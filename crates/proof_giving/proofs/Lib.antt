@@ -11,3 +11,4 @@ mod AtRest
 mod Orders
 mod Inner
 mod Along
+mod Unframed

@@ -1,18 +1,27 @@
 //! Requests that a host alone submits, and the attempts of nodes by its transcript.
 
-ghost use Rattle.std.specs.Prelude.{◌≡◌, ◌≤◌, ◌==◌, ◌+◌, ◌&&◌, if◌then◌else◌, Bool, false, true, List, ◌∷◌, [], ◌++◌, ℕ};
+ghost use Rattle.std.specs.Prelude.{◌≡◌, ◌≤◌, ◌==◌, ◌+◌, ◌&&◌, if◌then◌else◌, Bool, false, true, None, Some, List, ◌∷◌, [], ◌++◌, ℕ};
 ghost use Rattle.zw_text.specs.declared.entry.Entry.{Entry};
 ghost use Rattle.host_heard.specs.declared.told.Told.{Told};
 ghost use Rattle.law_transcript.specs.Units.{Carried};
 ghost use Rattle.zw_text.specs.Transcript.{folded};
-ghost use Rattle.law_time.specs.Attempts.{Attempts};
+ghost use Rattle.std.specs.List.{AllByRecursion};
+ghost use Rattle.law_time.specs.Attempts.{Attempts, ends_badly};
+ghost use Rattle.law_time.specs.Ends.{is_abort_frame};
+ghost use Rattle.law_time.specs.Requests.{asked};
+ghost use Rattle.law_time.specs.Sessions.{is_last_command};
+ghost use Rattle.host_requests.specs.declared.end.End.{End};
+ghost use Rattle.host_requests.specs.declared.under_way.UnderWay.{UnderWay};
+ghost use Rattle.proof_attempts.specs.proof_requests.Asking.{Doing};
+ghost use Rattle.proof_attempts.specs.proof_requests.Standing.{first_ending, standing_of};
+ghost use Rattle.proof_giving.specs.Told.{GoesAlong, attempts_so_far};
 ghost use Rattle.host_requests.specs.Events.{RequestsEvent, end_at};
 ghost use Rattle.host_node.specs.Steps.{tick_end};
 ghost use Rattle.host_node.specs.declared.attempt.Moment.{Moment};
 ghost use Rattle.host_node.specs.declared.series.Series.TheVariants.{Running};
 ghost use Rattle.host_model.specs.State.{HostState, node_of};
 ghost use Rattle.host_model.specs.Sessions.{open_command};
-ghost use Rattle.host_model.specs.Ends.{attempt_entries};
+ghost use Rattle.host_model.specs.Ends.{Bad, attempt_entries, part_end};
 ghost use Rattle.host_model.specs.Facts.{HostFacts};
 ghost use Rattle.host_model.specs.Outs.{request_entries};
 ghost use Rattle.host_model.specs.Events.{HostEvent, Node_ticks, Requests_do};
@@ -26,6 +35,7 @@ ghost use Rattle.proof_attempts.specs.proof_requests.proof_alone.Runs.{both_know
 ghost use Rattle.proof_attempts.specs.proof_requests.Walking.{Ground, KnowsAsked};
 ghost use Rattle.proof_giving.specs.Tie.{
   AttemptsSo,
+  IsOver,
   IsRequest,
   NodeSo,
   WaitsAsTold,
@@ -61,3 +71,22 @@ pub fn attempts_end_with_requests()
         NodeSo (folded (anew_step (is_last_of (node_of h n))) told (attempt_entries k (tick_end (node_of h k)) (open_command (node_of h k))))
         (node_of (after h (Node_ticks k)) n) (if k == n then time + 1 else time) badly }
 {}
+
+/// So where the request of an attempt ends in no good way and by no frame, in silence or as the line gives it up, each node stays tied to its attempts by the
+/// transcript: that of the request has an attempt that is over.
+pub fn attempts_end_in_silence()
+    ensures over { (taken : List Entry → Carried → List Told) (n : ℕ) (past told : List Entry) (h : HostState) (event : RequestsEvent) (moment : Moment)
+        (time before now : ℕ) → n ≤ 232 → HostFacts h → AttemptsSo (heeds_alone taken) n past h time before → AllByRecursion GoesAlong told →
+        ((command : ℕ) → is_last_command n past command ≡ is_last_of (node_of h n) command) →
+        folded (anew_step (is_last_of (node_of h n))) (attempts_so_far (heeds_alone taken) n past) told
+        ≡ folded (anew_step (is_last_of (node_of h n))) (attempts_so_far (heeds_alone taken) n past) (request_entries h event) →
+        (u : UnderWay) → h.requests.under_way ≡ Some u → (end : End) → end_at h.requests event ≡ Some end → end.purpose ≡ u.purpose →
+        ((more : Bool) → part_end more end.how ≡ Bad) → (after h (Requests_do event moment)).requests.under_way ≡ None →
+        (asked (past ++ told)).frame ≡ (asked past).frame →
+        ((attempts_so_far (heeds_alone taken) n past).own ≡ true → (inner : Bool) → ends_badly (asked (past ++ told)) inner now ≡ true) →
+        AttemptsSo (heeds_alone taken) n (past ++ told) (after h (Requests_do event moment)) time now }
+    ensures bad { (inner : Bool) (past : List Entry) (now : ℕ) (d : Doing) → IsOver past now d → is_abort_frame (asked past).frame ≡ false →
+        first_ending (standing_of (asked past)) ≡ [] → ends_badly (asked past) inner now ≡ true }
+{
+    attempts_end_with_requests();
+}
