@@ -204,7 +204,7 @@ runs_by Due s facts has = absurd (nothing s facts.2.no_text facts.2.no_segments 
         let some : nat_lt s.next_segment 0 ≡ true = ap₂ (λ (o : Option (List ℕ)) (k : ℕ). is_some o || nat_lt s.next_segment k) (sym no_text) (sym none) ∙ has in
         let less = ltb-true s.next_segment 0 some in omega (arith, less)
 
-mark_leaves : (e : Entry) → IsOfUnit e → LeavesAttempts e
+pub mark_leaves : (e : Entry) → IsOfUnit e → LeavesAttempts e
 mark_leaves (entry.Dropped Host) mark = tt
 mark_leaves (entry.Garbled Host unit) mark = tt
 mark_leaves (entry.Overrun Host) mark = tt

@@ -12,3 +12,4 @@ mod Orders
 mod Inner
 mod Along
 mod Unframed
+mod Acked

@@ -6,7 +6,12 @@ ghost use Rattle.host_heard.specs.declared.told.Told.{Told};
 ghost use Rattle.law_transcript.specs.Units.{Carried};
 ghost use Rattle.zw_text.specs.Transcript.{folded};
 ghost use Rattle.std.specs.List.{AllByRecursion};
-ghost use Rattle.law_time.specs.Attempts.{Attempts, ends_badly};
+ghost use Rattle.serial_frame.specs.declared.unit.TheConstants.{ACK};
+ghost use Rattle.zw_words.specs.declared.side.Side.TheVariants.{Host};
+ghost use Rattle.zw_text.specs.declared.entry.Entry.TheVariants.{Written};
+ghost use Rattle.law_time.specs.Attempts.{Attempts, ends_badly, is_sign};
+ghost use Rattle.law_time.specs.Moments.{clock};
+ghost use Rattle.host_node.specs.State.{NodeState};
 ghost use Rattle.law_time.specs.Ends.{is_abort_frame};
 ghost use Rattle.law_time.specs.Requests.{asked};
 ghost use Rattle.law_time.specs.Sessions.{is_last_command};
@@ -16,7 +21,7 @@ ghost use Rattle.proof_attempts.specs.proof_requests.Asking.{Doing};
 ghost use Rattle.proof_attempts.specs.proof_requests.Standing.{first_ending, standing_of};
 ghost use Rattle.proof_giving.specs.Told.{GoesAlong, attempts_so_far};
 ghost use Rattle.host_requests.specs.Events.{RequestsEvent, end_at};
-ghost use Rattle.host_node.specs.Steps.{tick_end};
+ghost use Rattle.host_node.specs.Steps.{after_sign, tick_end};
 ghost use Rattle.host_node.specs.declared.attempt.Moment.{Moment};
 ghost use Rattle.host_node.specs.declared.series.Series.TheVariants.{Running};
 ghost use Rattle.host_model.specs.State.{HostState, node_of};
@@ -29,7 +34,7 @@ ghost use Rattle.proof_attempts.specs.Attempts.{is_over_by};
 ghost use Rattle.host_model.specs.After.{after};
 ghost use Rattle.proof_attempts.specs.proof_requests.law_host.Heard.{heeds_alone};
 ghost use Rattle.proof_attempts.specs.proof_requests.proof_alone.State.{HostMachine};
-ghost use Rattle.proof_attempts.specs.proof_requests.proof_alone.Steps.{Does};
+ghost use Rattle.proof_attempts.specs.proof_requests.proof_alone.Steps.{Does, IsOfUnit};
 ghost use Rattle.proof_attempts.specs.proof_requests.proof_alone.Phases.{May, Submitting};
 ghost use Rattle.proof_attempts.specs.proof_requests.proof_alone.Runs.{both_know};
 ghost use Rattle.proof_attempts.specs.proof_requests.Walking.{Ground, KnowsAsked};
@@ -90,3 +95,13 @@ pub fn attempts_end_in_silence()
 {
     attempts_end_with_requests();
 }
+
+/// Where a frame of the chip is acknowledged each node stays tied to its attempts with the sign that it gives by the transcript: by a good callback of its own
+/// request, or a report that it is at work. Nonces that it gives change nothing of that.
+pub fn attempts_go_with_frames()
+    ensures { (taken : List Entry → Carried → List Told) (n : ℕ) (past marks : List Entry) (now : ℕ) (s : NodeState) (badly : Bool) →
+        AllByRecursion IsOfUnit marks → clock past ≡ now → NodeSo (attempts_so_far (heeds_alone taken) n past) s now badly →
+        NodeSo (attempts_so_far (heeds_alone taken) n (past ++ Written Host (ACK ∷ []) ∷ marks))
+        (if is_sign (heeds_alone taken) n (attempts_so_far (heeds_alone taken) n past).own (past ++ Written Host (ACK ∷ []) ∷ []) [] then after_sign s else s)
+        now badly }
+{}
