@@ -13,3 +13,4 @@ mod Inner
 mod Along
 mod Unframed
 mod Acked
+mod Quiet
