@@ -1,27 +1,21 @@
 -- What goes on with the tie of attempts where no request is submitted and none ends: entries that leave them, and events that leave the request.
-use Rattle.std.proofs.Common.{◌≡◌, ◌⊎◌, ℕ, ◌+◌, ◌-◌, ◌≤◌, ◌<◌, ◌==◌, ◌&&◌, ◌||◌, Bool, true, false, if◌then◌else◌, inl, inr, List, [], ◌∷◌, ◌++◌, length, Option, Some, None, refl, sym, ap, ap₂, ◌∙◌, subst, append-nil, arith}
+use Rattle.std.proofs.Common.{◌≡◌, ℕ, ◌&&◌, ◌||◌, Bool, true, false, List, Option, Some, None, refl, sym, ap, ap₂, ◌∙◌, subst}
 use Rattle.std.specs.Prelude.{IsSome, is_none, is_some}
-use Rattle.std.specs.List.{AllByRecursion}
-use Rattle.std.proofs.lemmas.Bool.{and_right}
-use Rattle.supervision.specs.Host.{HostBook, open_session}
+use Rattle.supervision.specs.Host.{open_session}
 use Rattle.zw_text.specs.declared.entry.Entry.{Entry}
-use Rattle.zw_text.specs.declared.entry.Entry.TheVariants as entry
 use Rattle.host_heard.specs.declared.told.Told.{Told}
 use Rattle.law_transcript.specs.Units.{Carried}
 use Rattle.law_time.specs.Attempts.{Attempts, ends_badly, is_late}
 use Rattle.law_time.specs.Heeds.{Heeds}
-use Rattle.law_time.specs.Requests.{Asked, asked}
+use Rattle.law_time.specs.Requests.{asked}
 use Rattle.host_requests.specs.declared.under_way.UnderWay.{UnderWay}
 use Rattle.host_node.specs.Facts.{NodeFacts, SeriesFacts}
 use Rattle.host_node.specs.State.{NodeState, is_idle}
 use Rattle.host_node.specs.declared.series.Series.{Series}
 use Rattle.host_node.specs.declared.series.Series.TheVariants.{Idle, Due, Running}
-use Rattle.host_model.specs.State.{Command, HostState, command_at, node_of}
-use Rattle.host_model.specs.Facts.{HostFacts}
-use Rattle.proof_host.specs.Tables.{taken_at}
-use Rattle.proof_attempts.specs.Attempts.{LastIs, has_ended_badly, is_over_by}
+use Rattle.host_model.specs.State.{HostState, node_of}
+use Rattle.proof_attempts.specs.Attempts.{LastIs, has_ended_badly}
 use Rattle.proof_attempts.specs.proof_requests.law_host.Heard.{heeds_alone}
-use Rattle.proof_queue.proofs.Kept.{BookKept, book_same}
 use Rattle.proof_queue.proofs.Segments.{Shows}
 use Rattle.proof_giving.specs.Told.{attempts_so_far}
 use Rattle.proof_giving.specs.Stays.{ShowsSessions, Stays}

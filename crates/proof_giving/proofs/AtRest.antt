@@ -1,18 +1,17 @@
 -- Where a host rests no third attempt is over: of a node whose attempts are as they are told.
-use Rattle.std.proofs.Common.{◌≡◌, ◌⊎◌, ℕ, ◌+◌, ◌≤◌, ◌==◌, ◌&&◌, ◌||◌, Bool, true, false, if◌then◌else◌, inl, inr, List, [], ◌∷◌, Option, Some, None, refl, sym, ap, ap₂, ◌∙◌, subst, arith}
+use Rattle.std.proofs.Common.{◌≡◌, ℕ, ◌≤◌, ◌==◌, ◌&&◌, ◌||◌, Bool, true, false, if◌then◌else◌, List, [], ◌∷◌, Option, Some, None, refl, ap, ◌∙◌, arith}
 use Rattle.std.specs.Prelude.{is_none}
 use Rattle.std.specs.List.{list_any}
 use Rattle.std.proofs.lemmas.Bool.{and_left, and_right, ne_eqb}
 use Rattle.serial_frame.specs.declared.unit.Unit.{Unit as LineUnit}
 use Rattle.zw_text.specs.declared.entry.Entry.{Entry}
-use Rattle.law_time.specs.Attempts.{Attempts, attempt_is_over, serving}
+use Rattle.law_time.specs.Attempts.{Attempts, attempt_is_over}
 use Rattle.law_time.specs.Heeds.{Heeds}
 use Rattle.law_time.specs.Requests.{asked}
 use Rattle.law_time.specs.Sessions.{is_open, last_command}
 use Rattle.law_time.specs.Unanswered.{third_is_over, to_give_up}
 use Rattle.host_requests.specs.declared.under_way.UnderWay.{UnderWay}
 use Rattle.host_node.specs.Facts.{NodeFacts, SeriesFacts}
-use Rattle.host_node.specs.State.{NodeState}
 use Rattle.host_node.specs.declared.series.Series.{Series}
 use Rattle.host_node.specs.declared.series.Series.TheVariants.{Idle, Due, Running}
 use Rattle.host_model.specs.State.{HostState, node_of}

@@ -1,21 +1,13 @@
 -- Whether the last request has ended badly, by how it stands: once it has ended that stays, later, after an answer of the chip, after a frame that is judged, and after a copy.
-use Rattle.std.proofs.Common.{◌≡◌, ℕ, ◌+◌, ◌≤◌, ◌==◌, ◌&&◌, ◌||◌, nat_le, nat_lt, Bool, true, false, if◌then◌else◌, inl, inr, length, List, [], ◌∷◌, ◌++◌, Option, Some, None, refl, sym, ap, ap₂, ◌∙◌, arith}
-use Rattle.std.specs.List.{AllByRecursion, flat_map, list_all, list_any}
+use Rattle.std.proofs.Common.{◌≡◌, ℕ, ◌+◌, ◌≤◌, ◌&&◌, ◌||◌, nat_le, nat_lt, Bool, true, false, if◌then◌else◌, inl, inr, List, [], ◌∷◌, refl, sym, ap, ap₂, ◌∙◌, arith}
+use Rattle.std.specs.List.{flat_map, list_all, list_any}
 use Rattle.std.specs.Prelude.{filter}
 use Rattle.std.proofs.lemmas.Bool.{both_ways, le-leb, lt-ltb, or_left}
-use Rattle.serial_frame.specs.declared.unit.Unit.{Unit as LineUnit}
-use Rattle.chip_functions.specs.declared.notice.Notice.{Notice}
-use Rattle.zw_words.specs.declared.side.Side.TheVariants.{Host, Chip}
-use Rattle.zw_text.specs.declared.entry.Entry.{Entry}
-use Rattle.zw_text.specs.declared.entry.Entry.TheVariants as entry
 use Rattle.law_transcript.specs.Units.{is_frame, notice_in}
 use Rattle.law_time.specs.Attempts.{ends_badly, is_bad}
 use Rattle.law_time.specs.Ends.{is_abort_frame, is_before_failing, wait_by, waits_before_failing}
-use Rattle.law_time.specs.Judged.{acknowledged, frames_come, is_data}
-use Rattle.law_time.specs.Moments.{clock}
-use Rattle.law_time.specs.Requests.{Answer, Asked, Failing, Judging, are_none, asked, is_answer}
-use Rattle.host_requests.specs.declared.under_way.UnderWay.{UnderWay}
-use Rattle.proof_attempts.specs.proof_requests.Asking.{AsksSo, Doing, EndedByFrame, EndedByLine, EndedInSilence, HasEnded, Leaving, TieAsked, TieUnderWay, WasAsked}
+use Rattle.law_time.specs.Requests.{Answer, Asked, Judging, are_none}
+use Rattle.proof_attempts.specs.proof_requests.Asking.{EndedByFrame, EndedByLine, EndedInSilence, HasEnded, Leaving}
 use Rattle.proof_attempts.specs.proof_requests.Standing.{Standing, ending_in, failing_in, first_ending, giving_up_in, sent_in, responses_in, silence_in, standing_of, wait_in, with_answer, with_copy, with_judging}
 use Rattle.proof_attempts.proofs.proof_requests_Ended.{copy_stands, frame_answered, frame_judged, gave_up, given_up_later, line_answered, line_judged, sent_copied, silence_answered, silence_judged}
 use Rattle.proof_attempts.proofs.proof_requests_Judging.{ending_kept}

@@ -1,7 +1,7 @@
 -- Which payloads go on with an attempt: none that begins one does, and each further segment and sealed text does.
-use Rattle.std.proofs.Common.{◌≡◌, ℕ, ◌+◌, ◌*◌, ◌/◌, ◌%◌, ◌≤◌, ◌<◌, ◌==◌, ◌&&◌, ◌||◌, nat_le, nat_lt, not, Bool, true, false, if◌then◌else◌, List, ◌∷◌, ◌++◌, Option, Some, None, length, refl, sym, ap, ap₂, ◌∙◌, subst, arith}
+use Rattle.std.proofs.Common.{◌≡◌, ℕ, ◌+◌, ◌*◌, ◌/◌, ◌%◌, ◌≤◌, ◌==◌, ◌&&◌, ◌||◌, nat_le, nat_lt, not, Bool, true, false, if◌then◌else◌, List, ◌∷◌, Option, Some, None, length, refl, sym, ap, ap₂, ◌∙◌, subst, arith}
 use Rattle.std.specs.Prelude.{slice_index}
-use Rattle.std.proofs.lemmas.Bool.{eq-eqb, le-leb, lt-leb, lt-ltb, ne_eqb, or_left}
+use Rattle.std.proofs.lemmas.Bool.{le-leb, lt-leb, lt-ltb, ne_eqb, or_left}
 use Rattle.zw_base.specs.declared.order.Order.{Order}
 use Rattle.s0_crypto.specs.declared.key_pair.Keys.{Keys}
 use Rattle.encap.specs.Opening.{begins_with}
@@ -20,7 +20,7 @@ use Rattle.host_node.specs.State.{NodeState, SealsText}
 use Rattle.host_node.specs.declared.attempt.Plan.{Plan}
 use Rattle.supervision.specs.Host.{command_at as command_of_session}
 use Rattle.host_model.specs.State.{Command, HostState, command_at}
-use Rattle.host_model.specs.Sessions.{command_if, message_for, open_segment, segment_at, segment_by, segment_count, segment_of, start_by, start_of}
+use Rattle.host_model.specs.Sessions.{command_if, message_for, open_segment, segment_at, segment_by, segment_count, segment_of, start_by}
 use Rattle.host_model.specs.May.{IsStart}
 use Rattle.host_model.specs.Facts.{FitsForm, HostFacts, IsSound}
 use Rattle.host_model.proofs.Pumps.{found_is}

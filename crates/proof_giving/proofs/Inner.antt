@@ -1,6 +1,6 @@
 -- Whether a frame carries a segment that others follow, of the open session of a node: by the transcript as in the host, and so it stays until another session begins.
-use Rattle.std.proofs.Common.{◌≡◌, ◌⊎◌, ℕ, ◌+◌, ◌-◌, ◌*◌, ◌/◌, ◌%◌, ◌<◌, ◌==◌, ◌||◌, not, Bool, true, false, inl, inr, List, [], ◌∷◌, ◌++◌, length, Option, Some, None, refl, sym, ap, ap₂, ◌∙◌, subst}
-use Rattle.std.specs.Prelude.{bytes_eq, IsSome}
+use Rattle.std.proofs.Common.{◌≡◌, ◌⊎◌, ℕ, ◌-◌, ◌*◌, ◌/◌, ◌%◌, ◌||◌, not, Bool, true, false, inl, inr, List, [], ◌∷◌, ◌++◌, length, Option, Some, None, refl, sym, ap, ap₂, ◌∙◌, subst}
+use Rattle.std.specs.Prelude.{bytes_eq}
 use Rattle.std.specs.List.{AllByRecursion, list_any}
 use Rattle.std.proofs.lemmas.List.Elements.{recursion_from_All}
 use Rattle.zw_base.proofs.Each.{all-right}
@@ -20,7 +20,6 @@ use Rattle.law_transcript.specs.Units.{Carried, sending_in}
 use Rattle.law_time.specs.Attempts.{is_inner, is_of_inner}
 use Rattle.law_time.specs.Heeds.{Heeds}
 use Rattle.law_time.specs.Sessions.{Session, last_command, session_of}
-use Rattle.host_node.specs.State.{NodeState}
 use Rattle.host_model.specs.State.{Command, HostState, command_at, node_of}
 use Rattle.host_model.specs.Sessions.{command_by, message_for, open_command}
 use Rattle.host_model.specs.Facts.{HostFacts, IsCommandOf}

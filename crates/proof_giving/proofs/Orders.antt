@@ -1,5 +1,5 @@
 -- What an event of a host leaves of the sessions of a node and of orders: all but where a session begins.
-use Rattle.std.proofs.Common.{◌≡◌, ◌⊎◌, ℕ, zero, suc, ◌+◌, ◌-◌, ◌<◌, ◌==◌, Bool, true, false, if◌then◌else◌, inl, inr, List, [], ◌∷◌, ◌++◌, length, Option, Some, None, refl, sym, ap, ◌∙◌, subst, arith}
+use Rattle.std.proofs.Common.{◌≡◌, ℕ, zero, suc, ◌+◌, ◌-◌, ◌<◌, ◌==◌, Bool, true, false, if◌then◌else◌, List, [], ◌∷◌, length, Option, Some, None, refl, sym, ◌∙◌, subst, arith}
 use Rattle.std.specs.Prelude.{nat_lt}
 use Rattle.std.specs.List.{AllByRecursion}
 use Rattle.std.proofs.lemmas.Option.{slice_get_within}
@@ -10,7 +10,7 @@ use Rattle.host_requests.specs.declared.task.Purpose.{Purpose}
 use Rattle.host_requests.specs.declared.task.Purpose.TheVariants.{Housekeeping, Attempt, Abort}
 use Rattle.host_requests.specs.declared.task.Task.{Task}
 use Rattle.host_requests.specs.declared.task.Task.TheVariants.{NoMore, Offer, Segment}
-use Rattle.host_requests.specs.Events.{RequestsEvent, end_at}
+use Rattle.host_requests.specs.Events.{end_at}
 use Rattle.host_requests.specs.Events.RequestsEvent.{Fails}
 use Rattle.host_node.specs.declared.attempt.AttemptEnd.{AttemptEnd}
 use Rattle.host_node.specs.declared.attempt.AttemptEnd.TheVariants.{NoneRan, Again, Unanswered}
@@ -21,11 +21,11 @@ use Rattle.host_node.specs.declared.no_more.NoMore.TheVariants.{Unasked}
 use Rattle.host_node.specs.Events.{NodeEvent, after as after_node}
 use Rattle.host_node.specs.Events.NodeEvent.{Accepts as node_accepts, Begins as node_begins, Ends_attempt, Ends_no_more, Notifies as node_notifies, Reports, Restarts as node_restarts, Sleeps, Starts as node_starts, Succeeds, Ticks}
 use Rattle.host_node.specs.State.{NodeState, has_waiting, is_running}
-use Rattle.host_node.specs.Steps.{after_again, after_again_tick, after_attempt_end, after_hold_tick, after_no_more, after_occasion, after_sleep, as_recorded, asleep, next_due, series_over, tried_again, with_again, with_wait, without_attempt}
+use Rattle.host_node.specs.Steps.{after_again, after_again_tick, after_attempt_end, after_hold_tick, after_no_more, after_occasion, after_sleep, asleep, next_due, series_over, tried_again, with_again, with_wait, without_attempt}
 use Rattle.host_model.specs.State.{Command, HostState, command_at, node_of}
 use Rattle.host_model.specs.After.{after, failing_if, finishing, gives_up, giving, holding, is_held, line_ticked, offering, requests_do}
-use Rattle.host_model.specs.Ends.{PartEnd, Good, Passed_over, Bad, after_end_if, after_part, after_task, attempt_ended, part_end, unanswered}
-use Rattle.host_model.specs.Events.{HostEvent, Accepts, Cancels, Joins, Queues, Queues_interview, Queues_probe, Hears, Requests_do, Interviews, Interview_unkept, Works, Finishes, Offers, Gives, Takes_nonce, Notifies, Resends, Line_ticks, Node_ticks, Queues_no_more, Drops_no_more, Submits_abort, Submits_front, Starts, Gives_text, Gives_segment, Begins, Begin_unkept}
+use Rattle.host_model.specs.Ends.{PartEnd, Good, Passed_over, Bad, after_end_if, after_part, after_task, attempt_ended, part_end}
+use Rattle.host_model.specs.Events.{HostEvent, Accepts, Cancels, Joins, Requests_do, Interviews, Works, Finishes, Offers, Gives, Takes_nonce, Notifies, Resends, Line_ticks, Node_ticks, Queues_no_more, Drops_no_more, Starts, Gives_text, Gives_segment, Begins, Begin_unkept}
 use Rattle.s0_session.specs.Nonces.{live_of}
 use Rattle.serial_link.specs.State.{tick_side}
 use Rattle.proof_host.proofs.Commands.{taken_pushed, taken_set}

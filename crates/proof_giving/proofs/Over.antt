@@ -1,18 +1,16 @@
 -- What the entries of an event of a host alone make of the attempts of a node, where no request is submitted: they begin anew where the command of its session ends.
-use Rattle.std.proofs.Common.{◌≡◌, ℕ, ◌==◌, ◌&&◌, Bool, true, false, if◌then◌else◌, List, [], ◌∷◌, ◌++◌, Option, Some, None, refl, sym, ap, ap₂, ◌∙◌, subst, append-nil, append_assoc}
+use Rattle.std.proofs.Common.{◌≡◌, ℕ, ◌==◌, Bool, if◌then◌else◌, List, [], ◌∷◌, ◌++◌, refl, sym, ap, ◌∙◌, subst, append-nil, append_assoc}
 use Rattle.std.specs.List.{AllByRecursion, list_any}
 use Rattle.zw_words.specs.declared.side.Side.TheVariants.{Host, Chip}
 use Rattle.zw_text.specs.declared.entry.Entry.{Entry}
 use Rattle.zw_text.specs.declared.entry.Entry.TheVariants as entry
-use Rattle.zw_text.specs.Transcript.{folded, session_at, sessions}
+use Rattle.zw_text.specs.Transcript.{folded, session_at}
 use Rattle.zw_text.proofs.Views.{folded-append}
 use Rattle.serial_frame.specs.declared.unit.TheConstants.{NAK}
 use Rattle.host_heard.specs.declared.told.Told.{Told}
 use Rattle.law_transcript.specs.Units.{Carried}
 use Rattle.law_time.specs.Attempts.{Attempts, anew}
 use Rattle.law_time.specs.Judged.{last_of}
-use Rattle.law_time.specs.Queue.{requests}
-use Rattle.law_time.specs.Requests.{Asked, is_new}
 use Rattle.law_time.specs.Sessions.{is_last_command}
 use Rattle.host_model.specs.declared.out.HostOut.{HostOut}
 use Rattle.host_model.specs.declared.out.HostOut.TheVariants.{Note, Write}

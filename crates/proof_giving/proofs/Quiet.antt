@@ -1,8 +1,7 @@
 -- Entries that leave the attempts of a node, time that passes, and where a session begins.
-use Rattle.std.proofs.Common.{◌≡◌, ◌⊎◌, ℕ, ◌+◌, ◌-◌, ◌≤◌, ◌<◌, ◌==◌, ◌&&◌, ◌||◌, Bool, true, false, if◌then◌else◌, inl, inr, List, [], ◌∷◌, ◌++◌, length, Option, Some, None, refl, sym, ap, ap₂, ◌∙◌, subst, arith}
+use Rattle.std.proofs.Common.{◌≡◌, ℕ, ◌+◌, ◌≤◌, ◌<◌, ◌==◌, ◌&&◌, Bool, true, false, if◌then◌else◌, List, [], ◌∷◌, ◌++◌, length, Option, Some, None, refl, sym, ap, ◌∙◌, subst, arith}
 use Rattle.std.specs.Prelude.{IsSome, is_none}
 use Rattle.std.specs.List.{AllByRecursion}
-use Rattle.std.proofs.lemmas.Bool.{both_ways, cases_eq, eq-eqb, eqb-true, ne_eqb}
 use Rattle.serial_frame.specs.declared.unit.Unit.{Unit as LineUnit}
 use Rattle.zw_words.specs.declared.side.Side.TheVariants.{Chip}
 use Rattle.zw_text.specs.declared.entry.Refusal.{Refusal}
@@ -27,7 +26,7 @@ use Rattle.host_node.specs.Steps.{after_begin}
 use Rattle.host_model.specs.After.{after}
 use Rattle.host_model.specs.Events.{Begins}
 use Rattle.world_model.specs.Events.{OpensFrom}
-use Rattle.host_model.specs.State.{Command, HostState, node_of}
+use Rattle.host_model.specs.State.{HostState, node_of}
 use Rattle.host_model.specs.Facts.{HostFacts}
 use Rattle.proof_attempts.specs.Attempts.{IsSign, LastIs, has_ended_badly}
 use Rattle.proof_attempts.specs.proof_requests.Asking.{Doing}

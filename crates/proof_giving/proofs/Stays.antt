@@ -1,7 +1,6 @@
 -- Once the last request has ended by its transcript, whether it has badly stays so, by each entry that goes on with it and later.
-use Rattle.std.proofs.Common.{◌≡◌, ◌⊎◌, ℕ, ◌+◌, ◌-◌, ◌≤◌, ◌==◌, ◌&&◌, Bool, true, false, if◌then◌else◌, inl, inr, length, List, [], ◌∷◌, ◌++◌, take, Option, Some, None, refl, sym, ap, ap₂, ◌∙◌, subst, append-nil, append_assoc, length-append, arith}
+use Rattle.std.proofs.Common.{◌≡◌, ℕ, ◌+◌, ◌≤◌, Bool, true, false, inl, inr, length, List, [], ◌∷◌, ◌++◌, None, refl, sym, ap, ◌∙◌, subst, append_assoc, length-append, arith}
 use Rattle.std.specs.List.{AllByRecursion}
-use Rattle.std.proofs.lemmas.Bool.{ne_eqb}
 use Rattle.zw_base.proofs.Each.{all-weaker}
 use Rattle.serial_frame.specs.Frame.{FrameParts}
 use Rattle.serial_frame.specs.Items.{unit_text}
@@ -19,7 +18,6 @@ use Rattle.law_time.specs.Ends.{is_abort_frame}
 use Rattle.law_time.specs.Judged.{acknowledged, frames_come, is_data, judged, last_of}
 use Rattle.law_time.specs.Moments.{clock}
 use Rattle.law_time.specs.Requests.{Answer, Asked, Judging, asked, is_answer}
-use Rattle.host_requests.specs.declared.under_way.UnderWay.{UnderWay}
 use Rattle.proof_attempts.specs.proof_requests.Asking.{Doing, TieAsked, TieUnderWay, WasAsked}
 use Rattle.proof_attempts.specs.proof_requests.Standing.{IsAside, Standing, standing_of, with_answer, with_entries, with_judging}
 use Rattle.proof_attempts.specs.proof_requests.proof_alone.Steps.{IsOfUnit}

@@ -1,5 +1,5 @@
 -- How the attempts of a node grow by entries, and that those of several nodes are those of each.
-use Rattle.std.proofs.Common.{◌≡◌, ℕ, ◌+◌, ◌==◌, ◌&&◌, not, Bool, true, false, if◌then◌else◌, List, [], ◌∷◌, ◌++◌, map, refl, sym, ap, ap₂, ◌∙◌, subst, append-nil, append_assoc}
+use Rattle.std.proofs.Common.{◌≡◌, ℕ, ◌+◌, ◌&&◌, not, Bool, true, false, if◌then◌else◌, List, [], ◌∷◌, ◌++◌, map, refl, sym, ap, ap₂, ◌∙◌, append-nil, append_assoc}
 use Rattle.std.specs.List.{AllByRecursion, list_any}
 use Rattle.zw_words.specs.declared.side.Side.TheVariants.{Host, Chip}
 use Rattle.zw_text.specs.declared.entry.Refusal.{Refusal}
@@ -10,8 +10,8 @@ use Rattle.host_heard.specs.declared.told.Told.{Told}
 use Rattle.law_transcript.specs.Nodes.{controller}
 use Rattle.law_transcript.specs.Restarts.{begins_refused, is_restart}
 use Rattle.law_transcript.specs.Units.{Carried, sending_in}
-use Rattle.law_time.specs.Attempts.{Attempts, Serving, anew, attempts_by_request, attempts_by_unit, attempts_step, begins_anew, goes_on, is_last_nonce, is_late, is_next_nonce, is_of_attempt, is_sign, attempt_is_over, no_attempts, serving, serving_after, serving_from, with_nonce, with_nonces, with_nonces_here, with_sign, waits_for_nonce, nonce_told}
-use Rattle.law_time.specs.Heeds.{Heeds, taken_here}
+use Rattle.law_time.specs.Attempts.{Attempts, Serving, anew, attempts_by_request, attempts_by_unit, attempts_step, begins_anew, goes_on, is_last_nonce, is_late, is_next_nonce, is_of_attempt, is_sign, attempt_is_over, no_attempts, serving, serving_after, serving_from, with_nonce, with_nonces, with_nonces_here, with_sign, waits_for_nonce}
+use Rattle.law_time.specs.Heeds.{Heeds}
 use Rattle.law_time.specs.Judged.{is_acknowledgement}
 use Rattle.law_time.specs.Moments.{clock}
 use Rattle.law_time.specs.Queue.{Requests, no_requests, requests, requests_after, requests_from}
@@ -19,7 +19,7 @@ use Rattle.law_time.specs.Requests.{Asked, are_none, is_new}
 use Rattle.proof_attempts.specs.Series.{IsOfNoLine}
 use Rattle.proof_attempts.specs.proof_requests.law_host.Heard.{heeds_alone}
 use Rattle.proof_attempts.proofs.Ahead.{ahead_from, ahead_joined}
-use Rattle.proof_queue.proofs.Books.{book_joined, last_is, same_step}
+use Rattle.proof_queue.proofs.Books.{same_step}
 use Rattle.proof_giving.specs.Told.{LeavesAttempts, attempts_from, attempts_so_far}
 
 -- ---- several nodes

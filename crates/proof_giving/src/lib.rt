@@ -22,5 +22,8 @@ pub use attempts::attempts_grow_by_entries;
 pub use ends::{attempts_end_badly_as_told, attempts_stay_with_the_request, bad_ends_stay};
 pub use entries::{attempts_begin_with_sessions, attempts_stay_by_entries};
 pub use nodes::nodes_go_with_attempts;
-pub use requests::{attempts_end_in_silence, attempts_end_with_requests, attempts_go_with_frames, attempts_go_with_requests};
+pub use requests::{
+    attempts_end_in_silence, attempts_end_with_requests, attempts_go_with_frames,
+    attempts_go_with_requests,
+};
 pub use rest::attempts_leave_none_to_give_up;

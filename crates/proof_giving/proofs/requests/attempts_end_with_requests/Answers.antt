@@ -1,5 +1,5 @@
 -- By what ends, and by the node that ticks.
-use Rattle.std.proofs.Common.{ℕ, ◌+◌, ◌==◌, if◌then◌else◌, sym, subst, arith}
+use Rattle.std.proofs.Common.{◌+◌, ◌==◌, if◌then◌else◌, sym, subst, arith}
 use Rattle.zw_text.specs.Transcript.{folded}
 use Rattle.host_requests.specs.Events.{end_at}
 use Rattle.host_node.specs.State.{NodeState}
