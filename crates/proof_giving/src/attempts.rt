@@ -21,9 +21,9 @@ ghost use Rattle.law_time.specs.Sessions.{is_last_command};
 ghost use Rattle.proof_giving.specs.Tie.{anew_step};
 ghost use Rattle.proof_giving.specs.Told.{GoesAlong, LeavesAttempts, attempts_so_far};
 
-/// The attempts of several nodes by a transcript are those of each, which are of their node, and the requests are those of the queue. They grow by an entry of no
-/// line as it says; the words of a line leave them, unless they start the host again and are not refused. So do entries that tell of none, and a unit of the
-/// host that is no new request and acknowledges nothing; and along the notes of a host they begin anew where the command of the last session ends.
+/// The attempts of several nodes by a transcript are those of each, which are of their node, and the requests are those of the queue. They grow by an entry
+/// of no line as it says; the words of a line leave them, unless they start the host again and are not refused. So do entries that tell of none, and a unit
+/// of the host that is no new request and acknowledges nothing; and along the notes of a host they begin anew where the command of the last session ends.
 pub fn attempts_grow_by_entries()
     ensures each { (heeds : Heeds) (nodes : List ℕ) (past : List Entry) →
         (serving heeds nodes past).each ≡ map (λ n. attempts_so_far heeds n past) nodes }

@@ -76,8 +76,8 @@ pub fn attempts_end_badly_as_told()
 {}
 
 /// An event of a host that begins no session leaves the sessions of each node, and each order. So whether a frame carries a segment of the open session that
-/// others follow is told as before; and where the last request stands as it did, whether it has ended badly is, for a node with a series, so that the node stays
-/// tied to its attempts if they are left.
+/// others follow is told as before; and where the last request stands as it did, whether it has ended badly is, for a node with a series, so that the node
+/// stays tied to its attempts if they are left.
 pub fn attempts_stay_with_the_request()
     ensures keeps { (h : HostState) (event : HostEvent) (n : ℕ) → n < length h.nodes → NoSession event → KeepsSessions h (after h event) n }
     ensures inner { (taken : List Entry → Carried → List Told) (past later : List Entry) (h g : HostState) (n session : ℕ) →

@@ -52,8 +52,8 @@ ghost use Rattle.proof_giving.specs.Tie.{
 
 use host_model::attempts_have_what_they_give;
 
-/// Where what waits by the transcript at a request is what waits in the host, a request that a host alone submits goes on with the tie of the attempts of each
-/// node: it is of an attempt just where that of its node is due or runs and nothing waits, and begins one where it is due.
+/// Where what waits by the transcript at a request is what waits in the host, a request that a host alone submits goes on with the tie of the attempts of
+/// each node: it is of an attempt just where that of its node is due or runs and nothing waits, and begins one where it is due.
 pub fn attempts_go_with_requests()
     ensures { (taken : List Entry → Carried → List Told) (past told : List Entry) (m : HostMachine) (event : HostEvent) (n : ℕ) →
         IsRequest event → May Submitting m (Does event told) Submitting → both_know Ground KnowsAsked Submitting past m →
@@ -63,12 +63,12 @@ pub fn attempts_go_with_requests()
     attempts_have_what_they_give();
 }
 
-/// Where the request of a host hears of the chip, of its line or of a tick, and a part of an attempt ends by that which is no good callback, each node stays tied
-/// to its attempts as the entries leave them: an attempt of its own is over where its last part ends badly, and those of others are not. So they do at each
-/// tick of a node.
+/// Where the request of a host hears of the chip, of its line or of a tick, and a part of an attempt ends by that which is no good callback, each node stays
+/// tied to its attempts as the entries leave them: an attempt of its own is over where its last part ends badly, and those of others are not. So they do at
+/// each tick of a node.
 pub fn attempts_end_with_requests()
-    ensures request { (h : HostState) (event : RequestsEvent) (moment : Moment) (n : ℕ) (told : Attempts) (time : ℕ) (badly later : Bool) → HostFacts h → n ≤ 232 →
-        NodeSo told (node_of h n) time badly → (badly ≡ true → later ≡ true) → is_good_for n (end_at h.requests event) ≡ false →
+    ensures request { (h : HostState) (event : RequestsEvent) (moment : Moment) (n : ℕ) (told : Attempts) (time : ℕ) (badly later : Bool) →
+        HostFacts h → n ≤ 232 → NodeSo told (node_of h n) time badly → (badly ≡ true → later ≡ true) → is_good_for n (end_at h.requests event) ≡ false →
         ((node_of h n).series ≡ Running → is_bad_for n (end_at h.requests event) ≡ false → (told.own && later) ≡ false) →
         ((node_of h n).series ≡ Running → is_bad_for n (end_at h.requests event) ≡ true → is_over_by time later told ≡ true) →
         NodeSo (folded (anew_step (is_last_of (node_of h n))) told (request_entries h event)) (node_of (after h (Requests_do event moment)) n) time later }
@@ -96,8 +96,8 @@ pub fn attempts_end_in_silence()
     attempts_end_with_requests();
 }
 
-/// Where a frame of the chip is acknowledged each node stays tied to its attempts with the sign that it gives by the transcript: by a good callback of its own
-/// request, or a report that it is at work. Nonces that it gives change nothing of that.
+/// Where a frame of the chip is acknowledged each node stays tied to its attempts with the sign that it gives by the transcript: by a good callback of its
+/// own request, or a report that it is at work. Nonces that it gives change nothing of that.
 pub fn attempts_go_with_frames()
     ensures { (taken : List Entry → Carried → List Told) (n : ℕ) (past marks : List Entry) (now : ℕ) (s : NodeState) (badly : Bool) →
         AllByRecursion IsOfUnit marks → clock past ≡ now → NodeSo (attempts_so_far (heeds_alone taken) n past) s now badly →

@@ -15,8 +15,8 @@ ghost use Rattle.proof_attempts.specs.proof_requests.proof_alone.Steps.{AreFrame
 ghost use Rattle.proof_giving.specs.Told.{attempts_so_far};
 ghost use Rattle.proof_giving.specs.Tie.{AttemptsSo, is_badly_over};
 
-/// Where no answer is to come for a host, and the attempts of a node are tied to it, the last of them is over by the transcript as the tie says; so its third is
-/// not, and no command is to be given up for the node.
+/// Where no answer is to come for a host, and the attempts of a node are tied to it, the last of them is over by the transcript as the tie says; so its
+/// third is not, and no command is to be given up for the node.
 pub fn attempts_leave_none_to_give_up()
     ensures over { (heeds : Heeds) (n : ℕ) (past : List Entry) (now : ℕ) (came : List LineUnit) (h : HostState) → AreFrames came →
         TieAsked past now now came (doing_of h) → NodeFacts (node_of h n) → AttemptsSo heeds n past h now now →
