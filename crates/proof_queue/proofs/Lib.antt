@@ -1,4 +1,4 @@
-mod Books
+pub mod Books
 mod Leaving
 mod Undropped
 mod Refused
@@ -8,8 +8,8 @@ mod Sleepers
 mod Walking
 mod Along
 mod Puts
-mod Segments
-mod Kept
+pub mod Segments
+pub mod Kept
 mod Messages
 mod Payloads
 mod Choosing
