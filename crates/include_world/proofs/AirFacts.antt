@@ -3,13 +3,14 @@ use Rattle.std.proofs.Common.{◌≡◌, ℕ, ◌+◌, ◌-◌, ◌<◌, ◌≤�
 use Rattle.std.proofs.lemmas.List.{get_or_append_left, get_or_at, get_or-set_same, get_or-set_other, get_or_past, set_past}
 use Rattle.std.proofs.Math.ListN.{length-set}
 use Rattle.std.proofs.lemmas.Bool.{cases_lt, cases_eq, ltb-false, eqb-false, leb-false, true≢false}
+use Rattle.air_frames.specs.Nonces.{nonce_in}
 use Rattle.include_text.specs.declared.entry.IncludeRefusal.{IncludeRefusal}
 use Rattle.include_world.specs.declared.flight.Heading.{Heading}
 use Rattle.include_world.specs.declared.flight.Heading.TheVariants.{Outward, Homeward}
 use Rattle.include_world.specs.declared.flight.Flight.{Flight}
 use Rattle.include_world.specs.declared.flight.Pair.{Pair}
 use Rattle.include_world.specs.declared.air.Coming.{Coming}
-use Rattle.include_world.specs.Air.{AirState, pair_of, flight, departing, sending, showing, showing_nonce, nonce_in, no_counts, no_flight, frame_at, flight_at, heard_if, is_forgotten, arriving, refusal_of, forgetting}
+use Rattle.include_world.specs.Air.{AirState, pair_of, flight, departing, sending, showing, showing_nonce, no_counts, no_flight, frame_at, flight_at, heard_if, is_forgotten, arriving, refusal_of, forgetting}
 
 -- each of some has it
 abbrev pub Each : {A : Type 0} → (A → Type 0) → List A → Type 0

@@ -7,8 +7,8 @@ use Rattle.include_text.specs.declared.entry.IncludeEntry.{IncludeEntry}
 use Rattle.include_world.specs.declared.flight.Heading.{Heading}
 use Rattle.include_world.specs.declared.flight.Heading.TheVariants.{Outward, Homeward}
 use Rattle.include_world.specs.declared.flight.Pair.{Pair}
-use Rattle.air_frames.specs.Nonces.{is_news}
-use Rattle.include_world.specs.Air.{AirState, departing, sending, sent_entries, air_entry, flight, pair_of, showing, showing_nonce, nonce_in, no_counts}
+use Rattle.air_frames.specs.Nonces.{nonce_in, is_news}
+use Rattle.include_world.specs.Air.{AirState, departing, sending, sent_entries, air_entry, flight, pair_of, showing, showing_nonce, no_counts}
 
 -- what is left from a place on begins with what stands there
 rest_at : {A : Type 0} (xs : List A) (i : ℕ) (x : A) → slice_get xs i ≡ Some x → drop i xs ≡ x ∷ drop (i + 1) xs

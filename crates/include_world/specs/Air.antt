@@ -1,6 +1,6 @@
 -- Frames between node 1 and the others: which are lost, and which may be repeated (this project's own rule, docs/INCLUSION.md).
-use Rattle.std.specs.Prelude.{ℕ, ◌+◌, ◌-◌, ◌^◌, ◌==◌, ◌&&◌, ◌||◌, min, nat_lt, nat_le, if◌then◌else◌, Bool, true, false, drop, Option, Some, None, List, [], ◌∷◌, ◌++◌, length, replicate, slice_set, slice_index, slice_index_or}
-use Rattle.air_frames.specs.Nonces.{is_news}
+use Rattle.std.specs.Prelude.{ℕ, ◌+◌, ◌-◌, ◌^◌, ◌==◌, ◌||◌, min, nat_lt, nat_le, if◌then◌else◌, Bool, true, false, Option, Some, None, List, [], ◌∷◌, ◌++◌, length, replicate, slice_set, slice_index_or}
+use Rattle.air_frames.specs.Nonces.{nonce_in, is_news}
 use Rattle.include_text.specs.declared.entry.IncludeEntry.{IncludeEntry}
 use Rattle.include_text.specs.declared.entry.IncludeEntry.TheVariants.{Air}
 use Rattle.include_text.specs.declared.entry.IncludeRefusal.{IncludeRefusal}
@@ -24,11 +24,6 @@ pub record Airing : Type 0 where
   pub room : ℕ
 
 -- ---- nonces that are shown (Z-Wave Security 0 Command Class: Nonce Report)
-
--- the nonce of a Nonce Report: the eight bytes after class and command
-abbrev pub nonce_in : List ℕ → Option (List ℕ)
-nonce_in payload =
-    if length payload == 10 && ((slice_index payload 0 == 0x98) && (slice_index payload 1 == 0x80)) then Some (drop 2 payload) else None
 
 -- nothing was counted
 abbrev pub no_counts : Pair

@@ -1,19 +1,10 @@
 //! Frames, and what is counted between node 1 and another node.
 
 ghost use Rattle.std.specs.Prelude.{◌≡◌, ◌+◌, ◌^◌, ◌<◌, Option};
-ghost use Rattle.include_world.specs.Air.{nonce_in, showing, last_of, no_counts};
+ghost use Rattle.include_world.specs.Air.{showing, last_of, no_counts};
 
-use air_frames::is_new;
+use air_frames::{is_new, nonce_of};
 use zw_base::{NodeId, Payload};
-
-/// The command class Security 0.
-const SECURITY: u8 = 0x98;
-
-/// Its command Nonce Report.
-const NONCE_REPORT: u8 = 0x80;
-
-/// The bytes of a Nonce Report.
-const NONCE_REPORT_LEN: usize = 10;
 
 /// Which way a frame goes.
 #[derive(Clone, Copy)]
@@ -48,18 +39,6 @@ pub struct Pair {
     pub homeward: Option<[u8; 8]>,
     /// The frames up to this number are heard no more.
     pub forgotten: u64,
-}
-
-/// The nonce that a payload shows, where it is a Nonce Report.
-fn nonce_of(payload: &[u8]) -> Option<[u8; 8]>
-    ensures { result ≡ nonce_in payload.now }
-{
-    if payload.len() == NONCE_REPORT_LEN && payload[0] == SECURITY && payload[1] == NONCE_REPORT {
-        let mut nonce = [0; 8];
-        nonce.copy_from_slice(&payload[2..]);
-        return Some(nonce);
-    }
-    None
 }
 
 impl Pair {

@@ -5,3 +5,7 @@ pub mod Walking
 pub mod Listeners
 pub mod HeardCalls
 pub mod Outwards
+pub mod AttemptEnds
+pub mod FirstWalk
+pub mod TurnOrder
+pub mod Staffing

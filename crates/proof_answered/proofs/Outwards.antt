@@ -119,40 +119,83 @@ takes_marked true true few is = refl
 takes_marked true false few is = absurd cc
 takes_marked false joined few is = absurd cc
 
-module _ (s : ChipState) where
-  given_to : (reply : Option FrameParts) → AllGoTo s.joined (given_outs s reply)
-  given_to None = tt
-  given_to (Some f) = all_said_to s.joined _ (queued_said s.port f)
+-- what is asked is to send to one of these, where the chip takes it
+abbrev IsAskedFor : List Bool → ChipState → Option Request → Type 0
+IsAskedFor these s (Some (SendData n payload options id)) = takes s n payload ≡ true → is_marked these n ≡ true
+IsAskedFor these s request = Unit {0}
 
-  data_to : (b : Bool) (n : ℕ) (payload : List ℕ) (way : Option Route) → (b ≡ true → is_marked s.joined n ≡ true) → AllGoTo s.joined (if b then sent n payload way else [])
+abbrev IsFrameFor : List Bool → ChipState → Option FrameParts → Type 0
+IsFrameFor these s None = Unit {0}
+IsFrameFor these s (Some f) = IsAskedFor these s (asked f)
+
+module _ (these : List Bool) (s : ChipState) where
+  given_to : (reply : Option FrameParts) → AllGoTo these (given_outs s reply)
+  given_to None = tt
+  given_to (Some f) = all_said_to these _ (queued_said s.port f)
+
+  data_to : (b : Bool) (n : ℕ) (payload : List ℕ) (way : Option Route) → (b ≡ true → is_marked these n ≡ true) → AllGoTo these (if b then sent n payload way else [])
   data_to true n payload None marked = (tt, tt)
   data_to true n payload (Some route) marked = (marked refl, tt)
   data_to false n payload way marked = tt
 
-  performed_to : (request : Request) (way : Option Route) → AllGoTo s.joined (performed_outs request s way)
-  performed_to (SendData n payload options id) way = data_to (takes s n payload) n payload way (λ taken. takes_marked (is_idle s.sending) (is_marked s.joined n) _ taken)
-  performed_to (RequestNodeInfo n) way = (tt, tt)
-  performed_to GetInitData way = tt
-  performed_to GetCapabilities way = tt
-  performed_to GetVersion way = tt
-  performed_to SendDataAbort way = tt
-  performed_to MemoryGetId way = tt
-  performed_to (GetNodeProtocolInfo n) way = tt
-  performed_to (AddNode mode id) way = tt
-  performed_to (IsFailedNode n) way = tt
-  performed_to (GetRoutingInfo n x y z) way = tt
+  performed_to : (request : Request) (way : Option Route) → IsAskedFor these s (Some request) → AllGoTo these (performed_outs request s way)
+  performed_to (SendData n payload options id) way is_for = data_to (takes s n payload) n payload way is_for
+  performed_to (RequestNodeInfo n) way is_for = (tt, tt)
+  performed_to GetInitData way is_for = tt
+  performed_to GetCapabilities way is_for = tt
+  performed_to GetVersion way is_for = tt
+  performed_to SendDataAbort way is_for = tt
+  performed_to MemoryGetId way is_for = tt
+  performed_to (GetNodeProtocolInfo n) way is_for = tt
+  performed_to (AddNode mode id) way is_for = tt
+  performed_to (IsFailedNode n) way is_for = tt
+  performed_to (GetRoutingInfo n x y z) way is_for = tt
 
-  requested_to : (request : Option Request) (way : Option Route) → AllGoTo s.joined (requested_outs request s way)
-  requested_to None way = tt
-  requested_to (Some request) way = all-append (GoesTo s.joined) (given_outs s (reply_to s request)) (performed_outs request s way) (given_to (reply_to s request)) (performed_to request way)
+  requested_to : (request : Option Request) (way : Option Route) → IsAskedFor these s request → AllGoTo these (requested_outs request s way)
+  requested_to None way is_for = tt
+  requested_to (Some request) way is_for = all-append (GoesTo these) (given_outs s (reply_to s request)) (performed_outs request s way) (given_to (reply_to s request)) (performed_to request way is_for)
 
-  judged_to : (frame : Option FrameParts) (way : Option Route) → AllGoTo s.joined (judged_outs frame s way)
-  judged_to None way = all_said_to s.joined _ (written_said (next_at s.port.side.turn s.port.waiting))
-  judged_to (Some f) way = requested_to (asked f) way
+  judged_to : (frame : Option FrameParts) (way : Option Route) → IsFrameFor these s frame → AllGoTo these (judged_outs frame s way)
+  judged_to None way is_for = all_said_to these _ (written_said (next_at s.port.side.turn s.port.waiting))
+  judged_to (Some f) way is_for = requested_to (asked f) way is_for
 
-item_to : (s : ChipState) (item : Item) (way : Option Route) → AllGoTo s.joined (outs s (Judged item way))
-item_to s item way =
-    all-append (GoesTo s.joined) (answer_outs (collides s) item) (judged_outs (passed (collides s) item) (heard s item) way) (answer_to s.joined (collides s) item) (judged_to (heard s item) (passed (collides s) item) way)
+item_to : (these : List Bool) (s : ChipState) (item : Item) (way : Option Route) → IsFrameFor these (heard s item) (passed (collides s) item) → AllGoTo these (outs s (Judged item way))
+item_to these s item way is_for =
+    all-append (GoesTo these) (answer_outs (collides s) item) (judged_outs (passed (collides s) item) (heard s item) way) (answer_to these (collides s) item) (judged_to these (heard s item) (passed (collides s) item) way is_for)
+
+-- so where the chip takes payloads for joined nodes alone
+request_joined : (s : ChipState) (request : Option Request) → IsAskedFor s.joined s request
+request_joined s None = tt
+request_joined s (Some (SendData n payload options id)) = λ taken. takes_marked (is_idle s.sending) (is_marked s.joined n) _ taken
+request_joined s (Some request) = tt
+
+frame_joined : (s : ChipState) (frame : Option FrameParts) → IsFrameFor s.joined s frame
+frame_joined s None = tt
+frame_joined s (Some f) = request_joined s (asked f)
+
+-- an acknowledgement puts nothing on the air, and a frame what it asks for
+pub acks_to : (these : List Bool) (s : ChipState) (way : Option Route) → AllGoTo these (outs s (Judged (Good Ack) way))
+acks_to these s way = item_to these s (Good Ack) way (by (collides s))
+  where
+    by : (b : Bool) → IsFrameFor these (heard s (Good Ack)) (passed b (Good Ack))
+    by true = tt
+    by false = tt
+
+pub asks_to : (these : List Bool) (s : ChipState) (frame : FrameParts) (way : Option Route) → ((n : ℕ) (payload : List ℕ) (options id : ℕ) → asked frame ≡ Some (SendData n payload options id) → is_marked these n ≡ true)
+    → AllGoTo these (outs s (Judged (Good (Framed frame)) way))
+asks_to these s frame way marked = item_to these s (Good (Framed frame)) way (by (collides s))
+  where
+    hs : ChipState
+    hs = heard s (Good (Framed frame))
+
+    of : (request : Option Request) → asked frame ≡ request → IsAskedFor these hs request
+    of None is = tt
+    of (Some (SendData n payload options id)) is = λ taken. marked n payload options id is
+    of (Some request) is = tt
+
+    by : (b : Bool) → IsFrameFor these hs (passed b (Good (Framed frame)))
+    by true = tt
+    by false = of (asked frame) refl
 
 -- ---- frames more
 
@@ -222,7 +265,7 @@ each_to s [] = tt
 each_to s (way ∷ ways) =
     let next : ChipState = after s (Judged way.0 way.1) in
     let still : next.joined ≡ s.joined = ap (λ (of : Network × List Bool). of.1) (judged_of (passed (collides s) way.0) (heard s way.0)) in
-    (item_to s way.0 way.1, subst (λ (l : List Bool). EachGoesTo l next ways) still (each_to next ways))
+    (item_to s.joined s way.0 way.1 (frame_joined (heard s way.0) (passed (collides s) way.0)), subst (λ (l : List Bool). EachGoesTo l next ways) still (each_to next ways))
 
 sent_to_joined : (m : Machine) (event : Event) → IsSentTo m.outside.outer.chip.state.joined m event
 sent_to_joined m (Outside_does (Chip_takes count rest ways)) = each_to m.outside.outer.chip.state ways

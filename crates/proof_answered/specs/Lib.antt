@@ -2,3 +2,6 @@ pub mod Few
 pub mod Listening
 pub mod Heard
 pub mod Outward
+pub mod FirstAttempts
+pub mod Turns
+pub mod Workers

@@ -31,7 +31,7 @@ use Rattle.proof_chip.proofs.Judged.{goes_back}
 use Rattle.proof_chip.proofs.Ordering.{event_answers}
 use Rattle.proof_chip.proofs.Settling.{AreIdle, IsIdle, given_still}
 use Rattle.proof_chip.proofs.Telling.{AreAside, IsAside}
-use Rattle.proof_chip.proofs.Walking.{air_aside}
+use Rattle.proof_chip.proofs.Learning.{air_aside}
 
 -- the frames that the chip is given by it
 abbrev pub posts_by : {o : OuterState} {x : Outcome} → Account o x → List FrameParts

@@ -11,7 +11,7 @@ use Rattle.outside_model.specs.Devices.{State}
 use Rattle.outside_model.specs.State.{first_outer}
 use Rattle.world_model.specs.State.{first_machine}
 use Rattle.proof_devices.specs.proof_air.proof_walk.Phases.{Between}
-use Rattle.proof_chip.proofs.Ending.{serves_none}
+use Rattle.proof_chip.proofs.Growing.{serves_none}
 use Rattle.proof_answers.specs.Telling.{KnowTells}
 
 none_are : (node : ℕ) → slice_index_or (replicate 233 false) node false ≡ false

@@ -1,6 +1,6 @@
 -- That the chip was given just what it has for its host goes on where the next frame on the air arrives, be it of a device or of the controller.
-use Rattle.std.proofs.Common.{◌≡◌, ◌<◌, ◌≤◌, ℕ, suc, ◌+◌, ◌-◌, ◌==◌, nat_lt, Bool, true, false, if◌then◌else◌, List, [], ◌∷◌, ◌++◌, filter, length, map, refl, sym, ap, ap₂, ◌∙◌, subst, append-nil, append_assoc, arith}
-use Rattle.std.specs.Prelude.{Option, Some, None, slice_get}
+use Rattle.std.proofs.Common.{◌≡◌, ℕ, suc, ◌+◌, ◌-◌, ◌==◌, nat_lt, Bool, true, false, if◌then◌else◌, List, [], ◌∷◌, ◌++◌, filter, map, refl, sym, ap, ap₂, ◌∙◌, subst, append-nil, append_assoc}
+use Rattle.std.specs.Prelude.{Option, Some, None}
 use Rattle.std.specs.Option.{unwrap_or}
 use Rattle.std.specs.List.{AllByRecursion}
 use Rattle.zw_base.proofs.Each.{all-append, all-weaker}
@@ -8,22 +8,17 @@ use Rattle.serial_frame.specs.Frame.{FrameParts}
 use Rattle.serial_link.specs.Rules.{Step}
 use Rattle.route_table.specs.declared.route.Route.{Route}
 use Rattle.device_sim.specs.Event.{DeviceEvent, Hears}
-use Rattle.air_frames.specs.declared.frame.Heading.{Heading}
 use Rattle.air_frames.specs.declared.frame.Heading.TheVariants.{Outward, Homeward}
 use Rattle.air_frames.specs.Flown.{Flown}
-use Rattle.air_frames.specs.Frames.{FramesState, next_of}
-use Rattle.air_frames.specs.History.{stamped}
 use Rattle.chip_functions.specs.Notice.{status_of as status_by}
 use Rattle.chip_sim.specs.declared.out.Sending.{Sending as SendingParts}
 use Rattle.chip_functions.specs.declared.notice.TransmitStatus.{TransmitStatus}
 use Rattle.chip_functions.specs.declared.notice.TransmitStatus.TheVariants.{CompleteOk, Fail, NoAck}
 use Rattle.mesh_sim.specs.declared.event.AirEvent.{AirEvent}
 use Rattle.mesh_sim.specs.declared.event.AirEvent.TheVariants as tells
-use Rattle.mesh_sim.specs.declared.fate.Fate.{Fate}
-use Rattle.mesh_sim.specs.declared.fate.Fate.TheVariants as fate
 use Rattle.mesh_sim.specs.Air.{AirState}
-use Rattle.mesh_sim.specs.Fates.{Mesh, dead_hop_of, fate_of, listener_of, place_of}
-use Rattle.mesh_sim.specs.Steps.{acknowledged, arrival_outs, arrival_outs_as, arriving, arriving_as, done_of, heard_at, landed, mesh_after, mesh_outs, outs_at, status_of}
+use Rattle.mesh_sim.specs.Fates.{Mesh, place_of}
+use Rattle.mesh_sim.specs.Steps.{acknowledged, heard_at, landed, mesh_after, mesh_outs, outs_at, status_of}
 use Rattle.mesh_sim.specs.Steps as mesh
 use Rattle.zw_text.specs.declared.entry.Entry.{Entry}
 use Rattle.zw_text.specs.declared.entry.Entry.TheVariants as entry
@@ -36,33 +31,22 @@ use Rattle.outside_model.specs.Devices.{State}
 use Rattle.outside_model.specs.State.{OuterState, Outside, each}
 use Rattle.outside_model.specs.Air.{change_at, change_entries, deals}
 use Rattle.outside_model.specs.Results.{device_at, frame_ends}
-use Rattle.outside_model.specs.Events.{Arrives, mesh_of, steps, happens as happens_outside}
+use Rattle.outside_model.specs.Events.{Arrives, steps, happens as happens_outside}
 use Rattle.proof_devices.proofs.Entered.{IsChange, change_entered}
-use Rattle.proof_devices.proofs.ChangesOutside.{fate_home, fate_out}
 use Rattle.proof_devices.specs.proof_air.proof_walk.Outside.{nothing}
 use Rattle.proof_devices.specs.proof_air.Logs.{Tie}
-use Rattle.proof_devices.proofs.Homes.{next_home, next_stands}
 use Rattle.proof_chip.specs.proof_line.proof_traffic.OnAir.{on_air}
-use Rattle.proof_chip.specs.proof_line.proof_traffic.Flights.{Fly}
-use Rattle.proof_chip.specs.proof_line.proof_traffic.OutsideTraffic.{one_outward, outward}
-use Rattle.proof_chip.proofs.ArrivedFrames.{Homes, arrives_home}
 use Rattle.proof_chip.proofs.ChipAccounts.{all_account, ends_account, steps_account, steps_by}
-use Rattle.proof_chip.proofs.ChipNotices.{arrived_air}
-use Rattle.proof_chip.proofs.Flights.{flights_are}
 use Rattle.proof_chip.proofs.Parts.{Laws}
 use Rattle.proof_chip.specs.Calling.{Waits}
 use Rattle.proof_chip.specs.Serving.{GoesOn, as_given}
-use Rattle.proof_chip.specs.Tally.{AreNumbered, AreOwn, Outlook, TallyBefore, TallySo, number_of, numbers_from, outlook}
+use Rattle.proof_chip.specs.Tally.{AreNumbered, Outlook, TallyBefore, TallySo, numbers_from, outlook}
 use Rattle.proof_chip.proofs.Arriving.{ArePlain, plain_apart}
 use Rattle.proof_chip.proofs.Asides.{IsUnrelated}
-use Rattle.proof_chip.proofs.Calling.{flying}
-use Rattle.proof_chip.proofs.Finishing.{Sees}
 use Rattle.proof_chip.proofs.Hearing.{has_room, home_ends, home_fate}
-use Rattle.proof_chip.proofs.Landed.{SameFrames, done_by, done_plain, home_at, none_at, none_listens, plus_one, same_handlers, same_home, same_outward}
-use Rattle.proof_chip.proofs.Numbering.{numbers_above, numbers_many, with_number}
+use Rattle.proof_chip.proofs.Incoming.{EachCase, HasLanded, IsNext, SameFrames, done_by, done_plain, it_falls, it_is_next, landed_mesh}
+use Rattle.proof_chip.proofs.Numbering.{with_number}
 use Rattle.proof_chip.proofs.Settling.{AreIdle, IsIdle}
-use Rattle.proof_chip.proofs.Standing.{goes_none}
-use Rattle.proof_chip.proofs.Steady.{homes_numbers}
 use Rattle.proof_chip.proofs.Fating.{IsFate, fate_other}
 use Rattle.proof_answers.specs.Telling.{HasFailing, IsUnder, TellSo, TellsBefore}
 use Rattle.proof_answers.proofs.Accounts.{posts_by}
@@ -169,14 +153,11 @@ module _ (devices : List State) (laws : Laws) (past : List Entry) (w : Outside) 
   abbrev its_number : ℕ
   its_number = w.outer.air.frames.landed + 1
 
-  fly : Fly tie.log (flight ∷ flights) w.outer.air.frames
-  fly = subst (λ (fs : List Flown). Fly tie.log fs w.outer.air.frames) on (flying tie.log w.outer.air.frames tie.kept)
+  abbrev numbers : List ℕ
+  numbers = numbers_from (its_number + 1) flights
 
-  next : next_of w.outer.air.frames ≡ Some flight
-  next = laws.air.next tie.log flight flights w.outer.air.frames fly
-
-  stands : slice_get (stamped [] tie.log) w.outer.air.frames.landed ≡ Some flight
-  stands = next_stands past w tie flight next
+  it : IsNext devices w.outer flight flights left here
+  it = it_is_next laws past w tie flight flights on devices waits left did here same tally
 
   abbrev with_air : AirState → OuterState
   with_air air = record w.outer { air = air }
@@ -202,9 +183,6 @@ module _ (devices : List State) (laws : Laws) (past : List Entry) (w : Outside) 
 
   -- ---- a frame of a device
 
-  not_outward : flight.heading ≡ Homeward → is_outward here its_number ≡ false
-  not_outward heads = same_outward here past same its_number ∙ subst (λ (n : ℕ). is_outward past n ≡ false) (plus_one w.outer.air.frames.landed) (home_at past w tie w.outer.air.frames.landed flight stands heads)
-
   -- nothing ends
   stays : (air : AirState) (q : OuterState) → SameOwing (record w.outer { air = air }) q → (course : Course) (e : Entry) → IsFate e → ended_at course here e ≡ [] → (frames : List FrameParts) → TellsBefore devices true (record w.outer { air = air }) frames course here
       → Ends (record w.outer { air = air }) q course here e
@@ -228,16 +206,16 @@ module _ (devices : List State) (laws : Laws) (past : List Entry) (w : Outside) 
       ))
 
   home_lost : (m : Mesh) → flight.heading ≡ Homeward → Ends_so m (tells.Lost its_number ∷ [])
-  home_lost m heads = home_none m.air (entry.Lost its_number) tt refl refl (λ course. ap (λ (l : List Sending). ended_by NoAck l) (none_sent course here its_number (not_outward heads))) m.devices
+  home_lost m heads = home_none m.air (entry.Lost its_number) tt refl refl (λ course. ap (λ (l : List Sending). ended_by NoAck l) (none_sent course here its_number (it.not_outward heads))) m.devices
 
   home_unheard : (m : Mesh) → flight.heading ≡ Homeward → Ends_so m (tells.Unheard its_number ∷ [])
-  home_unheard m heads = home_none m.air (entry.Unheard its_number) tt refl refl (λ course. ap (λ (l : List Sending). ended_by NoAck l) (none_sent course here its_number (not_outward heads))) m.devices
+  home_unheard m heads = home_none m.air (entry.Unheard its_number) tt refl refl (λ course. ap (λ (l : List Sending). ended_by NoAck l) (none_sent course here its_number (it.not_outward heads))) m.devices
 
   home_heard : (m : Mesh) → flight.heading ≡ Homeward → Ends_so m (tells.Heard its_number ∷ tells.ToChip its_number flight.node flight.payload ∷ [])
   home_heard m heads =
       let o : OuterState = with_air m.air in
-      let none : (course : Course) → ended_at course here (entry.Heard its_number) ≡ [] = λ course. home_ends course here its_number apart (not_outward heads) in
-      let handles = handlers_are here its_number flight.node flight.payload (same_home here past same its_number flight.node flight.payload (next_home past w tie flight next heads)) in
+      let none : (course : Course) → ended_at course here (entry.Heard its_number) ≡ [] = λ course. home_ends course here its_number apart (it.not_outward heads) in
+      let handles = handlers_are here its_number flight.node flight.payload (it.home heads) in
       tells_with m.air (entry.Heard its_number) tt (home_fate here its_number apart) m.devices (tells.ToChip its_number flight.node flight.payload ∷ []) (heard_frames (has_room flight.payload) flight.node flight.payload)
       (heard_posts m.devices o its_number flight.node flight.payload) (heard_idle m.devices o its_number flight.node flight.payload) (heard_calm m.devices o its_number flight.node flight.payload)
       (λ frames course goes was. (
@@ -247,49 +225,13 @@ module _ (devices : List State) (laws : Laws) (past : List Entry) (w : Outside) 
 
   -- ---- a frame of the controller
 
-  abbrev numbers : List ℕ
-  numbers = numbers_from (its_number + 1) flights
-
-  own_numbers : flight.heading ≡ Outward → v.numbers ≡ its_number ∷ numbers
-  own_numbers heads = ap (λ (fs : List Flown). numbers_from its_number fs) on ∙ ap (λ (h : Heading). number_of h its_number ++ numbers) heads
-
-  is_own : flight.heading ≡ Outward → is_outward here its_number ≡ true
-  is_own heads =
-      let (given_frames, serves, are) = tally in
-      let own_all : AreOwn here v.numbers = (are (course_of did) (goes_none (course_of did))).own in
-      (subst (λ (l : List ℕ). AreOwn here l) (own_numbers heads) own_all).0
-
-  none_handles : flight.heading ≡ Outward → handlers_at here (entry.Heard its_number) ≡ []
-  none_handles heads =
-      same_handlers here past same its_number
-      ∙ subst (λ (n : ℕ). handlers_at past (entry.Heard n) ≡ []) (plus_one w.outer.air.frames.landed) (none_at past w tie w.outer.air.frames.landed flight stands heads)
-
-  sees : (air : AirState) → air.frames.landed ≡ its_number → numbers_from (its_number + 1) (on_air air.frames) ≡ numbers → flight.heading ≡ Outward → Sees devices v left its_number numbers (with_air air)
-  sees air at are heads = record {
-    sending = refl;
-    by_frame = refl;
-    infos = refl;
-    clock = refl;
-    own = own_numbers heads;
-    rest = sym are ∙ ap (λ (n : ℕ). numbers_from (n + 1) (on_air air.frames)) (sym at);
-    each_call = waits.each;
-    flies =
-        sym waits.await.frames ∙ (ap outward on ∙ (ap (λ (h : Heading). one_outward h + outward flights) heads ∙ one_plus (outward flights) (length numbers) (numbers_many (its_number + 1) flights)));
-  }
-    where
-      one_plus : (m n : ℕ) → n ≡ m → 1 + m ≡ suc n
-      one_plus m n is = omega (arith, is)
-
-  above : AllByRecursion (λ (n : ℕ). its_number < n) numbers
-  above = all-weaker (λ (n : ℕ). its_number + 1 ≤ n) (λ (n : ℕ). its_number < n) (λ n is. omega (arith, is)) numbers (numbers_above (its_number + 1) flights)
-
   numbered : (course : Course) → GoesOn (course_of did) course → AreNumbered v.sending v.by_frame v.numbers (last_sending course here)
   numbered course goes = let (given_frames, serves, are) = tally in (are course goes).numbered
 
   -- its fate, what a device does, and its end
   own_ends : (m : Mesh) (e : Entry) (fate : IsFate e) → first_fate here e ≡ its_number ∷ [] → handlers_at here e ≡ [] → (plain : List AirEvent) → ArePlain plain → (status : ℕ) (dead : Option (ℕ × ℕ)) → flight.heading ≡ Outward
       → ((course : Course) → ended_at course here e ≡ ended_by (unwrap_or (status_by status) Fail) (sent_as course here its_number))
-      → (m.air.frames.landed ≡ its_number) × (numbers_from (its_number + 1) (on_air m.air.frames) ≡ numbers)
+      → HasLanded w.outer flights m.air
       → TellSo (TellsBefore devices true (each (deals m.devices) (with_air m.air) (plain ++ tells.Done its_number status dead ∷ [])).outer) (did ++ steps_by (all_account m.devices (plain ++ tells.Done its_number status dead ∷ []) (with_air m.air)))
       (here ++ (e ∷ (each (deals m.devices) (with_air m.air) (plain ++ tells.Done its_number status dead ∷ [])).entries)) (each (deals m.devices) (with_air m.air) (plain ++ tells.Done its_number status dead ∷ [])).outer.chip.state.port
   own_ends m e fate first handles plain are status dead heads ended at =
@@ -297,85 +239,47 @@ module _ (devices : List State) (laws : Laws) (past : List Entry) (w : Outside) 
       let rest : List AirEvent = plain ++ tells.Done its_number status dead ∷ [] in
       let done : TransmitStatus = unwrap_or (status_by status) Fail in
       let finish : Finish v its_number o (frame_ends o status dead).outer (posts_by (ends_account o status dead)) done =
-      frame_finish devices v left its_number numbers above o status dead (sees m.air at.0 at.1 heads) waits.await.results in
+      frame_finish devices v left its_number numbers it.above o status dead (it.sees m.air at heads) waits.await.results in
       tells_with m.air e fate first m.devices rest (posts_by (ends_account o status dead)) (plain_ends m.devices plain o its_number status dead are) (ends_idle m.devices plain o its_number status dead are)
       (ends_calm m.devices plain o its_number status dead are)
       (λ frames course goes was.
       subst (λ (q : OuterState). (handlers_at here e ++ map callback_of (ended_at course here e) ≡ as_given (posts_by (ends_account o status dead))) × Ends o q course here e) (sym (plain_outer m.devices plain o its_number status dead are))
       (agrees v its_number o (frame_ends o status dead).outer (posts_by (ends_account o status dead)) done course here e (fate_other e fate) (ends_clock o status dead) handles
-      (ended course ∙ ap (λ (l : List Sending). ended_by done l) (own_sent course here its_number (is_own heads))) (numbered course goes) was.under finish))
+      (ended course ∙ ap (λ (l : List Sending). ended_by done l) (own_sent course here its_number (it.is_own heads))) (numbered course goes) was.under finish))
 
-  own_lost : (m : Mesh) (status : ℕ) (dead : Option (ℕ × ℕ)) → status ≡ 1 → flight.heading ≡ Outward → (m.air.frames.landed ≡ its_number) × (numbers_from (its_number + 1) (on_air m.air.frames) ≡ numbers)
-      → Ends_so m (tells.Lost its_number ∷ tells.Done its_number status dead ∷ [])
-  own_lost m status dead is heads at =
-      own_ends m (entry.Lost its_number) tt refl refl [] tt status dead heads (λ course. ap (λ (n : ℕ). ended_by (unwrap_or (status_by n) Fail) (sent_as course here its_number)) (sym is)) at
+  own_lost : (m : Mesh) → HasLanded w.outer flights m.air → (dead : Option (ℕ × ℕ)) → flight.heading ≡ Outward → Ends_so m (tells.Lost its_number ∷ tells.Done its_number 1 dead ∷ [])
+  own_lost m at dead heads = own_ends m (entry.Lost its_number) tt refl refl [] tt 1 dead heads (λ course. refl) at
 
-  own_unheard : (m : Mesh) (status : ℕ) (dead : Option (ℕ × ℕ)) → status ≡ 1 → flight.heading ≡ Outward → (m.air.frames.landed ≡ its_number) × (numbers_from (its_number + 1) (on_air m.air.frames) ≡ numbers)
-      → Ends_so m (tells.Unheard its_number ∷ tells.Done its_number status dead ∷ [])
-  own_unheard m status dead is heads at =
-      own_ends m (entry.Unheard its_number) tt refl refl [] tt status dead heads (λ course. ap (λ (n : ℕ). ended_by (unwrap_or (status_by n) Fail) (sent_as course here its_number)) (sym is)) at
-
-  lost_by : (m : Mesh) (dead : Option (ℕ × ℕ)) (heading : Heading) → flight.heading ≡ heading → (m.air.frames.landed ≡ its_number) × (numbers_from (its_number + 1) (on_air m.air.frames) ≡ numbers)
-      → Ends_so m (tells.Lost its_number ∷ done_of heading its_number 1 dead)
-  lost_by m dead Outward heads at = own_lost m 1 dead refl heads at
-  lost_by m dead Homeward heads at = home_lost m heads
-
-  unheard_by : (m : Mesh) (dead : Option (ℕ × ℕ)) (heading : Heading) → flight.heading ≡ heading → (m.air.frames.landed ≡ its_number) × (numbers_from (its_number + 1) (on_air m.air.frames) ≡ numbers)
-      → Ends_so m (tells.Unheard its_number ∷ done_of heading its_number 1 dead)
-  unheard_by m dead Outward heads at = own_unheard m 1 dead refl heads at
-  unheard_by m dead Homeward heads at = home_unheard m heads
+  own_unheard : (m : Mesh) → HasLanded w.outer flights m.air → (dead : Option (ℕ × ℕ)) → flight.heading ≡ Outward → Ends_so m (tells.Unheard its_number ∷ tells.Done its_number 1 dead ∷ [])
+  own_unheard m at dead heads = own_ends m (entry.Unheard its_number) tt refl refl [] tt 1 dead heads (λ course. refl) at
 
   -- a device hears it
-  abbrev base : Mesh
-  base = record { air = landed (acknowledged w.outer.air); devices = w.devices }
-
-  heard_by : (place : ℕ) (found : Option State) → slice_get w.devices place ≡ found → (slice_get w.devices place ≡ None → ⊥) → (drawn : List ℕ) (route : Option Route) → flight.heading ≡ Outward
-      → (let m : Mesh = heard_at base place found flight.node route (Hears flight.payload drawn) in
-      (m.air.frames.landed ≡ its_number) × (numbers_from (its_number + 1) (on_air m.air.frames) ≡ numbers))
-      → Ends_so (heard_at base place found flight.node route (Hears flight.payload drawn)) (outs_at base found its_number flight.node route (Hears flight.payload drawn) ++ tells.Done its_number (status_of w.outer.air) None ∷ [])
-  heard_by place None is some drawn route heads at = absurd (some is)
-  heard_by place (Some device) is some drawn route heads at =
+  own_heard : (place : ℕ) (device : State) (drawn : List ℕ) (route : Option Route) → HasLanded w.outer flights (heard_at (landed_mesh w) place (Some device) flight.node route (Hears flight.payload drawn)).air
+      → flight.heading ≡ Outward
+      → Ends_so (heard_at (landed_mesh w) place (Some device) flight.node route (Hears flight.payload drawn))
+      (outs_at (landed_mesh w) (Some device) its_number flight.node route (Hears flight.payload drawn) ++ tells.Done its_number (status_of w.outer.air) None ∷ [])
+  own_heard place device drawn route at heads =
       let event : DeviceEvent = Hears flight.payload drawn in
-      let m : Mesh = heard_at base place (Some device) flight.node route event in
-      own_ends m (entry.Heard its_number) tt (home_fate here its_number apart) (none_handles heads) (done_by base.air flight.node route device event) (done_plain base.air flight.node route device event tie.home) (status_of w.outer.air) None heads
+      let air : AirState = landed (acknowledged w.outer.air) in
+      own_ends (heard_at (landed_mesh w) place (Some device) flight.node route event) (entry.Heard its_number) tt (home_fate here its_number apart) (it.unhandled heads) (done_by air flight.node route device event)
+      (done_plain air flight.node route device event tie.home) (status_of w.outer.air) None heads
       (λ course.
       ap (λ (b : Bool). if b then [] else ended_by (status_heard here) (sent_as course here its_number)) apart
       ∙ ap (λ (status : TransmitStatus). ended_by status (sent_as course here its_number)) (acked w.outer.air here acks)) at
 
-  by_fate : (x : Fate) (drawn : List ℕ) (route : Option Route) → fate_of w.outer.air.network w.devices flight ≡ x
-      → (let m : Mesh = arriving_as (mesh_of w) flight x drawn route in (m.air.frames.landed ≡ its_number) × (numbers_from (its_number + 1) (on_air m.air.frames) ≡ numbers))
-      → Ends_so (arriving_as (mesh_of w) flight x drawn route) (arrival_outs_as (mesh_of w) its_number flight x drawn route)
-  by_fate fate.Lost drawn route is at = lost_by (arriving_as (mesh_of w) flight fate.Lost drawn route) None flight.heading refl at
-  by_fate (fate.Dead from to) drawn route is at = unheard_by (arriving_as (mesh_of w) flight (fate.Dead from to) drawn route) (Some (from, to)) flight.heading refl at
-  by_fate fate.Missed drawn route is at = unheard_by (arriving_as (mesh_of w) flight fate.Missed drawn route) None flight.heading refl at
-  by_fate fate.AtChip drawn route is at =
-      home_heard (arriving_as (mesh_of w) flight fate.AtChip drawn route) (fate_home flight.lost (dead_hop_of w.outer.air.network flight) flight.heading (listener_of flight.node w.devices) is)
-  by_fate (fate.AtDevice place) drawn route is at =
-      let out = fate_out flight.lost (dead_hop_of w.outer.air.network flight) flight.heading (listener_of flight.node w.devices) place is in
-      heard_by place (slice_get w.devices place) refl (λ none. none_listens w.devices (place_of flight.node w.devices) place out.1 none) drawn route out.0 at
-
-  arrives_by : (found : Option Flown) (drawn : List ℕ) (route : Option Route) → found ≡ Some flight
-      → (let m : Mesh = arriving (mesh_of w) found drawn route in (m.air.frames.landed ≡ its_number) × (numbers_from (its_number + 1) (on_air m.air.frames) ≡ numbers))
-      → Ends_so (arriving (mesh_of w) found drawn route) (arrival_outs (mesh_of w) found drawn route)
-  arrives_by None drawn route is at = absurd cc
-  arrives_by (Some one) drawn route is at =
-      let same_one : flight ≡ one = cc in
-      subst (λ (f : Flown). Ends_so (arriving_as (mesh_of w) f (fate_of w.outer.air.network w.devices f) drawn route) (arrival_outs_as (mesh_of w) its_number f (fate_of w.outer.air.network w.devices f) drawn route)) same_one
-      (by_fate (fate_of w.outer.air.network w.devices flight) drawn route refl (
-        subst (λ (f : Flown). (arriving_as (mesh_of w) f (fate_of w.outer.air.network w.devices f) drawn route).air.frames.landed ≡ its_number) (sym same_one) at.0,
-        subst (λ (f : Flown). numbers_from (its_number + 1) (on_air (arriving_as (mesh_of w) f (fate_of w.outer.air.network w.devices f) drawn route).air.frames) ≡ numbers) (sym same_one) at.1,
-      ))
+  each_case : EachCase w flight flights Ends_so
+  each_case = record {
+    home_lost = λ m is heads. home_lost m heads;
+    home_unheard = λ m is heads. home_unheard m heads;
+    home_heard = λ m is heads. home_heard m heads;
+    own_lost = own_lost;
+    own_unheard = own_unheard;
+    own_heard = own_heard;
+  }
 
   -- all of it
   pub arrives_tells : (drawn : List ℕ) (route : Option Route) → (happens_outside w (Arrives drawn route)).outer.air.frames.landed ≡ w.outer.air.frames.landed + 1
       → TellSo (TellsBefore devices true (steps w (mesh.Arrives drawn route)).outer) (did ++ steps_by (steps_account w (mesh.Arrives drawn route)))
       (here ++ (steps w (mesh.Arrives drawn route)).entries) (steps w (mesh.Arrives drawn route)).outer.chip.state.port
   unfolding mesh_after mesh_outs steps_account
-  arrives_tells drawn route lands =
-      let air_is : (happens_outside w (Arrives drawn route)).outer.air ≡ (arriving (mesh_of w) (next_of w.outer.air.frames) drawn route).air = arrived_air w drawn route in
-      let home : Homes tie.log flights (happens_outside w (Arrives drawn route)).outer.air.frames = arrives_home laws.air tie.log flight flights w drawn route fly in
-      let frames_now : FramesState = (happens_outside w (Arrives drawn route)).outer.air.frames in
-      let are : numbers_from (its_number + 1) (on_air frames_now) ≡ numbers =
-      ap (λ (fs : List Flown). numbers_from (its_number + 1) fs) (sym (flights_are (tie.log ++ home.more) (flights ++ home.home) frames_now home.fly)) ∙ homes_numbers (its_number + 1) flights home.home home.none_outward in
-      arrives_by (next_of w.outer.air.frames) drawn route next
-      (sym (ap (λ (a : AirState). a.frames.landed) air_is) ∙ lands, ap (λ (a : AirState). numbers_from (its_number + 1) (on_air a.frames)) (sym air_is) ∙ are)
+  arrives_tells drawn route lands = it_falls w flight flights Ends_so each_case laws past tie on drawn route lands

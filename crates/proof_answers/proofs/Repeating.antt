@@ -1,21 +1,17 @@
 -- That the chip was given just what it has for its host goes on where a frame is heard again, or its repeat refused.
-use Rattle.std.proofs.Common.{◌≡◌, ℕ, zero, suc, ◌&&◌, not, Bool, true, false, if◌then◌else◌, List, [], ◌∷◌, ◌++◌, refl, sym, ap, ◌∙◌, subst, append-nil}
-use Rattle.std.specs.Prelude.{Option, Some, None, slice_get}
+use Rattle.std.proofs.Common.{◌≡◌, ℕ, ◌&&◌, not, Bool, true, false, if◌then◌else◌, List, [], ◌∷◌, ◌++◌, refl, sym, ap, ◌∙◌, subst, append-nil}
+use Rattle.std.specs.Prelude.{Option, Some, None}
 use Rattle.zw_base.proofs.Each.{all-weaker}
 use Rattle.serial_link.specs.Rules.{Step}
 use Rattle.route_table.specs.declared.route.Route.{Route}
 use Rattle.device_sim.specs.Event.{DeviceEvent, Hears}
 use Rattle.air_frames.specs.declared.ages.Refusal.{Refusal as RepeatRefusal}
 use Rattle.air_frames.specs.Ages.{refusal_of}
-use Rattle.air_frames.specs.declared.frame.Heading.{Heading}
-use Rattle.air_frames.specs.declared.frame.Heading.TheVariants.{Outward, Homeward}
-use Rattle.air_frames.specs.Flown.{Flown}
-use Rattle.air_frames.specs.Frames.{remembered}
 use Rattle.mesh_sim.specs.declared.event.AirEvent.{AirEvent}
 use Rattle.mesh_sim.specs.declared.event.AirEvent.TheVariants as tells
 use Rattle.mesh_sim.specs.Air.{AirState}
-use Rattle.mesh_sim.specs.Fates.{Mesh, listener_of}
-use Rattle.mesh_sim.specs.Steps.{heard_again, heard_at, mesh_after, mesh_outs, outs_again, outs_at, repeat_outs, repeat_outs_by, repeating, repeating_by}
+use Rattle.mesh_sim.specs.Fates.{Mesh}
+use Rattle.mesh_sim.specs.Steps.{heard_at, mesh_after, mesh_outs, outs_at}
 use Rattle.mesh_sim.specs.Steps as mesh
 use Rattle.zw_text.specs.declared.entry.Entry.{Entry}
 use Rattle.zw_text.specs.declared.entry.Entry.TheVariants as entry
@@ -28,13 +24,13 @@ use Rattle.outside_model.specs.Air.{deals}
 use Rattle.outside_model.specs.Events.{Repeats, entries as entries_outside, happens as happens_outside, has_entered, mesh_of, outcome, repeats, stamp, steps}
 use Rattle.proof_devices.specs.proof_air.proof_walk.Outside.{nothing}
 use Rattle.proof_devices.specs.proof_air.Logs.{Tie}
-use Rattle.proof_devices.proofs.Homes.{again_home, again_stands}
 use Rattle.proof_devices.proofs.Times.{outcome_time}
 use Rattle.proof_chip.proofs.ChipAccounts.{all_account, outer_steps, repeat_steps, steps_account, steps_by}
 use Rattle.proof_chip.proofs.Arriving.{ArePlain, plain_apart, plain_rests}
 use Rattle.proof_chip.proofs.Asides.{IsUnrelated}
 use Rattle.proof_chip.proofs.Hearing.{has_room}
-use Rattle.proof_chip.proofs.Landed.{done_by, done_plain, none_at, refusal_apart}
+use Rattle.proof_chip.proofs.Incoming.{EachAgain, done_by, done_plain, it_repeats}
+use Rattle.proof_chip.proofs.Landed.{refusal_apart}
 use Rattle.proof_chip.proofs.Settling.{AreIdle, IsIdle}
 use Rattle.proof_chip.proofs.Telling.{IsAside}
 use Rattle.proof_answers.specs.Telling.{TellSo, TellsNow}
@@ -79,15 +75,9 @@ module _ (devices : List State) (past : List Entry) (w : Outside) (tie : Tie not
       TellSo (TellsNow devices (each (deals m.devices) (so_with m.air) events).outer) (did ++ steps_by (all_account m.devices events (so_with m.air)))
       (past ++ (each (deals m.devices) (so_with m.air) events).entries) (each (deals m.devices) (so_with m.air) events).outer.chip.state.port
 
-  nothing_told : Goes_on (mesh_of w) []
-  nothing_told =
-      subst (λ (l : List Step). TellSo (TellsNow devices (so_with w.outer.air)) l (past ++ []) w.outer.chip.state.port) (sym (append-nil did))
-      (subst (λ (l : List Entry). TellSo (TellsNow devices (so_with w.outer.air)) did l w.outer.chip.state.port) (sym (append-nil past)) (so_air w.outer.air))
-
-  device_again : (number place node : ℕ) (payload : List ℕ) (found : Option State) (drawn : List ℕ) (route : Option Route) → handlers_at past (entry.Heard number) ≡ []
-      → Goes_on (heard_at (mesh_of w) place found node route (Hears payload drawn)) (outs_at (mesh_of w) found number node route (Hears payload drawn))
-  device_again number place node payload None drawn route unhandled = nothing_told
-  device_again number place node payload (Some device) drawn route unhandled =
+  by_device : (number place node : ℕ) (payload : List ℕ) (device : State) (drawn : List ℕ) (route : Option Route) → handlers_at past (entry.Heard number) ≡ []
+      → Goes_on (heard_at (mesh_of w) place (Some device) node route (Hears payload drawn)) (outs_at (mesh_of w) (Some device) number node route (Hears payload drawn))
+  by_device number place node payload device drawn route unhandled =
       let event : DeviceEvent = Hears payload drawn in
       let m : Mesh = heard_at (mesh_of w) place (Some device) node route event in
       let plain : List AirEvent = done_by w.outer.air node route device event in
@@ -95,33 +85,23 @@ module _ (devices : List State) (past : List Entry) (w : Outside) (tie : Tie not
       again_tells devices did past m.devices (so_with m.air) number again settled plain [] unhandled (plain_posts m.devices plain (so_with m.air) are) (plain_idle m.devices plain (so_with m.air) are)
       (plain_owing m.devices plain (so_with m.air) are) (so_air m.air)
 
-  listener_again : (place : Option ℕ) (number node : ℕ) (payload : List ℕ) (drawn : List ℕ) (route : Option Route) → handlers_at past (entry.Heard number) ≡ []
-      → Goes_on (heard_again (mesh_of w) place node route (Hears payload drawn)) (outs_again (mesh_of w) place number node route (Hears payload drawn))
-  listener_again None number node payload drawn route unhandled = nothing_told
-  listener_again (Some place) number node payload drawn route unhandled = device_again number place node payload (slice_get w.devices place) drawn route unhandled
-
-  unhandled_at : (number : ℕ) (frame : Flown) → remembered w.outer.air.frames number ≡ Some frame → frame.heading ≡ Outward → handlers_at past (entry.Heard number) ≡ []
-  unhandled_at zero frame is heads = absurd cc
-  unhandled_at (suc at) frame is heads = none_at past w tie at frame (again_stands past w tie at frame is) heads
-
-  again_by : (heading : Heading) (number : ℕ) (frame : Flown) (drawn : List ℕ) (route : Option Route) → remembered w.outer.air.frames number ≡ Some frame → frame.heading ≡ heading
-      → Goes_on (repeating_by heading (mesh_of w) frame drawn route) (repeat_outs_by heading (mesh_of w) number frame drawn route)
-  again_by Homeward number frame drawn route found heads =
-      again_tells devices did past w.devices (so_with w.outer.air) number again settled (tells.ToChip number frame.node frame.payload ∷ []) (heard_frames (has_room frame.payload) frame.node frame.payload)
-      (handlers_are past number frame.node frame.payload (again_home past w tie number frame found heads)) (heard_posts w.devices (so_with w.outer.air) number frame.node frame.payload)
-      (heard_idle w.devices (so_with w.outer.air) number frame.node frame.payload) (heard_owing w.devices (so_with w.outer.air) number frame.node frame.payload) (so_air w.outer.air)
-  again_by Outward number frame drawn route found heads = listener_again (listener_of frame.node w.devices) number frame.node frame.payload drawn route (unhandled_at number frame found heads)
-
-  again_if : (number : ℕ) (found : Option Flown) (drawn : List ℕ) (route : Option Route) → remembered w.outer.air.frames number ≡ found
-      → Goes_on (repeating (mesh_of w) found drawn route) (repeat_outs (mesh_of w) number found drawn route)
-  again_if number None drawn route is = nothing_told
-  again_if number (Some frame) drawn route is = again_by frame.heading number frame drawn route is refl
+  each_again : EachAgain past w Goes_on
+  each_again = record {
+    by_none =
+        subst (λ (l : List Step). TellSo (TellsNow devices (so_with w.outer.air)) l (past ++ []) w.outer.chip.state.port) (sym (append-nil did))
+        (subst (λ (l : List Entry). TellSo (TellsNow devices (so_with w.outer.air)) did l w.outer.chip.state.port) (sym (append-nil past)) (so_air w.outer.air));
+    by_device = by_device;
+    by_chip = λ number node payload home.
+        again_tells devices did past w.devices (so_with w.outer.air) number again settled (tells.ToChip number node payload ∷ []) (heard_frames (has_room payload) node payload)
+        (handlers_are past number node payload home) (heard_posts w.devices (so_with w.outer.air) number node payload)
+        (heard_idle w.devices (so_with w.outer.air) number node payload) (heard_owing w.devices (so_with w.outer.air) number node payload) (so_air w.outer.air);
+  }
 
   steps_again : (number : ℕ) (drawn : List ℕ) (route : Option Route)
       → TellSo (TellsNow devices (steps w (mesh.Repeats number drawn route)).outer) (did ++ steps_by (steps_account w (mesh.Repeats number drawn route)))
       (past ++ (steps w (mesh.Repeats number drawn route)).entries) (steps w (mesh.Repeats number drawn route)).outer.chip.state.port
   unfolding mesh_after mesh_outs steps_account
-  steps_again number drawn route = again_if number (remembered w.outer.air.frames number) drawn route refl
+  steps_again number drawn route = it_repeats past w tie Goes_on each_again number drawn route
 
   repeat_by : (refused : Option RepeatRefusal) (number : ℕ) (drawn : List ℕ) (route : Option Route)
       → TellSo (TellsNow devices (repeats w refused (mesh.Repeats number drawn route)).outer) (did ++ repeat_steps w refused (mesh.Repeats number drawn route))

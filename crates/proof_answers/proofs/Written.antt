@@ -62,7 +62,7 @@ use Rattle.proof_chip.proofs.Beginning.{all_there}
 use Rattle.proof_chip.proofs.Standing.{goes_none}
 use Rattle.proof_chip.proofs.Staying.{stays_cut, stays_event, stays_said, stays_turn}
 use Rattle.proof_chip.proofs.Tallies.{at_waits, ended_waits, tally_event, tally_said, tally_turn}
-use Rattle.proof_chip.proofs.Walking.{any_each}
+use Rattle.proof_chip.proofs.Learning.{any_each}
 use Rattle.proof_answers.specs.Answered.{AnswersByLink, KnowAnswering, KnowGround}
 use Rattle.proof_answers.specs.Telling.{KnowTells, TellsAt}
 use Rattle.proof_answers.proofs.Information.{informs_so}

@@ -1,16 +1,16 @@
 pub mod Lasting
 pub mod Ahead
 mod Nodes
-mod Releasing
+pub mod Releasing
 mod Counting
 pub mod Ticking
 mod Telling
 mod Holding
 mod Working
-mod Opening
+pub mod Opening
 mod SeriesSteps
 mod Finishing
-mod KeptAwake
+pub mod KeptAwake
 mod Doings
 mod SeriesTold
 mod SeriesGoes
@@ -19,10 +19,10 @@ mod Payloads
 mod Carried
 pub mod Requested
 pub mod Wrote
-mod Slept
+pub mod Slept
 mod Owing
-mod Late
-mod Sleeping
+pub mod Late
+pub mod Sleeping
 mod Asleep
 mod AttemptsGo
 pub use Rattle.proof_work.proofs.Times

@@ -21,7 +21,8 @@ use Rattle.host_model.specs.May.{May}
 use Rattle.host_model.specs.Pumping.{IsNext}
 use Rattle.host_model.specs.State.{HostState}
 use Rattle.host_model.proofs.Submitted.{SubmittedAre, next_is}
-use Rattle.proof_calm.specs.Tied.{on_line, AsksAt, AsksToSend, Tied, Nowhere, On_way, At_chip, Called}
+use Rattle.proof_calm.specs.Known.{AsksToSend}
+use Rattle.proof_calm.specs.Tied.{on_line, AsksAt, Tied, Nowhere, On_way, At_chip, Called}
 use Rattle.proof_calm.proofs.Following.{kept}
 use Rattle.proof_calm.proofs.Judging.{ends_by, TieBy}
 

@@ -27,7 +27,7 @@ use Rattle.proof_calm.specs.Known.{HasShortPlain, IsBlank, IsMember}
 use Rattle.proof_calm.specs.Live.{HasLive}
 use Rattle.proof_calm.specs.Routed.{Reaches}
 use Rattle.proof_calm.specs.Tied.{IsPeopled}
-use Rattle.proof_calm.proofs.Knowing.{AreBlank, set_blank}
+use Rattle.proof_calm.proofs.Knowing.{AreResting, set_blank}
 
 -- ---- the nodes that are joined
 
@@ -56,7 +56,7 @@ two_member n is = subst (IsMember two_joined) (sym is) (record { is_node = (omeg
 -- ---- the others
 
 blank_one : (k : ℕ) → IsBlank (unknown k)
-blank_one k = record { unlisted = refl; idle = refl; none_waits = refl; asleep = refl; none_ticks = refl }
+blank_one k = record { unlisted = refl; idle = refl; none_waits = refl; asleep = refl }
 
 blank_from : (number count : ℕ) → AllByRecursion IsBlank (unknown_from number count)
 blank_from number zero = tt
@@ -66,15 +66,15 @@ all_blank : AllByRecursion IsBlank unknown_nodes
 unfolding unknown_nodes
 all_blank = (blank_one 1, blank_from 1 232)
 
-blank_nodes : (keys : Keys) → AreBlank two_joined first_nodes
+blank_nodes : (keys : Keys) → AreResting IsBlank two_joined first_nodes
 unfolding first_nodes
 blank_nodes keys =
     let h : HostState = record (first_host keys) { nodes = unknown_nodes } in
     let joins : NodeState = after_node (node_among unknown_nodes 2) Joins in
     let member = two_member 2 refl in
-    let once = set_blank two_joined h 2 joins member.is_joined (λ n other. all_at IsBlank unknown_nodes n (unknown 0) all_blank (blank_one 0)) in
+    let once = set_blank IsBlank two_joined h 2 joins member.is_joined (λ n other. all_at IsBlank unknown_nodes n (unknown 0) all_blank (blank_one 0)) in
     let g : HostState = with_node h 2 joins in
-    set_blank two_joined g 2 (after_node (node_among g.nodes 2) (Interviews true first_classes)) member.is_joined once
+    set_blank IsBlank two_joined g 2 (after_node (node_among g.nodes 2) (Interviews true first_classes)) member.is_joined once
 
 first_speaks : SpeaksHome two_joined first_outer
 unfolding first_outer two_joined none_marked no_frames

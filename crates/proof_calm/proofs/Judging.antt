@@ -131,7 +131,7 @@ module _ (counted : Bool) (s : ChipState) (asking : List FrameParts) where
           let on = stays u of is.leave.0 in
           stays_tied u h events rest on tie.paid
           (At_chip (staying u h events on) (stays_of u h events on of) (on.fresh fresh)
-          (record { node = is.node; is_sending = is.is_sending; answered = answers u of is.leave.0 is.answered; leave = is.leave.1; nothing = is.nothing }))
+          (record { asks = is.asks; is_sending = is.is_sending; answered = answers u of is.leave.0 is.answered; leave = is.leave.1; nothing = is.nothing }))
       by (Called u of fresh is) = called u of fresh is is.before is.are is.before_leave
 
   -- ---- an acknowledgement
@@ -159,7 +159,7 @@ module _ (counted : Bool) (s : ChipState) (asking : List FrameParts) where
           let on = stays u of in
           stays_tied u h events pending on tie.paid
           (At_chip (staying u h events on) (stays_of u h events on of) (on.fresh fresh)
-          (record { node = is.node; is_sending = is.is_sending; answered = answers u of is.answered; leave = is.leave; nothing = is.nothing }))
+          (record { asks = is.asks; is_sending = is.is_sending; answered = answers u of is.answered; leave = is.leave; nothing = is.nothing }))
       by (Called u of fresh is) =
           let on = stays u of in
           stays_tied u h events pending on tie.paid
@@ -168,7 +168,7 @@ module _ (counted : Bool) (s : ChipState) (asking : List FrameParts) where
 
   -- ---- all units that are on their way
 
-  unit_tied : (h : HostState) (unit : LineUnit) (rest : List FrameParts) (events : List HostEvent) → IsPlain unit → IsJudged h (Good unit) events → TieBy counted (kept h) s (frames_in (unit ∷ []) ++ rest) asking
+  pub unit_tied : (h : HostState) (unit : LineUnit) (rest : List FrameParts) (events : List HostEvent) → IsPlain unit → IsJudged h (Good unit) events → TieBy counted (kept h) s (frames_in (unit ∷ []) ++ rest) asking
       → TieBy counted (kept (after_all h events)) s rest asking
   unit_tied h Ack rest events plain (more, are, followed) tie =
       subst (λ (l : List HostEvent). TieBy counted (kept (after_all h l)) s rest asking) (sym are) (ack_tied (after h (Hears (Good Ack))) h.side.turn rest more followed tie)
@@ -177,7 +177,7 @@ module _ (counted : Bool) (s : ChipState) (asking : List FrameParts) where
   unit_tied h (Framed f) rest events plain (more, are, followed) tie =
       subst (λ (l : List HostEvent). TieBy counted (kept (after_all h l)) s rest asking) (sym are) (frame_tied (after h (Hears (Good (Framed f)))) f rest more followed tie)
 
-  one_more : (unit : LineUnit) (units : List LineUnit) (rest : List FrameParts) → frames_in (unit ∷ units) ++ rest ≡ frames_in (unit ∷ []) ++ (frames_in units ++ rest)
+  pub one_more : (unit : LineUnit) (units : List LineUnit) (rest : List FrameParts) → frames_in (unit ∷ units) ++ rest ≡ frames_in (unit ∷ []) ++ (frames_in units ++ rest)
   one_more Ack units rest = refl
   one_more Nak units rest = refl
   one_more Can units rest = refl

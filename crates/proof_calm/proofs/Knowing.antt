@@ -1,5 +1,6 @@
--- What a host does for joined nodes leaves the others blank, and its tasks are for joined nodes.
-use Rattle.std.proofs.Common.{◌≡◌, ◌≤◌, ℕ, ◌+◌, Bool, true, false, if◌then◌else◌, inl, inr, List, [], ◌∷◌, ◌++◌, length, refl, sym, ap, ◌∙◌, subst}
+-- What a host does for some nodes leaves the others at rest, and its tasks are for these.
+use Rattle.std.proofs.Common.{◌≡◌, ◌≤◌, ℕ, zero, suc, ◌+◌, ◌-◌, ◌==◌, nat_lt, Bool, true, false, if◌then◌else◌, inl, inr, List, [], ◌∷◌, ◌++◌, length, get_or, refl, sym, ap, ◌∙◌, subst}
+use Rattle.std.proofs.Math.ListN.{set}
 use Rattle.std.proofs.lemmas.Bool.{cases_eq}
 use Rattle.std.proofs.lemmas.List.{get_or-set_other}
 use Rattle.std.specs.Prelude.{Option, Some, None}
@@ -19,12 +20,14 @@ use Rattle.host_requests.specs.declared.task.Purpose.TheVariants.{Attempt, House
 use Rattle.host_requests.specs.declared.task.Task.{Task}
 use Rattle.host_requests.specs.declared.task.Task.TheVariants.{NoMore, Offer, Segment}
 use Rattle.host_requests.specs.declared.under_way.UnderWay.{UnderWay}
-use Rattle.host_node.specs.State.{NodeState, unknown}
-use Rattle.host_node.specs.Steps.{after_no_more_end, after_sign, attempt_end, tick_end}
+use Rattle.host_node.specs.State.{NodeState, unknown, has_waiting, has_work, is_running, wants_no_more}
+use Rattle.host_node.specs.Steps.{after_again, after_again_tick, after_attempt_end, after_attempt_tick, after_attempts, after_hold_tick, after_no_more_end, after_occasion, after_sign, after_tick, attempt_end, tick_end, with_again, with_wait, without_attempt}
 use Rattle.host_node.specs.TableState.{node_of as node_among}
 use Rattle.host_node.specs.declared.attempt.AttemptEnd.{AttemptEnd}
 use Rattle.host_node.specs.declared.attempt.AttemptEnd.TheVariants.{NoneRan, Again, Unanswered}
 use Rattle.host_node.specs.declared.attempt.Moment.{Moment}
+use Rattle.host_node.specs.declared.attempt.Moment.TheVariants.{BetweenTicks}
+use Rattle.host_node.specs.declared.series.Series.TheVariants.{Idle}
 use Rattle.host_model.specs.After.{after, finishing, giving, holding, is_full, is_held, node_does, offering, queues_if_room, requests_do, spending, submits, submits_part}
 use Rattle.host_model.specs.Did.{MayAll, after_all}
 use Rattle.host_model.specs.May.{May}
@@ -41,24 +44,107 @@ use Rattle.proof_work.specs.Doing.{IsTold}
 use Rattle.host_model.specs.Ends.{PartEnd, Good, Passed_over, Bad, after_end, after_end_if, after_part, after_task, attempt_ended, part_end}
 use Rattle.host_model.specs.Events.{HostEvent, Accepts, Hears, Requests_do, Unreads, Is_unkept, Reports_old, Works, Finishes, Offers, Gives, Spends, Spends_unread, Takes_nonce, Notifies, Resends, Hears_value, Has_no_room, Node_ticks, Queues_no_more, Drops_no_more, Submits_front, Starts, Gives_text, Gives_segment, Begins, Begin_unkept}
 use Rattle.host_model.specs.State.{HostState, node_of, with_node}
-use Rattle.proof_calm.specs.Known.{IsBlank, IsMember, IsPurposeFor, IsRequestFor, IsTaskFor, KnowsMembers}
+use Rattle.proof_calm.specs.Known.{IsMember, IsPurposeFor, IsRequestFor, IsTaskFor, KnowsThese}
+
+-- what stays so of the nodes that the host has nothing to do with: such a node has no work, is not to be told that there is no more for it, and stays so in its tick
+pub record Resting (Rests : NodeState → Type 0) : Type 0 where
+  pub ticks : (n : NodeState) → Rests n → Rests (after_tick n)
+  pub works : (n : NodeState) → Rests n → has_work n ≡ true → ⊥
+  pub wants : (n : NodeState) → Rests n → wants_no_more n ≡ true → ⊥
+
+-- ---- a node with no series and no command
+
+-- what stays so where its waits go down
+pub record StaysSo (P : NodeState → Type 0) : Type 0 where
+  pub idle : (n : NodeState) → P n → n.series ≡ Idle
+  pub none_waits : (n : NodeState) → P n → n.waiting ≡ []
+  pub holds : (n : NodeState) → P n → P (after_hold_tick n)
+  pub again : (n : NodeState) (ticks : ℕ) → P n → P (with_again n ticks)
+  pub waits : (n : NodeState) (ticks : ℕ) → P n → P (with_wait n ticks)
+
+module _ (P : NodeState → Type 0) (so : StaysSo P) where
+  either_so : (b : Bool) (x y : NodeState) → P x → P y → P (if b then x else y)
+  either_so true x y first later = first
+  either_so false x y first later = later
+
+  again_so : (n : NodeState) → P n → P (after_again n)
+  again_so n is =
+      let none : has_waiting n ≡ false = ap (λ (l : List ℕ). nat_lt 0 (length l)) (so.none_waits n is) in
+      subst (λ (b : Bool). P (if b then after_occasion n else n)) (sym none) is
+
+  again_tick_so : (n : NodeState) → P n → P (after_again_tick n)
+  again_tick_so n is = either_so (n.again_wait == 1) (after_again (with_again n 0)) (with_again n (n.again_wait - 1)) (again_so (with_again n 0) (so.again n 0 is)) (so.again n (n.again_wait - 1) is)
+
+  attempt_so : (n : NodeState) → P n → P (after_attempt_end n BetweenTicks)
+  attempt_so n is = subst (λ (b : Bool). P (if b then after_attempts (without_attempt n) (n.book.attempts + 1) BetweenTicks else n)) (sym (ap is_running (so.idle n is))) is
+
+  attempt_tick_so : (n : NodeState) → P n → P (after_attempt_tick n)
+  attempt_tick_so n is = either_so (n.attempt_wait == 1) (after_attempt_end n BetweenTicks) (with_wait n (n.attempt_wait - 1)) (attempt_so n is) (so.waits n (n.attempt_wait - 1) is)
+
+  pub tick_so : (n : NodeState) → P n → P (after_tick n)
+  tick_so n is = attempt_tick_so (after_again_tick (after_hold_tick n)) (again_tick_so (after_hold_tick n) (so.holds n is))
+
+-- a place of a list that may be past its end
+set_either : (P : NodeState → Type 0) (xs : List NodeState) (i : ℕ) (y d : NodeState) → P y → P (get_or xs i d) → P (get_or (set xs i y) i d)
+set_either P [] i y d new old = old
+set_either P (x ∷ xs) zero y d new old = new
+set_either P (x ∷ xs) (suc i) y d new old = set_either P xs i y d new old
 
 module _ (joined : List Bool) where
+  -- ---- events
+
+  -- an event of joined nodes alone
+  abbrev pub IsNamed : HostEvent → Type 0
+  IsNamed (Accepts order carriage) = is_marked joined order.node ≡ true
+  IsNamed (Hears item) = Unit {0}
+  IsNamed (Requests_do event moment) = IsTold event
+  IsNamed (Unreads n payload) = Unit {0}
+  IsNamed (Is_unkept n) = Unit {0}
+  IsNamed (Reports_old n id) = Unit {0}
+  IsNamed (Works n id) = is_marked joined n ≡ true
+  IsNamed (Finishes n session id command status wake) = is_marked joined n ≡ true
+  IsNamed (Offers n) = IsMember joined n
+  IsNamed (Gives n drawn) = IsMember joined n
+  IsNamed (Spends n) = Unit {0}
+  IsNamed (Spends_unread n payload) = Unit {0}
+  IsNamed (Takes_nonce n seen text) = is_marked joined n ≡ true
+  IsNamed (Notifies n) = is_marked joined n ≡ true
+  IsNamed (Resends n payload) = IsMember joined n
+  IsNamed (Hears_value n setting) = Unit {0}
+  IsNamed (Has_no_room n property) = Unit {0}
+  IsNamed (Node_ticks n) = Unit {0}
+  IsNamed (Queues_no_more n) = IsMember joined n
+  IsNamed (Drops_no_more n) = is_marked joined n ≡ true
+  IsNamed Submits_front = Unit {0}
+  IsNamed (Starts n plan more payload) = IsMember joined n
+  IsNamed (Gives_text n payload) = IsMember joined n
+  IsNamed (Gives_segment n more payload) = IsMember joined n
+  IsNamed (Begins n session command) = is_marked joined n ≡ true
+  IsNamed (Begin_unkept n) = is_marked joined n ≡ true
+  IsNamed event = ⊥
+
+module _ (Rests : NodeState → Type 0) (joined : List Bool) where
   abbrev pub Knows : HostState → Type 0
-  Knows h = KnowsMembers joined h
+  Knows h = KnowsThese Rests joined h
 
-  abbrev pub AreBlank : List NodeState → Type 0
-  AreBlank nodes = (n : ℕ) → is_marked joined n ≡ false → IsBlank (node_among nodes n)
+  abbrev pub AreResting : List NodeState → Type 0
+  AreResting nodes = (n : ℕ) → is_marked joined n ≡ false → Rests (node_among nodes n)
 
-  -- a joined node changes
-  pub set_blank : (h : HostState) (n : ℕ) (state : NodeState) → is_marked joined n ≡ true → AreBlank h.nodes → AreBlank (with_node h n state).nodes
-  set_blank h n state member blank m other = elim (cases_eq m n) [
-    | inl same ↦ absurd (let no : true ≡ false = sym member ∙ (ap (λ (k : ℕ). is_marked joined k) (sym same) ∙ other) in cc)
-    | inr apart ↦ subst IsBlank (sym (get_or-set_other h.nodes n m state (unknown 0) apart)) (blank m other)
+  -- a node changes
+  set_resting : (h : HostState) (n : ℕ) (state : NodeState) → (is_marked joined n ≡ false → Rests state) → AreResting h.nodes → AreResting (with_node h n state).nodes
+  set_resting h n state rests resting m other = elim (cases_eq m n) [
+    | inl same ↦
+        let there : is_marked joined n ≡ false = ap (λ (k : ℕ). is_marked joined k) (sym same) ∙ other in
+        subst (λ (k : ℕ). Rests (node_among (with_node h n state).nodes k)) (sym same) (set_either Rests h.nodes n state (unknown 0) (rests there) (resting n there))
+    | inr apart ↦ subst Rests (sym (get_or-set_other h.nodes n m state (unknown 0) apart)) (resting m other)
   ]
 
+  -- one of these does
+  pub set_blank : (h : HostState) (n : ℕ) (state : NodeState) → is_marked joined n ≡ true → AreResting h.nodes → AreResting (with_node h n state).nodes
+  set_blank h n state member resting = set_resting h n state (λ other. absurd (let no : true ≡ false = sym member ∙ other in cc)) resting
+
   -- the same tasks, and the same request or none
-  pub same_requests : (h g : HostState) → AreBlank g.nodes → g.requests.queue ≡ h.requests.queue → g.requests.under_way ≡ h.requests.under_way → Knows h → Knows g
+  pub same_requests : (h g : HostState) → AreResting g.nodes → g.requests.queue ≡ h.requests.queue → g.requests.under_way ≡ h.requests.under_way → Knows h → Knows g
   same_requests h g blank queue under_way knows = record {
     others = blank;
     tasks = subst (AllByRecursion (IsTaskFor joined)) (sym queue) knows.tasks;
@@ -104,38 +190,6 @@ module _ (joined : List Bool) where
       by None is = record { others = knows.others; tasks = knows.tasks; request = knows.request }
       by (Some u) is = went u (step u) (subst (IsRequestFor joined) is knows.request)
 
-  -- ---- events
-
-  -- an event of joined nodes alone
-  abbrev pub IsNamed : HostEvent → Type 0
-  IsNamed (Accepts order carriage) = is_marked joined order.node ≡ true
-  IsNamed (Hears item) = Unit {0}
-  IsNamed (Requests_do event moment) = IsTold event
-  IsNamed (Unreads n payload) = Unit {0}
-  IsNamed (Is_unkept n) = Unit {0}
-  IsNamed (Reports_old n id) = Unit {0}
-  IsNamed (Works n id) = is_marked joined n ≡ true
-  IsNamed (Finishes n session id command status wake) = is_marked joined n ≡ true
-  IsNamed (Offers n) = IsMember joined n
-  IsNamed (Gives n drawn) = IsMember joined n
-  IsNamed (Spends n) = Unit {0}
-  IsNamed (Spends_unread n payload) = Unit {0}
-  IsNamed (Takes_nonce n seen text) = is_marked joined n ≡ true
-  IsNamed (Notifies n) = is_marked joined n ≡ true
-  IsNamed (Resends n payload) = IsMember joined n
-  IsNamed (Hears_value n setting) = Unit {0}
-  IsNamed (Has_no_room n property) = Unit {0}
-  IsNamed (Node_ticks n) = is_marked joined n ≡ true
-  IsNamed (Queues_no_more n) = IsMember joined n
-  IsNamed (Drops_no_more n) = is_marked joined n ≡ true
-  IsNamed Submits_front = Unit {0}
-  IsNamed (Starts n plan more payload) = IsMember joined n
-  IsNamed (Gives_text n payload) = IsMember joined n
-  IsNamed (Gives_segment n more payload) = IsMember joined n
-  IsNamed (Begins n session command) = is_marked joined n ≡ true
-  IsNamed (Begin_unkept n) = is_marked joined n ≡ true
-  IsNamed event = ⊥
-
   request_knows : (h : HostState) (event : RequestsEvent) (moment : Moment) → IsTold event → Knows h → Knows (after h (Requests_do event moment))
   request_knows h IsSent moment told knows = next_knows h at_sent moment knows
   request_knows h Fails moment told knows = next_knows h (λ u. next.Ends LinkFailed) moment knows
@@ -166,9 +220,9 @@ module _ (joined : List Bool) where
 
   front_knows : (h : HostState) (tasks : List Task) → AllByRecursion (IsTaskFor joined) tasks → (g : HostState) → g.nodes ≡ h.nodes → g.requests ≡ task_begun h.requests tasks → Knows h → Knows g
   front_knows h [] all g nodes requests knows =
-      same_requests h g (subst AreBlank (sym nodes) knows.others) (ap (λ (r : RequestsState). r.queue) requests) (ap (λ (r : RequestsState). r.under_way) requests) knows
+      same_requests h g (subst AreResting (sym nodes) knows.others) (ap (λ (r : RequestsState). r.queue) requests) (ap (λ (r : RequestsState). r.under_way) requests) knows
   front_knows h (task ∷ tasks) all g nodes requests knows = record {
-    others = subst AreBlank (sym nodes) knows.others;
+    others = subst AreResting (sym nodes) knows.others;
     tasks = subst (λ (r : RequestsState). AllByRecursion (IsTaskFor joined) r.queue) (sym requests) all.1;
     request = subst (λ (r : RequestsState). IsRequestFor joined r.under_way) (sym requests) all.0;
   }
@@ -179,8 +233,8 @@ module _ (joined : List Bool) where
       let g : HostState = record (submits h (Attempt n more payload) (BeginsAttempt n more payload)) { served = n } in
       node_knows g n _ member.is_joined (record { others = knows.others; tasks = knows.tasks; request = member })
 
-  module _ (segments : (h : HostState) (node : NodeState) (session : Option ℕ) (k : ℕ) (payload : List ℕ) → open_segment h node session k ≡ Some payload → (1 ≤ length payload) × (length payload ≤ 46)) where
-    pub event_knows : (h : HostState) (event : HostEvent) → IsNamed event → May h event → Knows h → Knows (after h event)
+  module _ (rests : Resting Rests) (segments : (h : HostState) (node : NodeState) (session : Option ℕ) (k : ℕ) (payload : List ℕ) → open_segment h node session k ≡ Some payload → (1 ≤ length payload) × (length payload ≤ 46)) where
+    pub event_knows : (h : HostState) (event : HostEvent) → IsNamed joined event → May h event → Knows h → Knows (after h event)
     event_knows h (Accepts order carriage) named may knows =
         let g : HostState = record h { commands = h.commands ++ record { order = order; carriage = carriage; outcome = outcome.Waiting } ∷ []; store = reserving h.store order.node (properties_of (settings carriage.actuator order)) } in
         node_knows (node_does g order.node (node_puts (length h.commands + 1))) order.node _ named (node_knows g order.node _ named (same_requests h g knows.others refl refl knows))
@@ -202,7 +256,10 @@ module _ (joined : List Bool) where
     event_knows h (Resends n payload) named may knows = queues_knows h (Segment n payload) (named, (segments h (node_of h n) (open_session (node_of h n).book) may.0 payload may.1).0) knows
     event_knows h (Hears_value n setting) named may knows = same_requests h (after h (Hears_value n setting)) knows.others refl refl knows
     event_knows h (Has_no_room n property) named may knows = knows
-    event_knows h (Node_ticks n) named may knows = attempt_knows (node_does h n node_ticks) (tick_end (node_of h n)) (open_command (node_of h n)) (node_knows h n _ named knows)
+    event_knows h (Node_ticks n) named may knows =
+        let g : HostState = node_does h n node_ticks in
+        let others : AreResting g.nodes = set_resting h n (after_tick (node_of h n)) (λ other. rests.ticks (node_of h n) (knows.others n other)) knows.others in
+        attempt_knows g (tick_end (node_of h n)) (open_command (node_of h n)) (same_requests h g others refl refl knows)
     event_knows h (Queues_no_more n) named may knows = pushes_knows (node_does h n node_queues_no_more) (NoMore n) named (node_knows h n _ named.is_joined knows)
     event_knows h (Drops_no_more n) named may knows = node_knows h n _ named knows
     event_knows h Submits_front named may knows = front_knows h h.requests.queue knows.tasks (after h Submits_front) refl refl knows
@@ -214,6 +271,6 @@ module _ (joined : List Bool) where
     event_knows h (Begin_unkept n) named may knows = node_knows h n _ named knows
     event_knows h event named may knows = absurd named
 
-    pub all_know : (h : HostState) (events : List HostEvent) → AllByRecursion IsNamed events → MayAll h events → Knows h → Knows (after_all h events)
+    pub all_know : (h : HostState) (events : List HostEvent) → AllByRecursion (IsNamed joined) events → MayAll h events → Knows h → Knows (after_all h events)
     all_know h [] named may knows = knows
     all_know h (event ∷ events) named may knows = all_know (after h event) events named.1 may.1 (event_knows h event named.0 may.0 knows)

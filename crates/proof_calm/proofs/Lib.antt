@@ -39,6 +39,7 @@ pub mod Tying
 pub use Rattle.proof_waking.proofs.Arrivals
 pub use Rattle.proof_waking.proofs.ArrivedFrames
 pub use Rattle.proof_waking.proofs.Calm
+pub use Rattle.proof_waking.proofs.Followed
 pub use Rattle.proof_waking.proofs.Flights
 pub use Rattle.proof_waking.proofs.proof_traffic_Parts
 pub use Rattle.proof_waking.proofs.ChipNotices

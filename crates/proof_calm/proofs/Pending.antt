@@ -130,7 +130,7 @@ tied_more counted e pending asking frame leaves (Nowhere is) =
 tied_more counted e pending asking frame leaves (On_way u of fresh is) =
     On_way u of fresh (record { idle = is.idle; leave = all-append (LeavesIt e.joined) pending (frame ∷ []) is.leave (leaves, tt); asked = is.asked; asks = is.asks; from = is.from; to = is.to })
 tied_more counted e pending asking frame leaves (At_chip u of fresh is) =
-    At_chip u of fresh (record { node = is.node; is_sending = is.is_sending; answered = answers is.answered; leave = all-append (LeavesIt e.joined) pending (frame ∷ []) is.leave (leaves, tt); nothing = is.nothing })
+    At_chip u of fresh (record { asks = is.asks; is_sending = is.is_sending; answered = answers is.answered; leave = all-append (LeavesIt e.joined) pending (frame ∷ []) is.leave (leaves, tt); nothing = is.nothing })
   where
     answers : (is_answered u.progress ≡ true) ⊎ HasAnswer pending → (is_answered u.progress ≡ true) ⊎ HasAnswer (pending ++ frame ∷ [])
     answers (inl answered) = inl answered
@@ -213,7 +213,7 @@ module _ (k : OfHost) where
           by (On_way u of fresh at) = absurd (let no : Some sent ≡ None = sym is ∙ at.idle in cc)
           by (Called u of fresh at) = absurd (let no : Some sent ≡ None = sym is ∙ at.idle in cc)
           by (At_chip u of fresh at) =
-              let same : sent ≡ record { node = at.node; callback_id = k.3 } = let both : Some sent ≡ Some (record { node = at.node; callback_id = k.3 }) = sym is ∙ at.is_sending in cc in
+              let same : sent ≡ record { node = at.asks.node; callback_id = k.3 } = let both : Some sent ≡ Some (record { node = at.asks.node; callback_id = k.3 }) = sym is ∙ at.is_sending in cc in
               Called u (record { under_way = of.under_way; sends = of.sends }) fresh (record {
                 idle = refl;
                 before = line_of s.port;

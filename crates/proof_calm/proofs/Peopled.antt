@@ -11,6 +11,7 @@ use Rattle.serial_link.specs.declared.turn.Turn.{Turn}
 use Rattle.serial_link.specs.declared.turn.Turn.TheVariants.{Idle}
 use Rattle.chip_sim.specs.State.{ChipState}
 use Rattle.host_requests.specs.Events.RequestsEvent.{Ticks as request_ticks}
+use Rattle.host_node.specs.State.{NodeState}
 use Rattle.host_node.specs.declared.attempt.Moment.TheVariants.{BeforeItsTick}
 use Rattle.host_model.specs.After.{after as after_host, failing_if, gives_up, line_ticked}
 use Rattle.host_model.specs.Did.{after_all}
@@ -28,7 +29,7 @@ use Rattle.proof_waking.proofs.proof_traffic_Parts.{Airs}
 use Rattle.proof_serial.specs.Host.{AsksWell, FitsEvent}
 use Rattle.proof_serial.proofs.HostRuns.{FactsKept, OpenedFacts, event_writes}
 use Rattle.proof_calm.specs.Homeward.{SpeaksHome}
-use Rattle.proof_calm.specs.Known.{HasShortPlain, KnowsMembers}
+use Rattle.proof_calm.specs.Known.{HasShortPlain, IsBlank, KnowsMembers, KnowsThese}
 use Rattle.proof_calm.specs.Marks.{IsQuietEvent}
 use Rattle.proof_calm.specs.Networks.{Members, members}
 use Rattle.proof_calm.specs.Passes.{OnLine, frames_in, IsPlain}
@@ -46,7 +47,7 @@ use Rattle.proof_calm.proofs.Living.{event_lives}
 use Rattle.proof_calm.proofs.Plains.{all_ask, all_plains, event_asks, event_plains, line_plains}
 use Rattle.proof_calm.proofs.Reading.{goods}
 use Rattle.proof_calm.proofs.Requested.{moved_frames}
-use Rattle.proof_calm.proofs.Serving.{Payloads, listed_named, next_asks, no_more_named, tick_named}
+use Rattle.proof_calm.proofs.Serving.{Payloads, blank_rests, listed_named, next_asks, no_more_named}
 
 -- ---- which events these are
 
@@ -80,9 +81,9 @@ covers_of here next m event goes line_at = absurd goes
 -- ---- what the host knows
 
 -- a host's wait on an idle line
-line_counts_on : (joined : List Bool) (h : HostState) → h.side.turn ≡ Idle → KnowsMembers joined h → KnowsMembers joined (after_host h Line_ticks)
-line_counts_on joined h idle knows =
-    subst (λ (t : Turn). KnowsMembers joined (failing_if (gives_up t (turn_ticked t)) (line_ticked h))) (sym idle) (same_requests joined h (line_ticked h) knows.others refl refl knows)
+pub line_counts_on : (Rests : NodeState → Type 0) (joined : List Bool) (h : HostState) → h.side.turn ≡ Idle → KnowsThese Rests joined h → KnowsThese Rests joined (after_host h Line_ticks)
+line_counts_on Rests joined h idle knows =
+    subst (λ (t : Turn). KnowsThese Rests joined (failing_if (gives_up t (turn_ticked t)) (line_ticked h))) (sym idle) (same_requests Rests joined h (line_ticked h) knows.others refl refl knows)
 
 -- what an event makes of it: what the host knows, what it is asked, and what is still to be sealed
 abbrev GoesOn : List Bool → Machine → Event → Type 0
@@ -107,14 +108,14 @@ module _ (payloads : Payloads) (joined : List Bool) where
   unfolding happens May
   does_named m event named may knows plains =
       let is : IsNamed joined event = named may.0 in
-      (event_knows joined payloads.segments m.host.state event is may.0 knows, event_asks joined m.host.state event is may.0 plains, event_plains joined m.host.state event is may.0 plains)
+      (event_knows IsBlank joined blank_rests payloads.segments m.host.state event is may.0 knows, event_asks joined m.host.state event is may.0 plains, event_plains joined m.host.state event is may.0 plains)
 
   does_known : (m : Machine) (event : HostEvent) → IsNamed joined event → May m (Host_does event) → Knows m → Plains m → GoesOn joined m (Host_does event)
   does_known m event named may knows plains = does_named m event (λ may_it. named) may knows plains
 
   line_known : (m : Machine) → m.host.state.side.turn ≡ Idle → Knows m → Plains m → GoesOn joined m (Host_does Line_ticks)
   unfolding happens
-  line_known m idle knows plains = (line_counts_on joined m.host.state idle knows, tt, line_plains m.host.state plains)
+  line_known m idle knows plains = (line_counts_on IsBlank joined m.host.state idle knows, tt, line_plains m.host.state plains)
 
   effect_known : (m : Machine) (event : Event) → IsEffect event → May m event → Knows m → Plains m → GoesOn joined m event
   unfolding happens
@@ -127,7 +128,7 @@ module _ (payloads : Payloads) (joined : List Bool) where
   effect_known m event is may knows plains = absurd is
 
   node_known : (m : Machine) (event : HostEvent) → IsNodeTick event → May m (Host_does event) → Knows m → Plains m → GoesOn joined m (Host_does event)
-  node_known m (Node_ticks n) is may knows plains = does_named m (Node_ticks n) (λ may_it. tick_named joined m.host.state knows n may_it) may knows plains
+  node_known m (Node_ticks n) is may knows plains = does_named m (Node_ticks n) (λ may_it. tt) may knows plains
   node_known m event is may knows plains = absurd is
 
   tick_known : (m : Machine) (first : HostEvent) (events : List HostEvent) → IsGiven 1 m → TiedInTick (first ∷ events) m → May m (Host_does first) → Knows m → Plains m → GoesOn joined m (Host_does first)
@@ -151,7 +152,7 @@ takes_all : (payloads : Payloads) (joined : List Bool) (m : Machine) (count : �
     → Took joined (after_all m.host.state events) events
 unfolding May
 takes_all payloads joined m count rest items events may named knows plains = (
-  all_know joined payloads.segments m.host.state events named may.may knows,
+  all_know IsBlank joined blank_rests payloads.segments m.host.state events named may.may knows,
   all_ask joined m.host.state events named may.may plains,
   all_plains joined m.host.state events named may.may plains,
 )
@@ -164,7 +165,7 @@ takes_none m host turn frames rest items events line may =
     let none = fed_none m.outside.outer.to_host.bytes m.host.decoder rest items line.at_host.decoder line.at_chip.down_bytes may.feeds in
     subst (λ (l : List Item). AreJudged m.host.state l events) none.0 may.judged
 
-judged_are : (m : Machine) (count : ℕ) (rest : Rest) (items : List Item) (events : List HostEvent) (units : List LineUnit) → May m (Host_takes count rest items events) → items ≡ goods units → AreJudged m.host.state (goods units) events
+pub judged_are : (m : Machine) (count : ℕ) (rest : Rest) (items : List Item) (events : List HostEvent) (units : List LineUnit) → May m (Host_takes count rest items events) → items ≡ goods units → AreJudged m.host.state (goods units) events
 unfolding May
 judged_are m count rest items events units may same = subst (λ (l : List Item). AreJudged m.host.state l events) same may.judged
 
@@ -202,7 +203,7 @@ takes_known payloads air b passes m rest items events may at tie knows plains = 
 pub next_asked : (payloads : Payloads) (m : Machine) (event : HostEvent) → IsNext m.host.state event → May m (Host_does event) → m.host.state.requests.owes ≡ false → IsPeopled m
     → AsksAt m.outside.outer.chip.state.joined m.host.state event × IsNamed m.outside.outer.chip.state.joined event
 unfolding May
-next_asked payloads m event next may paid is = next_asks m.outside.outer.chip.state.joined m.host.state is.knows payloads is.facts is.fits event paid next may.0
+next_asked payloads m event next may paid is = next_asks IsBlank blank_rests m.outside.outer.chip.state.joined m.host.state is.knows payloads is.facts is.fits event paid next may.0
 
 -- ---- from phase to phase
 
@@ -226,7 +227,7 @@ module _ (payloads : Payloads) (air : Airs) (facts_kept : FactsKept) (opened : O
       known_as _ m event _ is (tick_known payloads _ m first events line_at.1 tie (may_be m event (Host_does first) is may) at.knows at.plains)
   known_on (Sleeping passes ticks) next m event (node, wants, is, to) may line_at tie at =
       let e : HostEvent = no_more_event m.host.state node in
-      known_as _ m event _ is (does_known payloads _ m e (no_more_named _ m.host.state at.knows node wants) (may_be m event (Host_does e) is may) at.knows at.plains)
+      known_as _ m event _ is (does_known payloads _ m e (no_more_named IsBlank blank_rests _ m.host.state at.knows node wants) (may_be m event (Host_does e) is may) at.knows at.plains)
   known_on (Submitting passes ticks) next m event (asked, next_is, is, to) may line_at tie at =
       let may_it : May m (Host_does asked) = may_be m event (Host_does asked) is may in
       known_as _ m event _ is (does_known payloads _ m asked (next_asked payloads m asked next_is may_it tie.paid at).1 may_it at.knows at.plains)

@@ -32,7 +32,8 @@ use Rattle.proof_serial.proofs.ChipWays.{does_each}
 use Rattle.proof_calm.specs.Calls.{answer_taken}
 use Rattle.proof_calm.specs.Passes.{chip_taken, ChipMayTake, texts, IsTakenBy, OnLine, TakesEach, answers, frames_in}
 use Rattle.proof_calm.specs.Settling.{Line, Free, Asks, Heard, Heard_asks, Sent, Sent_asks, Leaves, Nothing, An_ack, HasMoved, Moves}
-use Rattle.proof_calm.specs.Tied.{HasRoom, on_line, unheard, unheard_by, LeavesIt, Answers, IsFresh, AsksToSend, IsOf, IsOnWay, Tied, Nowhere, On_way, At_chip, Called, TieOf}
+use Rattle.proof_calm.specs.Known.{AsksToSend}
+use Rattle.proof_calm.specs.Tied.{HasRoom, on_line, unheard, unheard_by, LeavesIt, Answers, IsFresh, IsOf, IsOnWay, Tied, Nowhere, On_way, At_chip, Called, TieOf}
 use Rattle.proof_calm.proofs.ChipPart.{entered_state, taken, two_ways}
 use Rattle.proof_calm.proofs.ChipTurns.{one_way}
 use Rattle.proof_calm.proofs.Ending.{OfHost}
@@ -119,7 +120,7 @@ module _ (k : OfHost) where
                 paid = paid;
                 tied = subst (λ (fs : List FrameParts). Tied true (ends_by k (record (answered s frame) { sending = Some (record { node = asks.node; callback_id = k.3 }) })) fs []) (sym more)
                     (At_chip u (record { under_way = of.under_way; sends = of.sends }) fresh (record {
-                      node = asks.node;
+                      asks = asks;
                       is_sending = refl;
                       answered = inr (has_last pending);
                       leave = all-append (LeavesIt s.joined) pending (answer_taken ∷ []) is.leave (Answers refl, tt);

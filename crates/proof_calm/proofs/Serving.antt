@@ -1,4 +1,4 @@
--- Each node that the host serves is joined, and each request that it submits asks to send a payload of 1 to 46 bytes to such a node.
+-- Each node that the host serves is one of those it has to do with, and each request that it submits asks to send a payload of 1 to 46 bytes to such a node.
 use Rattle.std.proofs.Common.{◌≡◌, ◌≢◌, ◌≤◌, ℕ, Bool, true, false, if◌then◌else◌, List, [], ◌∷◌, length, refl, sym, ap, ◌∙◌, subst, arith}
 use Rattle.std.specs.Option.{is_none}
 use Rattle.std.specs.Prelude.{Option, Some, None, nat_lt}
@@ -17,7 +17,7 @@ use Rattle.host_node.specs.declared.series.Series.{Series}
 use Rattle.host_node.specs.declared.series.Series.TheVariants.{Idle}
 use Rattle.host_node.proofs.Searches.{what_is_least}
 use Rattle.host_model.specs.After.{is_full, task_purpose}
-use Rattle.host_model.specs.Events.{HostEvent, Drops_no_more, Node_ticks, Queues_no_more}
+use Rattle.host_model.specs.Events.{HostEvent, Drops_no_more, Queues_no_more}
 use Rattle.host_model.specs.Facts.{HostFacts}
 use Rattle.host_model.specs.May.{IsStart, May}
 use Rattle.host_model.specs.Pumping.{IsNext, no_more_event}
@@ -27,9 +27,9 @@ use Rattle.host_model.proofs.Pumps.{next_works}
 use Rattle.host_model.proofs.Submitted.{SubmittedAre, next_is}
 use Rattle.proof_serial.specs.Host.{FitsIn, FitsTask, HasShortText, HostFits}
 use Rattle.proof_serial.proofs.HostFits.{all_at}
-use Rattle.proof_calm.specs.Known.{IsBlank, IsMember, IsTaskFor, KnowsMembers}
-use Rattle.proof_calm.specs.Tied.{AsksAt, AsksToSend}
-use Rattle.proof_calm.proofs.Knowing.{IsNamed}
+use Rattle.proof_calm.specs.Known.{AsksToSend, IsBlank, IsMember, IsTaskFor, KnowsMembers, KnowsThese}
+use Rattle.proof_calm.specs.Tied.{AsksAt}
+use Rattle.proof_calm.proofs.Knowing.{IsNamed, Resting, StaysSo, tick_so}
 use Rattle.proof_calm.proofs.Rested.{all_four, range_by}
 
 -- what is proved of what a host gives
@@ -40,19 +40,42 @@ pub record Payloads : Type 0 where
 
 -- ---- a blank node
 
-blank_idle : (n : NodeState) → IsBlank n → has_work n ≡ true → ⊥
-blank_idle n blank works =
-    let as_idle : has_work (record n { series = Idle }) ≡ true = subst (λ (s : Series). has_work (record n { series = s }) ≡ true) blank.idle works in
+-- no series of it is due or runs, and no command waits for it
+pub none_works : (n : NodeState) → n.series ≡ Idle → n.waiting ≡ [] → has_work n ≡ true → ⊥
+none_works n idle none_waits works =
+    let as_idle : has_work (record n { series = Idle }) ≡ true = subst (λ (s : Series). has_work (record n { series = s }) ≡ true) idle works in
     let all = all_four (is_none (open_session n.book)) (has_waiting n) (is_up n) (is_false n.blocked) as_idle in
-    let none : has_waiting n ≡ false = ap (λ (l : List ℕ). nat_lt 0 (length l)) blank.none_waits in
+    let none : has_waiting n ≡ false = ap (λ (l : List ℕ). nat_lt 0 (length l)) none_waits in
     let wrong : true ≡ false = sym all.1 ∙ none in cc
 
 blank_still : (n : NodeState) → IsBlank n → wants_no_more n ≡ true → ⊥
 blank_still n blank wants = let wrong : false ≡ true = subst (λ (a : Bool). wants_no_more (record n { awake = a }) ≡ true) blank.asleep wants in cc
 
-module _ (joined : List Bool) (h : HostState) (knows : KnowsMembers joined h) where
-  -- a node that is not blank is joined
-  known_by : (n : ℕ) → (IsBlank (node_of h n) → ⊥) → is_marked joined n ≡ true
+-- it stays so in a tick
+blank_so : StaysSo IsBlank
+blank_so = record {
+  idle = λ n blank. blank.idle;
+  none_waits = λ n blank. blank.none_waits;
+  holds = λ n blank. record { unlisted = blank.unlisted; idle = blank.idle; none_waits = blank.none_waits; asleep = blank.asleep };
+  again = λ n ticks blank. record { unlisted = blank.unlisted; idle = blank.idle; none_waits = blank.none_waits; asleep = blank.asleep };
+  waits = λ n ticks blank. record { unlisted = blank.unlisted; idle = blank.idle; none_waits = blank.none_waits; asleep = blank.asleep };
+}
+
+pub blank_rests : Resting IsBlank
+blank_rests = record { ticks = tick_so IsBlank blank_so; works = λ n blank. none_works n blank.idle blank.none_waits; wants = blank_still }
+
+pub listed_named : (joined : List Bool) (h : HostState) (knows : KnowsMembers joined h) (n : ℕ) (classes : List ℕ) → (node_of h n).classes ≡ Some classes → is_marked joined n ≡ true
+listed_named joined h knows n classes listed = by (is_marked joined n) refl
+  where
+    by : (b : Bool) → is_marked joined n ≡ b → is_marked joined n ≡ true
+    by true is = is
+    by false is = absurd (let none = (knows.others n is).unlisted in let wrong : Some classes ≡ None = sym listed ∙ none in cc)
+
+-- ---- nodes of which the others are at rest
+
+module _ (Rests : NodeState → Type 0) (rests : Resting Rests) (joined : List Bool) (h : HostState) (knows : KnowsThese Rests joined h) where
+  -- a node that is not at rest is one of these
+  known_by : (n : ℕ) → (Rests (node_of h n) → ⊥) → is_marked joined n ≡ true
   known_by n some = by (is_marked joined n) refl
     where
       by : (b : Bool) → is_marked joined n ≡ b → is_marked joined n ≡ true
@@ -64,13 +87,13 @@ module _ (joined : List Bool) (h : HostState) (knows : KnowsMembers joined h) wh
       let works : ℕ → Bool = λ node. has_work (node_among h.nodes node) in
       record {
         is_node = range_by works h.served 0 (least_above works h.served) (least_above works 0) n refl refl is;
-        is_joined = known_by n (λ blank. blank_idle (node_of h n) blank (next_works h.nodes h.served n is));
+        is_joined = known_by n (λ at_rest. rests.works (node_of h n) at_rest (next_works h.nodes h.served n is));
       }
 
   wanting_member : (n : ℕ) → first_wanting h.nodes ≡ Some n → IsMember joined n
   wanting_member n is =
       let least = what_is_least (λ node. wants_no_more (node_among h.nodes node)) 0 n is in
-      record { is_node = (omega (arith, least.from), omega (arith, least.to)); is_joined = known_by n (λ blank. blank_still (node_of h n) blank least.is_one) }
+      record { is_node = (omega (arith, least.from), omega (arith, least.to)); is_joined = known_by n (λ at_rest. rests.wants (node_of h n) at_rest least.is_one) }
 
   pub no_more_named : (n : ℕ) → first_wanting h.nodes ≡ Some n → IsNamed joined (no_more_event h n)
   no_more_named n is = by (is_full h)
@@ -78,12 +101,6 @@ module _ (joined : List Bool) (h : HostState) (knows : KnowsMembers joined h) wh
       by : (full : Bool) → IsNamed joined (if full then Drops_no_more n else Queues_no_more n)
       by true = (wanting_member n is).is_joined
       by false = wanting_member n is
-
-  pub tick_named : (n : ℕ) → May h (Node_ticks n) → IsNamed joined (Node_ticks n)
-  tick_named n may = known_by n (λ blank. let wrong : true ≡ false = sym may ∙ blank.none_ticks in cc)
-
-  pub listed_named : (n : ℕ) (classes : List ℕ) → (node_of h n).classes ≡ Some classes → is_marked joined n ≡ true
-  listed_named n classes listed = known_by n (λ blank. let wrong : Some classes ≡ None = sym listed ∙ blank.unlisted in cc)
 
   -- ---- what is submitted next
 

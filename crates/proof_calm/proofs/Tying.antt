@@ -274,7 +274,7 @@ request_counts h s pending idle tie = tie_kept true (kept_with h r) (kept (after
 
     by : Tied false (ends_by (kept h) s) pending [] → TieBy true (kept_with h r) s pending []
     by (On_way u of fresh is) = absurd (let no = is.asked in cc)
-    by (At_chip u of fresh is) = absurd (let no : Some (record { node = is.node; callback_id = h.requests.last_id }) ≡ None = sym is.is_sending ∙ idle in cc)
+    by (At_chip u of fresh is) = absurd (let no : Some (record { node = is.asks.node; callback_id = h.requests.last_id }) ≡ None = sym is.is_sending ∙ idle in cc)
     by (Nowhere is) =
         tie_kept true (kept h) (kept_with h r) s pending [] (ap (λ (o : Option UnderWay). kept_with h (next_from h.requests at_tick o)) is.none)
         (record { paid = tie.paid; tied = Nowhere (record { none = is.none; idle = is.idle; leave = is.leave; nothing = is.nothing }) })
@@ -944,7 +944,7 @@ request_rests m is = record { none_due = is.routed.none_due; paid = is.tie.paid;
           purpose = u.purpose;
           under_way = of.under_way ∙ ap (λ (p : Progress). Some (record { purpose = u.purpose; progress = p })) progress;
           sends = of.sends;
-          node = at.node;
+          asks = at.asks;
           sending = at.is_sending;
           one_call = one.one_call ∙ ap (λ (c : Call). c ∷ []) call;
           one_flies = one.flies ∙ ap (λ (c : Call). one_if (of_frame c)) call;

@@ -32,7 +32,8 @@ use Rattle.proof_serial.specs.Chip.{IsFrame}
 use Rattle.proof_serial.specs.Line.{WritesWell, host_units}
 use Rattle.proof_calm.specs.Passes.{IsPlain, OnLine, answers}
 use Rattle.proof_calm.specs.Settling.{HasMoved, IsDone}
-use Rattle.proof_calm.specs.Tied.{AsksAt, AsksToSend}
+use Rattle.proof_calm.specs.Known.{AsksToSend}
+use Rattle.proof_calm.specs.Tied.{AsksAt}
 use Rattle.proof_calm.proofs.HostTurns.{all_judged, plain_units}
 use Rattle.proof_calm.proofs.Idle.{fed_none}
 use Rattle.proof_calm.proofs.Reading.{fed_units, goods}

@@ -6,21 +6,18 @@ use Rattle.zw_text.specs.declared.entry.Entry.{Entry}
 use Rattle.serial_frame.specs.Frame.{FrameParts}
 use Rattle.serial_link.specs.declared.turn.Turn.{Turn}
 use Rattle.serial_link.specs.declared.turn.Turn.TheVariants.{Idle, Copied, Paused}
-use Rattle.chip_functions.specs.Field.{IsNode}
 use Rattle.chip_functions.specs.declared.function.TheConstants.{SEND_DATA}
 use Rattle.chip_functions.specs.declared.notice.Notice.TheVariants.{ApplicationCommandHandler, ApplicationUpdate, SendData}
 use Rattle.chip_functions.specs.declared.notice.TransmitStatus.{TransmitStatus}
 use Rattle.chip_functions.specs.declared.notice.Update.{Update}
 use Rattle.chip_sim.specs.Answers.{notice_frame}
-use Rattle.chip_sim.specs.Nodes.{is_marked}
 use Rattle.chip_sim.specs.State.{ChipState}
 use Rattle.chip_sim.specs.Waiting.{PortState}
 use Rattle.chip_sim.specs.declared.out.Sending.{Sending}
 use Rattle.host_requests.specs.Events.RequestsEvent.{Ticks}
-use Rattle.host_requests.specs.Frames.{frame_of, function_of, request_of, send}
+use Rattle.host_requests.specs.Frames.{frame_of, function_of}
 use Rattle.host_requests.specs.Next.{is_answered, notice_ticks, response_ticks}
 use Rattle.host_requests.specs.State.{next_id}
-use Rattle.host_requests.specs.declared.task.Purpose.{Purpose}
 use Rattle.host_requests.specs.declared.task.Purpose.TheVariants.{Attempt}
 use Rattle.host_requests.specs.declared.under_way.Progress.{Progress}
 use Rattle.host_requests.specs.declared.under_way.Progress.TheVariants.{Submitted, Sent, Answered}
@@ -41,7 +38,7 @@ use Rattle.proof_work.specs.proof_walk.Phases.{Phase, Between, Said_line, Begun,
 use Rattle.proof_calm.specs.Awaited.{Awaits, AwaitsAt}
 use Rattle.proof_calm.specs.Calls.{answer_taken}
 use Rattle.proof_calm.specs.Homeward.{SpeaksHome}
-use Rattle.proof_calm.specs.Known.{HasShortPlain, IsMember, KnowsMembers}
+use Rattle.proof_calm.specs.Known.{AsksToSend, HasShortPlain, IsMember, KnowsMembers}
 use Rattle.proof_calm.specs.Live.{HasLive}
 use Rattle.proof_calm.specs.Quiet.{AreQuiet}
 use Rattle.proof_calm.specs.Resting.{LineAt, LineRests}
@@ -85,16 +82,6 @@ abbrev pub IsFreshUnless : Bool → Progress → Type 0
 IsFreshUnless true progress = Unit {0}
 IsFreshUnless false progress = IsFresh progress
 
--- a request asks to send a payload of 1 to 46 bytes to a joined node
-pub record AsksToSend (joined : List Bool) (purpose : Purpose) (id : ℕ) : Type 0 where
-  pub node : ℕ
-  pub payload : List ℕ
-  pub is : request_of purpose id ≡ send node payload id
-  pub is_node : IsNode node
-  pub some : 1 ≤ length payload
-  pub few : length payload ≤ 46
-  pub is_joined : is_marked joined node ≡ true
-
 -- what host and chip have of it
 pub record Ends : Type 0 where
   pub under_way : Option UnderWay
@@ -133,8 +120,8 @@ HasAnswer (frame ∷ frames) = (frame ≡ answer_taken) ⊎ HasAnswer frames
 
 -- the chip sends its payload, and has answered it, or will
 pub record IsAtChip (u : UnderWay) (e : Ends) (pending asking : List FrameParts) : Type 0 where
-  pub node : ℕ
-  pub is_sending : e.sending ≡ Some (record { node = node; callback_id = e.last_id })
+  pub asks : AsksToSend e.joined u.purpose e.last_id
+  pub is_sending : e.sending ≡ Some (record { node = asks.node; callback_id = e.last_id })
   pub answered : (is_answered u.progress ≡ true) ⊎ HasAnswer pending
   pub leave : LeaveIt e.joined pending
   pub nothing : asking ≡ []

@@ -14,6 +14,7 @@ use Rattle.outside_model.specs.declared.waits.Call.TheVariants.{OfFrame}
 use Rattle.outside_model.specs.State.{OuterState}
 use Rattle.world_model.specs.State.{Machine}
 use Rattle.proof_waking.specs.proof_traffic.OnAir.{on_air, hosts_on_air}
+use Rattle.proof_calm.specs.Known.{AsksToSend}
 use Rattle.proof_calm.specs.Resting.{LineRests}
 use Rattle.proof_calm.specs.Sending.{SendsNothing}
 
@@ -32,13 +33,13 @@ pub record HasNone (m : Machine) : Type 0 where
   pub no_request : m.host.state.requests.under_way ≡ None
   pub sends : SendsNothing m.outside.outer
 
--- a SendData that the chip took in the last settling: its frame is the only one of the host on the air, and the one call to come is for it
+-- a SendData of a payload for a joined node, which the chip took in the last settling: its frame is the only one of the host on the air, and the one call to come is for it
 pub record IsTaken (m : Machine) : Type 0 where
   pub purpose : Purpose
   pub under_way : m.host.state.requests.under_way ≡ Some (record { purpose = purpose; progress = Answered true notice_ticks })
   pub sends : function_of purpose ≡ SEND_DATA
-  pub node : ℕ
-  pub sending : m.outside.outer.chip.state.sending ≡ Some (record { node = node; callback_id = m.host.state.requests.last_id })
+  pub asks : AsksToSend m.outside.outer.chip.state.joined purpose m.host.state.requests.last_id
+  pub sending : m.outside.outer.chip.state.sending ≡ Some (record { node = asks.node; callback_id = m.host.state.requests.last_id })
   pub one_call : m.outside.outer.calls ≡ OfFrame ∷ []
   pub one_flies : hosts_on_air m.outside.outer ≡ 1
 

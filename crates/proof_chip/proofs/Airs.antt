@@ -25,7 +25,7 @@ use Rattle.proof_air.proofs.ByLine.{effect_covered}
 use Rattle.proof_air.proofs.Times.{IsWithin, outcome_time}
 use Rattle.proof_chip.specs.Sending.{AirSo, AreBefore, AreNow, AreSending, GroundAir, IsMild, KnowAir}
 use Rattle.proof_line.proofs.ChipAccounts.{event_steps, outer_steps}
-use Rattle.proof_chip.proofs.Ending.{serves_none}
+use Rattle.proof_chip.proofs.Growing.{serves_none}
 use Rattle.proof_chip.proofs.Going.{apart_goes}
 use Rattle.proof_chip.proofs.Judges.{now_as, takes_event, weaker}
 use Rattle.proof_chip.proofs.Keeping.{TakesNone, event_keeps}

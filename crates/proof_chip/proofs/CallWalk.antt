@@ -39,7 +39,7 @@ use Rattle.proof_air.proofs.Handling.{tie_here}
 use Rattle.proof_chip.specs.Knowing.{AnyEntry}
 use Rattle.proof_chip.specs.Calling.{AreGiven, AreLanding, CallsAt, KnowCalls, LeavesCalls, Waits}
 use Rattle.proof_chip.proofs.Calling.{arrives_waits, event_waits, flying, gives_waits, takes_waits}
-use Rattle.proof_chip.proofs.Walking.{any_each}
+use Rattle.proof_chip.proofs.Learning.{any_each}
 
 -- ---- where all results have come
 

@@ -50,7 +50,7 @@ use Rattle.proof_chip.proofs.Passing.{IsOther, others_no_ack, others_stand, puts
 use Rattle.proof_chip.proofs.Quieting.{IsUnanswered, event_none}
 use Rattle.proof_chip.proofs.Telling.{AreAside, IsAside}
 use Rattle.proof_line.proofs.ChipAccounts.{Account, Still, Both, Later, Does, Forgotten as ForgottenLink, Of_air, In_air, IsOfResults, gives_account, gives_results, steps_by}
-use Rattle.proof_chip.proofs.Walking.{air_aside, any_each}
+use Rattle.proof_chip.proofs.Learning.{air_aside, any_each}
 
 -- ---- entries
 

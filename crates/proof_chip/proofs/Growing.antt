@@ -1,5 +1,5 @@
 -- What is known of the chip's link goes on with each event of the chip, and with entries that tell nothing of it.
-use Rattle.std.proofs.Common.{◌≡◌, ◌≤◌, ℕ, ◌+◌, ◌==◌, Bool, true, List, [], ◌∷◌, ◌++◌, map, filter, length, refl, sym, ap, ap₂, ◌∙◌, subst, append-nil, append_assoc, length-append, arith, inl, inr}
+use Rattle.std.proofs.Common.{◌≡◌, ◌≤◌, ℕ, ◌+◌, ◌==◌, Bool, true, List, [], ◌∷◌, ◌++◌, map, filter, length, refl, sym, ap, ap₂, ◌∙◌, subst, append-nil, append_assoc, length-append, lit≤, arith, inl, inr}
 use Rattle.std.proofs.lemmas.Bool.{eqb-true}
 use Rattle.std.proofs.lemmas.List.{map-append}
 use Rattle.std.proofs.lemmas.List.Elements.{filter-append}
@@ -8,7 +8,7 @@ use Rattle.serial_frame.specs.Items.{unit_text}
 use Rattle.serial_frame.specs.declared.unit.Unit.{Unit as LineUnit}
 use Rattle.serial_link.specs.State.{Side as LinkSide}
 use Rattle.serial_link.specs.Rules.{Step, SideObeys}
-use Rattle.chip_sim.specs.Waiting.{PortState}
+use Rattle.chip_sim.specs.Waiting.{PortState, no_port}
 use Rattle.chip_sim.specs.State.{ChipState}
 use Rattle.chip_sim.specs.Events.{ChipEvent, after, outs}
 use Rattle.chip_sim.specs.Link.{link_steps}
@@ -302,3 +302,17 @@ module _ (steps : List Step) (frames : List FrameParts) (past : List Entry) (o :
   pub serves_event : Serves (steps ++ link_steps o.chip.state e) (frames ++ posts o.chip.state e) (past ++ (chip_does o e).entries) (after o.chip.state e).port
   unfolding chip_does
   serves_event = serves_told
+
+-- ---- at first
+
+pub serves_none : (port : PortState) → port ≡ no_port.port → SideObeys [] port.side → Serves [] [] [] port
+serves_none port is obeys = record {
+  obeys = obeys;
+  units = refl;
+  starts = refl;
+  passed = refl;
+  kept = ap (λ (p : PortState). as_given p.waiting) (sym is);
+  places = tt;
+  count = let none : length port.waiting ≡ 0 = ap (λ (p : PortState). length p.waiting) is in omega (arith, none);
+  waits = subst (λ (p : PortState). WaitsWell p) (sym is) (record { busy = refl; few = lit≤ tt });
+}

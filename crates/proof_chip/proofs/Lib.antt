@@ -4,8 +4,7 @@ mod Submitting
 mod Posting
 pub mod Telling
 pub mod Growing
-pub mod Walking
-pub mod Ending
+pub mod Learning
 pub mod Covering
 pub mod Ordering
 mod Agreeing
@@ -58,6 +57,7 @@ pub mod Airs
 mod Members
 mod Grounds
 pub mod Served
+pub mod Incoming
 pub mod Landed
 pub mod Hosted
 pub mod Outsides

@@ -1,23 +1,19 @@
 -- How many frames the chip has for the host stays told by the transcript where words of a line stand, where a tick begins, and where all its results have come.
-use Rattle.std.proofs.Common.{◌≡◌, ◌≤◌, ◌<◌, ℕ, ◌+◌, ◌&&◌, not, Bool, true, false, List, [], ◌∷◌, ◌++◌, filter, length, refl, sym, ap, ap₂, ◌∙◌, subst, append-nil, append_assoc, arith}
-use Rattle.std.specs.List.{AllByRecursion, flat_map}
+use Rattle.std.proofs.Common.{◌≡◌, ◌≤◌, ◌<◌, ℕ, ◌+◌, ◌&&◌, not, Bool, true, false, List, [], ◌∷◌, ◌++◌, length, refl, sym, ap, ap₂, ◌∙◌, subst, append-nil, arith}
 use Rattle.zw_base.proofs.Each.{all-append, all-weaker}
 use Rattle.zw_text.specs.declared.entry.Entry.{Entry}
 use Rattle.zw_text.specs.declared.entry.Entry.TheVariants as entry
 use Rattle.zw_text.specs.Transcript.{frames}
 use Rattle.law_transcript.specs.Fates.{first_fates, flying}
 use Rattle.law_wire.specs.Asked.{Asked, Course, Sending, clock_of, last_sending}
-use Rattle.law_wire.specs.Results.{came_due, settled_clock}
-use Rattle.law_wire.specs.Given.{given_at, results_of}
-use Rattle.law_wire.specs.Answering.{MayWait}
+use Rattle.law_wire.specs.Results.{settled_clock}
 use Rattle.outside_model.specs.Devices.{State}
-use Rattle.proof_host.proofs.Lists.{each-append}
 use Rattle.proof_air.proofs.Fated.{same_fates}
-use Rattle.proof_chip.specs.Tally.{AreNumbered, AreOwn, IsBefore, IsIn, IsWithin, Outlook, TallyBefore, TallyNow, Timed, owed, total}
-use Rattle.proof_chip.proofs.Airing.{same_last}
+use Rattle.proof_chip.specs.Tally.{AreNumbered, AreOwn, IsIn, IsWithin, Outlook, TallyBefore, TallyNow, Timed, owed}
 use Rattle.proof_line.specs.proof_traffic.Facts.{one_if}
-use Rattle.proof_chip.proofs.Settling.{all_between, asked_still, between, due_still, none_above, none_between, own_later, total_both, total_still}
-use Rattle.proof_chip.proofs.Reckoning.{FewWait, all_many, given_one, not_now, not_so, parts_of, plus_none, settled_now, settled_was}
+use Rattle.proof_chip.proofs.Settling.{due_still, total_both}
+use Rattle.proof_chip.proofs.Tallying.{now_settles}
+use Rattle.proof_chip.proofs.Reckoning.{FewWait, not_now, not_so, plus_none, settled_now, settled_was}
 
 module _ (devices : List State) (course : Course) (past : List Entry) where
   -- ---- the words of a line
@@ -33,37 +29,7 @@ module _ (devices : List State) (course : Course) (past : List Entry) where
         landed = λ is. not_so is;
         sent = λ is. not_so is;
       } in
-      let now : settled_clock (past ++ e ∷ []) ≡ v.clock = settled_now v.clock (past ++ e ∷ []) timed in
-      let from : ℕ = settled_clock past in
-      let before : settled_clock past ≤ v.clock = above awaits was.timed in
-      let due : came_due course past e ≡ was.silent =
-      ap₂ (λ (to : ℕ) (l : List Asked). filter (between from to) l) now was.are
-      ∙ parts_of from v.clock was.old was.silent was.here
-      ∙ ap₂ (λ (a b : List Asked). a ++ b) (none_between from v.clock was.old was.settled)
-      (ap₂ (λ (a b : List Asked). a ++ b) (all_between from v.clock was.silent was.unsettled) (none_above from v.clock was.here (all-weaker (IsIn v.clock) (λ (one : Asked). v.clock ≤ clock_of one.past) (λ one is. omega (arith, is)) was.here was.new)))
-      ∙ append-nil was.silent in
-      let more : length (given_at devices course past e) ≡ total course past was.silent = ap (λ (l : List Asked). length (flat_map (results_of course past e) l)) due ∙ all_many course past e was.silent in
-      let grown = given_one devices course past e in
-      let many = was.many in
-      record {
-        waits = each-append (MayWait devices course) [] past (e ∷ []) was.waits (few (omega (arith, many)), tt);
-        numbered = subst (λ (l : List Sending). AreNumbered v.sending v.by_frame v.numbers l) (sym (same_last course past (e ∷ []) (tt, tt))) was.numbered;
-        own = own_later past (e ∷ []) v.numbers was.own;
-        timed = timed;
-        old = was.old ++ was.silent;
-        silent = [];
-        here = was.here;
-        are = asked_still course past (e ∷ []) (tt, tt) ∙ (was.are ∙ sym (append_assoc was.old was.silent was.here));
-        settled =
-            subst (λ (n : ℕ). AllByRecursion (IsBefore n) (was.old ++ was.silent)) (sym now)
-            (all-append (IsBefore v.clock) was.old was.silent (all-weaker (IsBefore from) (IsBefore v.clock) (λ one is. omega (arith, is, before)) was.old was.settled)
-            (all-weaker (IsWithin from v.clock) (IsBefore v.clock) (λ one is. is.1) was.silent was.unsettled));
-        unsettled = tt;
-        new = was.new;
-        informs = was.informs;
-        owes = total_still course past (e ∷ []) (tt, tt) was.here ∙ was.owes;
-        many = omega (arith, grown, more, many);
-      }
+      now_settles devices course past v awaits count e tt timed (above awaits was.timed) refl (λ is. is) few was
     where
       landed : (b : Bool) → Timed v.clock 0 b past → length (first_fates past) + 0 ≡ (flying past).due
       landed true timed = plus_none (length (first_fates past)) ∙ timed.landed refl

@@ -36,7 +36,7 @@ use Rattle.proof_chip.specs.Staying.{AreBegun, BeganSo, KnowStays, SaidSo, Start
 use Rattle.proof_chip.specs.Tally.{IsOfLine, KnowTally, Outlook, TallyNow, TallySo, outlook}
 use Rattle.proof_chip.proofs.Judged.{goes_back}
 use Rattle.proof_chip.proofs.Standing.{none_stand}
-use Rattle.proof_chip.proofs.Walking.{any_each}
+use Rattle.proof_chip.proofs.Learning.{any_each}
 
 -- ---- outside the host
 

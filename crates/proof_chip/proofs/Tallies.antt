@@ -39,9 +39,8 @@ use Rattle.proof_chip.specs.Calling.{AreLanding, KnowCalls}
 use Rattle.proof_chip.specs.Sending.{GroundAir, KnowAir}
 use Rattle.proof_chip.specs.Serving.{GoesOn}
 use Rattle.proof_chip.specs.Tally.{IsOfLine, KnowTally, Outlook, TallyAt, TallyBefore, TallyNow, TallySo, infos_in, outlook}
-use Rattle.proof_chip.proofs.Ending.{serves_none}
+use Rattle.proof_chip.proofs.Growing.{serves_aside, serves_none}
 use Rattle.proof_chip.proofs.Giving.{map_t}
-use Rattle.proof_chip.proofs.Growing.{serves_aside}
 use Rattle.proof_chip.proofs.Standing.{few_stand}
 use Rattle.proof_chip.proofs.Coming.{before_next}
 use Rattle.proof_chip.proofs.Opening.{before_over, now_said}

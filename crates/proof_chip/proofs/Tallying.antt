@@ -15,15 +15,15 @@ use Rattle.law_transcript.specs.Lists.{EachAfter}
 use Rattle.law_wire.specs.Asked.{Asked, Course, Sending, clock_of, course_of, is_ack}
 use Rattle.law_wire.specs.Results.{came_due, settled_clock}
 use Rattle.law_wire.specs.Given.{given, given_at, results_of}
-use Rattle.law_wire.specs.Answering.{MayWait, drops}
+use Rattle.law_wire.specs.Answering.{MayWait, drops, most_waiting, waiting}
 use Rattle.outside_model.specs.Devices.{State}
 use Rattle.outside_model.specs.State.{OuterState}
 use Rattle.proof_host.proofs.Lists.{each-append, each-anywhere}
 use Rattle.proof_chip.specs.Serving.{GoesOn, Serves}
-use Rattle.proof_chip.specs.Tally.{AreEnough, AreNumbered, IsBefore, IsIn, IsWithin, Outlook, TallyBefore, TallyNow, owed, total}
+use Rattle.proof_chip.specs.Tally.{AreEnough, AreNumbered, IsBefore, IsIn, IsWithin, Outlook, TallyBefore, TallyNow, Timed, owed, total}
 use Rattle.proof_chip.proofs.Growing.{told, told_drops}
 use Rattle.proof_chip.proofs.Ordering.{event_waits}
-use Rattle.proof_chip.proofs.Passing.{others_no_ack}
+use Rattle.proof_chip.proofs.Passing.{IsOther, others_no_ack}
 use Rattle.proof_chip.proofs.Airing.{same_last}
 use Rattle.proof_chip.proofs.Posting.{Fate, Falls, Stays, fate_of}
 use Rattle.proof_chip.proofs.Settling.{AreIdle, IsIdle, all_between, asked_still, between, given_still, idle_others, idle_settled, none_above, none_between, own_later, total_both, total_still}
@@ -123,33 +123,34 @@ module _ (devices : List State) (course : Course) (past : List Entry) where
             ∙ was.many;
       }
 
-  -- ---- the number of the tick
+  -- ---- where a line stands, or the number of a tick: all that came in ticks without an entry is told
 
-  pub now_number : (v : Outlook) (count : ℕ) → FewWait devices course past count → TallyNow devices v true 0 count course past → TallyNow devices v false 0 count course (past ++ entry.Time v.clock ∷ [])
-  now_number v count few was =
-      let e : Entry = entry.Time v.clock in
-      let timed = timed_number v.clock 0 past was.timed in
+  pub now_settles : (v : Outlook) (awaits : Bool) (count : ℕ) (e : Entry) → IsOther e → Timed v.clock 0 false (past ++ e ∷ []) → settled_clock past ≤ v.clock
+      → length (given_at devices course past e) ≡ length (flat_map (results_of course past e) (came_due course past e)) → (waiting devices course past ≤ most_waiting → MayWait devices course past e)
+      → FewWait devices course past count → TallyNow devices v awaits 0 count course past → TallyNow devices v false 0 count course (past ++ e ∷ [])
+  now_settles v awaits count e other timed before grows may few was =
+      let others : AllByRecursion IsOther (e ∷ []) = (other, tt) in
       let now : settled_clock (past ++ e ∷ []) ≡ v.clock = settled_now v.clock (past ++ e ∷ []) timed in
       let from : ℕ = settled_clock past in
-      let before = settled_was v.clock 0 past was.timed in
       let due : came_due course past e ≡ was.silent =
       ap₂ (λ (to : ℕ) (l : List Asked). filter (between from to) l) now was.are
       ∙ parts_of from v.clock was.old was.silent was.here
       ∙ ap₂ (λ (a b : List Asked). a ++ b) (none_between from v.clock was.old was.settled)
       (ap₂ (λ (a b : List Asked). a ++ b) (all_between from v.clock was.silent was.unsettled) (none_above from v.clock was.here (all-weaker (IsIn v.clock) (λ (one : Asked). v.clock ≤ clock_of one.past) (λ one is. omega (arith, is)) was.here was.new)))
       ∙ append-nil was.silent in
-      let more : length (given_at devices course past e) ≡ total course past was.silent = ap (λ (l : List Asked). length (flat_map (results_of course past e) l)) due ∙ all_many course past e was.silent in
+      let more : length (given_at devices course past e) ≡ total course past was.silent =
+      grows ∙ (ap (λ (l : List Asked). length (flat_map (results_of course past e) l)) due ∙ all_many course past e was.silent) in
       let grown = given_one devices course past e in
       let many = was.many in
       record {
-        waits = each-append (MayWait devices course) [] past (e ∷ []) was.waits (few (omega (arith, many)), tt);
-        numbered = subst (λ (l : List Sending). AreNumbered v.sending v.by_frame v.numbers l) (sym (same_last course past (e ∷ []) (tt, tt))) was.numbered;
+        waits = each-append (MayWait devices course) [] past (e ∷ []) was.waits (may (few (omega (arith, many))), tt);
+        numbered = subst (λ (l : List Sending). AreNumbered v.sending v.by_frame v.numbers l) (sym (same_last course past (e ∷ []) (others_no_ack (e ∷ []) others))) was.numbered;
         own = own_later past (e ∷ []) v.numbers was.own;
         timed = timed;
         old = was.old ++ was.silent;
         silent = [];
         here = was.here;
-        are = asked_still course past (e ∷ []) (tt, tt) ∙ (was.are ∙ sym (append_assoc was.old was.silent was.here));
+        are = asked_still course past (e ∷ []) (others_no_ack (e ∷ []) others) ∙ (was.are ∙ sym (append_assoc was.old was.silent was.here));
         settled =
             subst (λ (n : ℕ). AllByRecursion (IsBefore n) (was.old ++ was.silent)) (sym now)
             (all-append (IsBefore v.clock) was.old was.silent (all-weaker (IsBefore from) (IsBefore v.clock) (λ one is. omega (arith, is, before)) was.old was.settled)
@@ -157,9 +158,14 @@ module _ (devices : List State) (course : Course) (past : List Entry) where
         unsettled = tt;
         new = was.new;
         informs = was.informs;
-        owes = total_still course past (e ∷ []) (tt, tt) was.here ∙ was.owes;
+        owes = total_still course past (e ∷ []) others was.here ∙ was.owes;
         many = omega (arith, grown, more, many);
       }
+
+  pub now_number : (v : Outlook) (count : ℕ) → FewWait devices course past count → TallyNow devices v true 0 count course past → TallyNow devices v false 0 count course (past ++ entry.Time v.clock ∷ [])
+  now_number v count few was =
+      let before = settled_was v.clock 0 past was.timed in
+      now_settles v true count (entry.Time v.clock) tt (timed_number v.clock 0 past was.timed) (omega (arith, before)) refl (λ is. is) few was
 
   -- in a tick before which so many frames were on the air
   pub before_given : (v : Outlook) (arriving : Bool) (left count : ℕ) (awaits : Bool) → settled_clock past < v.clock → TallyBefore devices v arriving left awaits 0 count course past

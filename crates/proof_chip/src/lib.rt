@@ -1,20 +1,20 @@
 //! What the chip does for the host in every run: the frames that it has for the host, which it writes in order, drops or lets wait.
 //!
-//! Each is the contract of a function with an empty body, over lines that are said one after another (`world_lines`) and the events of the machine that each
-//! line is, and is proved on the walk of `proof_walk`: `service_goes_on`, the tie, and with it `chips_serve_in_order`, where the events of the lines end;
-//! `nodes_go_on`; and `calls_go_on`. What else goes along that walk, with the walk of both links (`proof_line`), `proof_answers` brings to an end.
-//! The definitions are in `specs/`: `Serving` (what the chip's link did and was given, beside the transcript), `Knowing` (what is known of it at each phase
+//! Two ties are the contracts of functions with an empty body, over lines that are said one after another (`world_lines`) and the events of the machine that
+//! each line is, and are proved on the walk of `proof_walk`: `nodes_go_on` and `calls_go_on`. What else goes along that walk, with the walk of both links
+//! (`proof_line`), `proof_answers` brings to an end.
+//! The definitions are in `specs/`: `Serving` (what the chip's link did and was given, beside the transcript), `Knowing` (which nodes it knows at each phase
 //! of a line), `Sending` (which SendData it has under way, and what that needs to be known of chip and transcript), `Calling` (the results that it waits
 //! for), `Tally` (how many frames it has for the host, by the transcript and by what it was given), `Staying` (that none waits where a line or tick
 //! begins), `Served` (what of all that is so in a whole run) and `Bringing` (that what was heard is brought in order, with worked transcripts).
 #![tactic(auto)]
 
 mod calls;
-mod order;
+mod nodes;
 mod worked;
 
 pub use calls::calls_go_on;
-pub use order::{chips_serve_in_order, nodes_go_on, service_goes_on};
+pub use nodes::nodes_go_on;
 pub use proof_line as line;
 pub use proof_line::world;
 pub use worked::worked_bringing;

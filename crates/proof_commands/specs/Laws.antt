@@ -53,6 +53,9 @@ use Rattle.proof_answers.specs.Answered.{AnswersByLink}
 use Rattle.proof_replay.specs.Laws.{HostsKeepLaws}
 use Rattle.proof_replay.specs.proof_notes_Full.{NotesInFull}
 use Rattle.proof_replay.specs.proof_notes_Unkept.{UnkeptWhereAsked}
+use Rattle.proof_replay.specs.proof_ends_Ends.{NotesOfEnds}
+use Rattle.proof_replay.specs.proof_nonces_Giving.{CountsNonces}
+use Rattle.proof_replay.specs.proof_nonces_Sealing.{SealsOnce}
 use Rattle.proof_replay.specs.proof_rests_Undone.{LeavesNothing}
 use Rattle.proof_replay.specs.proof_sending.Line.{ClearsAtRestarts, ClearsNowhereElse, OverrunsOnlyWhenFull}
 use Rattle.proof_audit.specs.Transcript.{IsNoRepeat, HasRecords}
@@ -394,6 +397,18 @@ abbrev pub DoesWhatIsAsked : List ℕ → Around → Around → Type 0
 DoesWhatIsAsked key old new = AlwaysOf key old new
     (λ story. TellsAtRestarts old story → (whole : Bool) → (whole ≡ true → AreSchedules (first key old) story) → LeavesNothing whole (transcript key old story))
 
+-- what the end of a request, or a command that is given up, has noted stands together, once and in order
+abbrev pub NotesEnds : List ℕ → Around → Around → Type 0
+NotesEnds key old new = AlwaysOf key old new
+    (λ story. TellsAtRestarts old story → (whole : Bool) → (whole ≡ true → AreSchedules (first key old) story) → NotesOfEnds whole (transcript key old story))
+
+-- each message that the host seals is for a nonce that its node told since it was asked, and none serves twice; the nonces that it gives have numbers, in order, which rise with what opens
+abbrev pub SealsEachOnce : List ℕ → Around → Around → Type 0
+SealsEachOnce key old new = AlwaysOf key old new (λ story. TellsAtRestarts old story → SealsOnce (keys_of key) (transcript key old story))
+
+abbrev pub GivesNonces : List ℕ → Around → Around → Type 0
+GivesNonces key old new = AlwaysOf key old new (λ story. TellsAtRestarts old story → CountsNonces (keys_of key) (transcript key old story))
+
 abbrev pub HoldsNodes : List ℕ → Around → Around → Type 0
 HoldsNodes key old new = AlwaysOf key old new (λ story. TellsAtRestarts old story → HoldsAsAsked (transcript key old story))
 
@@ -492,7 +507,10 @@ pub record KeepsHostLaws (key : List ℕ) (old new : Around) : Type 0 where
   pub says_done : TellsHowDone key old new
   pub one_by_one : AsksOneByOne key old new
   pub numbered : NumbersMessages key old new
+  pub ends : NotesEnds key old new
   pub rests : DoesWhatIsAsked key old new
+  pub seals_once : SealsEachOnce key old new
+  pub nonces : GivesNonces key old new
   pub noted : NotesPayloads key old new
   pub unkept : SaysWhatIsNotKept key old new
   pub heard : HearsAsHosts key old new

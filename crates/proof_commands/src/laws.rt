@@ -20,6 +20,7 @@ ghost use Rattle.proof_commands.specs.Laws.{
   EndsEachInterview,
   FaresFrames,
   ForgetsHops,
+  GivesNonces,
   GroupsChanges,
   HasHeadline,
   HasWholeHeadline,
@@ -36,6 +37,7 @@ ghost use Rattle.proof_commands.specs.Laws.{
   LosesFrames,
   MarksAsAsked,
   MeetsFates,
+  NotesEnds,
   NotesPayloads,
   NumbersAir,
   NumbersMessages,
@@ -47,6 +49,7 @@ ghost use Rattle.proof_commands.specs.Laws.{
   ReportsAfterChange,
   RoutesFrames,
   SaysWhatIsNotKept,
+  SealsEachOnce,
   SendsAsDue,
   SendsToSleep,
   ShowsChanges,
@@ -87,8 +90,10 @@ use proof_audit::transcript::{
 use proof_host::{asides_keep_facts, laws_follow};
 use proof_replay::asking::{lines_ask_one_by_one, lines_say_how_done};
 use proof_replay::attempts::{lines_fall_asleep_as_told, lines_hold_as_asked};
+use proof_replay::ends::lines_note_ends;
 use proof_replay::known::waking::lines_wake_as_told;
 use proof_replay::lines_that_ran_are_heard;
+use proof_replay::nonces::{lines_count_nonces, lines_seal_once};
 use proof_replay::notes::{lines_note_in_full, lines_say_what_is_not_kept};
 use proof_replay::requests::{lines_answer_questions, lines_end_interviews};
 use proof_replay::rests::lines_leave_nothing;
@@ -273,12 +278,16 @@ fn stories_are_legal_on_line()
     stories_air_what_is_taken();
 }
 
-/// What hosts send has its reason in lines that were said, and in what nodes told.
+/// What hosts send has its reason in lines that were said, and in what nodes told; what they seal is for a nonce that serves once, and what they open is numbered.
 fn stories_send_what_is_due()
-    ensures { (key : List ℕ) (old new : Around) → SendsAsDue key old new }
+    ensures sends { (key : List ℕ) (old new : Around) → SendsAsDue key old new }
+    ensures seals { (key : List ℕ) (old new : Around) → SealsEachOnce key old new }
+    ensures nonces { (key : List ℕ) (old new : Around) → GivesNonces key old new }
 {
     lines_are_read_as_said();
     lines_send_what_is_due();
+    lines_seal_once();
+    lines_count_nonces();
 }
 
 /// Nodes count as awake as they told in lines that were said, fall asleep and are held.
@@ -310,10 +319,12 @@ fn stories_ask_one_by_one()
     ensures one { (key : List ℕ) (old new : Around) → AsksOneByOne key old new }
     ensures numbered { (key : List ℕ) (old new : Around) → NumbersMessages key old new }
     ensures rests { (key : List ℕ) (old new : Around) → DoesWhatIsAsked key old new }
+    ensures ends { (key : List ℕ) (old new : Around) → NotesEnds key old new }
 {
     lines_are_read_as_said();
     lines_ask_one_by_one();
     lines_leave_nothing();
+    lines_note_ends();
 }
 
 /// After each payload stands all that its messages have noted, and that a record was not kept where one was asked for, in lines that were said.

@@ -1,5 +1,5 @@
 -- How many nonces a lock gives, and that it spends none that the host did not take.
-use Rattle.std.proofs.Common.{◌≡◌, ℕ, ◌+◌, ◌%◌, ◌≤◌, Bool, true, false, cond, eqb, ◌&&◌, Option, Some, None, List, [], ◌∷◌, length, drop, refl, ap, ◌∙◌, inl, inr, ◌⊎◌, length-drop, arith}
+use Rattle.std.proofs.Common.{◌≡◌, ℕ, ◌+◌, ◌%◌, ◌≤◌, Bool, true, false, cond, eqb, leb, ◌&&◌, Option, Some, None, List, [], ◌∷◌, length, take, drop, refl, ap, ◌∙◌, inl, inr, ◌⊎◌, length-drop, arith}
 use Rattle.std.specs.Prelude.{slice_index, option_and_then}
 use Rattle.std.specs.Option.{option_to_list}
 use Rattle.std.proofs.lemmas.Bool.{eqb-true, and_right}
@@ -15,7 +15,7 @@ use Rattle.inclusion.specs.Sealing.{sent_by}
 use Rattle.inclusion.specs.Messages.{message_of, nonce_named, scheme_report, nonce_get, nonce_report, temporary_key, key_set_in}
 use Rattle.inclusion.specs.Joining.{Joining, Joined, joiner_takes, takes_message, tells_scheme, gives_nonce, takes_nonce, takes_key, takes_for, from_host, silent}
 use Rattle.include_world.specs.declared.flight.Heading.TheVariants.{Outward, Homeward}
-use Rattle.include_world.specs.Air.{nonce_in}
+use Rattle.air_frames.specs.Nonces.{nonce_in}
 use Rattle.include_world.proofs.AirFacts.{Each}
 use Rattle.proof_include.proofs.NearFacts.{Way, Alive, way_give}
 use Rattle.proof_include.proofs.ShowFacts.{message_of_sealed}
@@ -67,8 +67,8 @@ way_spends account seen first w near = record { within = w.within; ahead = w.ahe
 sealed_shows_none : (keys : Keys) (own nonce : List ℕ) (ends : SealEnds) (plain : List ℕ) → nonce_in (sealed_text keys own nonce ends plain) ≡ None
 unfolding sealed_text
 sealed_shows_none keys own nonce ends plain =
-    ap (λ (b : Bool). cond b (Some (drop 2 (sealed_text keys own nonce ends plain))) None)
-    (and_right (eqb (length (sealed_text keys own nonce ends plain)) 10) (eqb (slice_index (sealed_text keys own nonce ends plain) 0) 0x98 && eqb (slice_index (sealed_text keys own nonce ends plain) 1) 0x80) refl)
+    ap (λ (b : Bool). cond b (Some (take 8 (drop 2 (sealed_text keys own nonce ends plain)))) None)
+    (and_right (leb 10 (length (sealed_text keys own nonce ends plain))) (eqb (slice_index (sealed_text keys own nonce ends plain) 0) 0x98 && eqb (slice_index (sealed_text keys own nonce ends plain) 1) 0x80) refl)
 
 module _ (lock : Joining) (seen : ℕ) (way : Way lock.given seen) where
   rests : Turns seen lock.given (silent lock)

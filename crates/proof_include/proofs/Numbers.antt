@@ -2,8 +2,8 @@
 use Rattle.std.proofs.Common.{◌≡◌, ℕ, ◌+◌, ◌%◌, ◌<◌, ◌≤◌, Bool, true, false, cond, ◌&&◌, not, Option, Some, None, List, [], ◌∷◌, length, refl, ap, sym, subst, ◌∙◌, ⊎_elim, arith}
 use Rattle.std.specs.Prelude.{slice_index, nat_eq}
 use Rattle.std.specs.Cmp.Lexicographic.{pointwise}
-use Rattle.std.proofs.lemmas.List.{get_or-set_same, get_or-set_other}
-use Rattle.std.proofs.lemmas.Bool.{cases_eq, cond_both, eq-eqb, ne_eqb}
+use Rattle.std.proofs.lemmas.List.{get_or-set_same, get_or-set_other, take_all}
+use Rattle.std.proofs.lemmas.Bool.{cases_eq, cond_both, le-leb, ne_eqb}
 use Rattle.inclusion.specs.declared.message.Message.{Message}
 use Rattle.inclusion.specs.declared.message.Message.TheVariants.{SchemeGet, SchemeReport, NonceGet, NonceReport, Sealed, Other}
 use Rattle.inclusion.specs.Messages.{message_of, nonce_named, nonce_report}
@@ -11,8 +11,8 @@ use Rattle.include_world.specs.declared.flight.Heading.{Heading}
 use Rattle.include_world.specs.declared.flight.Heading.TheVariants.{Outward, Homeward}
 use Rattle.include_world.specs.declared.flight.Flight.{Flight}
 use Rattle.include_world.specs.declared.flight.Pair.{Pair}
-use Rattle.air_frames.specs.Nonces.{is_news}
-use Rattle.include_world.specs.Air.{AirState, pair_of, flight, departing, sending, showing, showing_nonce, nonce_in, no_counts}
+use Rattle.air_frames.specs.Nonces.{nonce_in, is_news}
+use Rattle.include_world.specs.Air.{AirState, pair_of, flight, departing, sending, showing, showing_nonce, no_counts}
 use Rattle.include_world.proofs.AirFacts.{Each, began_pairs}
 use Rattle.proof_include.proofs.Stages.{nonce_told}
 use Rattle.proof_include.proofs.Flights.{Flights, flights_departing, flights_map}
@@ -289,7 +289,7 @@ next_is_news given None nonce eight next l = refl
 next_is_news given (Some before) nonce eight next l = is_other before nonce l.0 eight (λ same. absurd (omega (arith, same, next, l.1)))
 
 nonce_in_report : (nonce : List ℕ) → length nonce ≡ 8 → nonce_in (nonce_report nonce) ≡ Some nonce
-nonce_in_report nonce eight = rw (eq-eqb (length (nonce_report nonce)) 10 (omega (arith, eight))) refl
+nonce_in_report nonce eight = rw (le-leb 10 (length (nonce_report nonce)) (omega (arith, eight))) (ap Some (take_all 8 nonce (omega (arith, eight))))
 
 -- it goes out, new or again
 pub air_reports : (node given taken may most given' : ℕ) (air : AirState) (nonce : List ℕ) → node < length air.pairs → length nonce ≡ 8 → slice_index nonce 0 ≡ given' % 256

@@ -6,7 +6,7 @@
 //! The definitions are in `specs/`: `Sealing` and `Giving` (the laws), `Known` and `Counted` (what is known at each phase). `proofs/Payloads` has which
 //! payloads are of Security 0, `Queued` what waits to be asked, `Since` what stays with further entries, `Taking` where a nonce is taken, and `Walking`
 //! the walk over what is sealed. `Ordered` has lists in order, `Accounts` the nonces that are given and drawn, `Reports` those that are sent and wait,
-//! `Opening` what was judged and opened, and `Counting` the walk over them; `Grounds` has what both walks depend on. `Standing` computes whether a
+//! `Opening` what was judged and opened, and `Counting` the walk over them; `Grounds` is what both walks need. `Standing` computes whether a
 //! question stands, and `Unsealed` that nothing is sealed, for a rejected and a worked transcript (`rejected_seals`, `worked_seals`).
 #![tactic(auto)]
 

@@ -112,6 +112,7 @@ kept_as_told keys whole heard told held agrees laws = record {
   questions = laws.questions;
   interviews = laws.interviews;
   says_done = laws.says_done;
+  ends = laws.ends;
   one_by_one = laws.one_by_one;
   numbered = laws.numbered;
   begins = laws.begins;
@@ -119,6 +120,8 @@ kept_as_told keys whole heard told held agrees laws = record {
   queues = laws.queues;
   ticks = laws.ticks;
   sends = laws.sends;
+  seals_once = laws.seals_once;
+  nonces = laws.nonces;
   link = laws.link;
 }
 

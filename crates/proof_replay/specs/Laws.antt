@@ -37,6 +37,9 @@ use Rattle.proof_asking.specs.proof_requests.proof_alone.Careful.{Careful}
 use Rattle.proof_asking.specs.proof_known.Known.{AreForHost, KeepsWhatIsSaid}
 use Rattle.proof_asking.specs.proof_known.Noted.{NotesWhatOpens, NotesWhatWasTold}
 use Rattle.proof_notes.specs.Full.{NotesInFull}
+use Rattle.proof_ends.specs.Ends.{NotesOfEnds}
+use Rattle.proof_nonces.specs.Giving.{CountsNonces}
+use Rattle.proof_nonces.specs.Sealing.{SealsOnce}
 use Rattle.proof_rests.specs.Undone.{LeavesNothing}
 use Rattle.proof_notes.specs.Unkept.{UnkeptWhereAsked}
 use Rattle.proof_queue.specs.Turn.{GoesByQueue}
@@ -56,6 +59,7 @@ QueuesByMessages heard = (taken : List Entry → Carried → List Told) × FitsQ
 -- It is held awake where the report that ends its session may ask so, and wherever it does.
 -- The answers to questions stand where the first response to the last request was judged, and wherever it was.
 -- An interview is said to have succeeded or failed where its request ended so, and wherever a frame ended it; and so it is said how a Set or Get that a line asked for ended.
+-- What the end of a request, or a command that is given up, has noted stands together, once and in order, and nowhere else.
 -- A request that is new is sent, and a session begins, only where the last request is over; and each message has the callback id after that of the last one.
 -- Directly after a session that begins stands the unit that asks to send to its node.
 -- Before each line and tick before which its last request is over no abort is owed, and what lines asked for since it started has ended.
@@ -63,6 +67,7 @@ QueuesByMessages heard = (taken : List Entry → Carried → List Told) × FitsQ
 -- The number of a tick is above those before it, and lines have asked for so many ticks.
 -- Each payload that it asks its chip to send is a message of the last session of its node, by what the node listed, a nonce or a question for one, lets the node sleep, or was
 -- asked for by a line; where its keys are those of a network key, by what nodes told openly or sealed with that key.
+-- Each message that it seals is for a nonce that its node told since it was asked, and none serves twice; and the nonces that it gives have numbers, in order, which rise with what opens.
 -- Its link kept the rules of the serial line, a new one from each start on.
 pub record HostsKeepLaws (keys : Keys) (whole : Bool) (heard : List Entry) (records : Option (List (List ℕ))) : Type 0 where
   pub orders : HostLaws heard
@@ -77,6 +82,7 @@ pub record HostsKeepLaws (keys : Keys) (whole : Bool) (heard : List Entry) (reco
   pub questions : AnswersQuestions heard
   pub interviews : EndsInterviews heard
   pub says_done : (key : List ℕ) → keys ≡ keys_of key → SaysHowDone listing_heard heard
+  pub ends : NotesOfEnds whole heard
   pub one_by_one : SendsOneByOne heard
   pub numbered : NumbersCallbacks heard
   pub begins : BeginsWithUnit (ended whole heard)
@@ -84,6 +90,8 @@ pub record HostsKeepLaws (keys : Keys) (whole : Bool) (heard : List Entry) (reco
   pub queues : NoneWoken heard → QueuesByMessages heard
   pub ticks : EachAfter MayCount [] heard
   pub sends : (key : List ℕ) → keys ≡ keys_of key → SendsWhatIsDue listing_heard key heard
+  pub seals_once : SealsOnce keys heard
+  pub nonces : CountsNonces keys heard
   pub link : KeepsLink Host (ended whole heard)
 
 -- Of a host that starts with records, after what stood before: the fields of `IsHostLegal` that are proved of it. It goes by what nodes listed in their interviews, and by

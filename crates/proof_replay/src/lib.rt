@@ -16,6 +16,8 @@ mod sim;
 pub use port::served_steps_are_heard;
 pub use proof_asking as asking;
 pub use proof_asking::{known, requests, sending};
+pub use proof_ends as ends;
+pub use proof_nonces as nonces;
 pub use proof_notes as notes;
 pub use proof_notes::attempts;
 pub use proof_rests as rests;

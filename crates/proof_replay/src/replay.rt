@@ -26,6 +26,8 @@ use proof_asking::requests::alone::traffic::hosts_obey_the_line;
 use proof_asking::requests::alone::{hosts_keep_their_tables, hosts_tell_time};
 use proof_asking::requests::{hosts_answer_questions, hosts_end_interviews};
 use proof_asking::{hosts_ask_one_by_one, hosts_say_how_done, hosts_send_what_is_due};
+use proof_ends::hosts_note_ends;
+use proof_nonces::{hosts_count_nonces, hosts_seal_once};
 use proof_notes::attempts::{hosts_fall_asleep_as_told, hosts_hold_as_asked};
 use proof_notes::{hosts_note_in_full, hosts_say_what_is_not_kept};
 use proof_queue::hosts_fit_their_queue;
@@ -62,7 +64,10 @@ pub fn hosts_keep_laws()
     hosts_end_interviews();
     hosts_say_how_done();
     hosts_ask_one_by_one();
+    hosts_note_ends();
     hosts_leave_nothing();
+    hosts_seal_once();
+    hosts_count_nonces();
     hosts_fit_their_queue();
 }
 

@@ -27,7 +27,7 @@ pub mod EndsLate
 pub mod Untold
 pub mod EndsTold
 pub mod Questions
-mod Interviews
+pub mod Interviews
 pub use Rattle.proof_waking.proofs.HostOuts
 pub use Rattle.proof_waking.proofs.Running
 pub use Rattle.proof_waking.proofs.Carefully

@@ -2,22 +2,20 @@
 #![tactic(auto)]
 
 mod devices;
-mod gathering;
 mod opening;
-mod records;
 
 ghost use Rattle.std.specs.Prelude.{◌≡◌, ◌<◌, ◌^◌, length, map};
 ghost use Rattle.proof_commands.specs.Mesh.{mesh};
 
 use crate::devices::{FIRST, KEY, LAST, Made, make_device};
-use crate::gathering::{Gathered, GatheringSink, MOST_WAITING, WritingSource, write_waiting};
 use crate::opening::{is_host, make_records, records_name, say_faults};
-use crate::records::Records;
 use device_sim::Device;
 use proof_commands::run;
 use run_all::ChaChaDraw;
 use run_lines::Status;
+use run_records::Records;
 use run_words::USAGE;
+use run_writes::{Gathered, GatheringSink, MOST_WAITING, WritingSource, write_waiting};
 use std::cell::RefCell;
 use std::env;
 use std::io::ErrorKind;

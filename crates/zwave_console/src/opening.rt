@@ -1,9 +1,9 @@
 //! The file of records of `host`: its name, how it is opened, and what standard error says of it.
 
-use crate::records::Records;
 use file_keeper::{DiskFault, DiskFile, FileKeeper, OpenFault};
 use host_keep::PlainKeeper;
 use run_lines::Status;
+use run_records::Records;
 use std::env;
 use std::env::VarError;
 

@@ -1,17 +1,19 @@
 -- What the chip has for its host is known where the events end, by the same steps of its link as what goes on the air; at the end of a whole run between lines.
 use Rattle.std.proofs.Common.{List, []}
 use Rattle.std.specs.Prelude.{Some}
+use Rattle.s0_crypto.specs.declared.key_pair.Keys.{Keys}
 use Rattle.zw_text.specs.declared.entry.Entry.{Entry}
 use Rattle.law_wire.specs.Arriving.{MayLand}
 use Rattle.law_wire.specs.Routes.{MayGo}
 use Rattle.outside_model.specs.Devices.{State}
 use Rattle.world_model.specs.State.{Machine, first_machine}
-use Rattle.world_lines.specs.Spoken.{after_all, transcript_of}
-use Rattle.world_lines.specs.Done.{events_of}
+use Rattle.world_model.specs.Did.{AllAlong}
+use Rattle.world_lines.specs.Spoken.{Spoken, after_all, transcript_of}
+use Rattle.world_lines.specs.Done.{AreDone, events_of}
 use Rattle.proof_chip.proofs.SpokenLines.{all_lines, all_may, lines_of}
 use Rattle.proof_devices.specs.proof_air.proof_walk.Phases.{Phase, Between}
 use Rattle.proof_devices.specs.proof_air.proof_walk.Time.{KnowTime, MayCount}
-use Rattle.proof_devices.specs.proof_air.proof_walk.Walk.{Walk, WalkOver, both_know}
+use Rattle.proof_devices.specs.proof_air.proof_walk.Walk.{Walk, WalkOver, WalkWhere, both_know}
 use Rattle.proof_devices.proofs.Over.{beside, over}
 use Rattle.proof_devices.proofs.Where.{where_lead, where_whole}
 use Rattle.proof_devices.specs.proof_air.Hearing.{KnowAir as KnowHistory, MayHear}
@@ -109,95 +111,68 @@ module _ (devices : List State) (history : Walk MayHear KnowHistory) (time : Wal
         turn = λ here next past m turns ground known. acks.turn here next past m turns ground.1 known;
       })
 
+-- all of it, over what is called
+module _ (c : goal.After-lines_keep_and_ask_well) (devices : List State) where
+  all_walk : WalkWhere IsOrderly AnyEntry (KnowAnswering devices)
+  all_walk =
+      let networks = c.networks_go_on.ensures.walk devices in
+      let chip = beside_walk devices c.history_goes_on.ensures.walk c.time_goes_on.ensures.walk c.landings_go_on.ensures.walk networks c.nodes_go_on.ensures.walk c.calls_go_on.ensures.walk in
+      let ground =
+      ground_walk devices c.history_goes_on.ensures.walk c.time_goes_on.ensures.walk networks (c.frames_go_on.ensures.walk devices) (c.devices_live_on.ensures.walk devices) (c.acks_go_on.ensures.walk devices) chip in
+      let obey = c.hosts_obey_the_line.ensures in
+      answered_walk devices (laws_of c) c.frames_fly_in_order.ensures.none MayAny ground (law_of devices (ground_air devices (c.networks_go_on.ensures.tie devices) c.calls_go_on.ensures.none))
+      (given_of devices (c.networks_go_on.ensures.tie devices) c.devices_are_as_shown.ensures) obey.each obey.units obey.opened
+
+  module _ (keys : Keys) where
+    abbrev start : Machine
+    start = first_machine keys (Some []) devices
+
+    known_first : KnowAnswering devices Between [] start
+    known_first =
+        let rules = c.rules_of_histories.ensures.link [] tt in
+        let history = c.history_goes_on.ensures.first keys (Some []) devices in
+        let time = c.time_goes_on.ensures.first keys (Some []) devices in
+        let networks = c.networks_go_on.ensures.first keys [] devices in (
+          (
+            (
+              (
+                ((((history, time), c.landings_go_on.ensures.first keys (Some []) devices), networks), c.nodes_go_on.ensures.first keys (Some []) devices),
+                c.calls_go_on.ensures.first keys (Some []) devices,
+              ),
+              (((history, time), c.devices_live_on.ensures.first keys (Some []) devices), (networks, c.frames_go_on.ensures.first keys [] devices)),
+            ),
+            c.acks_go_on.ensures.first keys (Some []) devices,
+          ),
+          (
+            nothing_did,
+            links_first keys (Some []) devices (c.hosts_obey_the_line.ensures.first keys),
+            air_first keys (Some []) devices rules,
+            tally_first keys (Some []) devices rules,
+            tt,
+            tells_first keys (Some []) devices rules,
+          ),
+        )
+
+    orderly : (lines : List Spoken) → AreDone start lines → AllAlong IsOrderly start (events_of lines)
+    orderly lines are =
+        let events = events_of lines in
+        let these = all_lines start lines are in
+        let may = all_may start lines are in
+        let asks = c.lines_keep_and_ask_well.ensures keys devices (lines_of lines) events these may in
+        let writes = c.hosts_write_well.ensures.run keys (Some []) devices events may asks.1 in
+        lines_orderly (lines_of lines) start events these writes asks.1
+
 pub returns-clause-cut : goal.returns-clause-cut
 returns-clause-cut c = λ keys devices lines are.
     let m : Machine = first_machine keys (Some []) devices in
-    let events = events_of lines in
-    let these = all_lines m lines are in
-    let may = all_may m lines are in
-    let asks = c.lines_keep_and_ask_well.ensures keys devices (lines_of lines) events these may in
-    let writes = c.hosts_write_well.ensures.run keys (Some []) devices events may asks.1 in
-    let obey = c.hosts_obey_the_line.ensures in
-    let orderly = lines_orderly (lines_of lines) m events these writes asks.1 in
-    let chip =
-    beside_walk devices c.history_goes_on.ensures.walk c.time_goes_on.ensures.walk c.landings_go_on.ensures.walk (c.networks_go_on.ensures.walk devices) c.nodes_go_on.ensures.walk c.calls_go_on.ensures.walk in
-    let ground =
-    ground_walk devices c.history_goes_on.ensures.walk c.time_goes_on.ensures.walk (c.networks_go_on.ensures.walk devices) (c.frames_go_on.ensures.walk devices) (c.devices_live_on.ensures.walk devices)
-    (c.acks_go_on.ensures.walk devices) chip in
-    let walk =
-    answered_walk devices (laws_of c) c.frames_fly_in_order.ensures.none MayAny ground (law_of devices (ground_air devices (c.networks_go_on.ensures.tie devices) c.calls_go_on.ensures.none))
-    (given_of devices (c.networks_go_on.ensures.tie devices) c.devices_are_as_shown.ensures) obey.each obey.units obey.opened in
-    let rules = c.rules_of_histories.ensures.link [] tt in
-    let history = c.history_goes_on.ensures.first keys (Some []) devices in
-    let time_first = c.time_goes_on.ensures.first keys (Some []) devices in
-    let networks = c.networks_go_on.ensures.first keys [] devices in
-    let first : KnowAnswering devices Between [] m = (
-      (
-        (
-          (
-            ((((history, time_first), c.landings_go_on.ensures.first keys (Some []) devices), networks), c.nodes_go_on.ensures.first keys (Some []) devices),
-            c.calls_go_on.ensures.first keys (Some []) devices,
-          ),
-          (((history, time_first), c.devices_live_on.ensures.first keys (Some []) devices), (networks, c.frames_go_on.ensures.first keys [] devices)),
-        ),
-        c.acks_go_on.ensures.first keys (Some []) devices,
-      ),
-      (
-        nothing_did,
-        links_first keys (Some []) devices (obey.first keys),
-        air_first keys (Some []) devices rules,
-        tally_first keys (Some []) devices rules,
-        tt,
-        tells_first keys (Some []) devices rules,
-      ),
-    ) in
-    let known = where_lead IsOrderly AnyEntry (KnowAnswering devices) walk [] m lines are orderly first in
+    let known = where_lead IsOrderly AnyEntry (KnowAnswering devices) (all_walk c devices) [] m lines are (orderly c devices keys lines are) (known_first c devices keys) in
     let (did, cuts, airs, tally, stays, tells) = known.1.1 in
     answers_cut devices did known.0 (transcript_of m lines) (after_all m lines) airs tally tells cuts.0 stays
 
 pub returns-clause-whole : goal.returns-clause-whole
 returns-clause-whole c = λ keys devices lines are whole.
     let m : Machine = first_machine keys (Some []) devices in
-    let events = events_of lines in
-    let these = all_lines m lines are in
-    let may = all_may m lines are in
-    let asks = c.lines_keep_and_ask_well.ensures keys devices (lines_of lines) events these may in
-    let writes = c.hosts_write_well.ensures.run keys (Some []) devices events may asks.1 in
-    let obey = c.hosts_obey_the_line.ensures in
-    let orderly = lines_orderly (lines_of lines) m events these writes asks.1 in
-    let chip =
-    beside_walk devices c.history_goes_on.ensures.walk c.time_goes_on.ensures.walk c.landings_go_on.ensures.walk (c.networks_go_on.ensures.walk devices) c.nodes_go_on.ensures.walk c.calls_go_on.ensures.walk in
-    let ground =
-    ground_walk devices c.history_goes_on.ensures.walk c.time_goes_on.ensures.walk (c.networks_go_on.ensures.walk devices) (c.frames_go_on.ensures.walk devices) (c.devices_live_on.ensures.walk devices)
-    (c.acks_go_on.ensures.walk devices) chip in
-    let walk =
-    answered_walk devices (laws_of c) c.frames_fly_in_order.ensures.none MayAny ground (law_of devices (ground_air devices (c.networks_go_on.ensures.tie devices) c.calls_go_on.ensures.none))
-    (given_of devices (c.networks_go_on.ensures.tie devices) c.devices_are_as_shown.ensures) obey.each obey.units obey.opened in
-    let rules = c.rules_of_histories.ensures.link [] tt in
-    let history = c.history_goes_on.ensures.first keys (Some []) devices in
-    let time_first = c.time_goes_on.ensures.first keys (Some []) devices in
-    let networks = c.networks_go_on.ensures.first keys [] devices in
-    let first : KnowAnswering devices Between [] m = (
-      (
-        (
-          (
-            ((((history, time_first), c.landings_go_on.ensures.first keys (Some []) devices), networks), c.nodes_go_on.ensures.first keys (Some []) devices),
-            c.calls_go_on.ensures.first keys (Some []) devices,
-          ),
-          (((history, time_first), c.devices_live_on.ensures.first keys (Some []) devices), (networks, c.frames_go_on.ensures.first keys [] devices)),
-        ),
-        c.acks_go_on.ensures.first keys (Some []) devices,
-      ),
-      (
-        nothing_did,
-        links_first keys (Some []) devices (obey.first keys),
-        air_first keys (Some []) devices rules,
-        tally_first keys (Some []) devices rules,
-        tt,
-        tells_first keys (Some []) devices rules,
-      ),
-    ) in
-    let known = where_whole IsOrderly AnyEntry (KnowAnswering devices) walk [] m lines are whole orderly first in
+    let known = where_whole IsOrderly AnyEntry (KnowAnswering devices) (all_walk c devices) [] m lines are whole (orderly c devices keys lines are) (known_first c devices keys) in
     let time = known.0.0.0.0.0.0.0.1 in
     let (did, cuts, airs, tally, stays, tells) = known.1 in
     answers_whole devices did (transcript_of m lines) (after_all m lines) airs tally tells

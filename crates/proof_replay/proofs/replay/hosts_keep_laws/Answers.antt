@@ -9,6 +9,7 @@ use Rattle.proof_asking.specs.proof_requests.proof_alone.Runs.{Run, Told, ToldWh
 use Rattle.law_transcript.specs.Payloads.{BeginsWithUnit}
 use Rattle.law_wire.specs.Serial.{ended}
 use Rattle.proof_notes.specs.Full.{NotesInFull}
+use Rattle.proof_ends.specs.Ends.{NotesOfEnds}
 use Rattle.proof_rests.specs.Undone.{LeavesNothing}
 use Rattle.law_time.specs.Waking.{FallsAsleep}
 use Rattle.proof_replay.proofs.replay.hosts_keep_laws.Goals as goal
@@ -43,6 +44,8 @@ returns c = λ keys whole here heard m run rests fine link. record {
   questions = c.hosts_answer_questions.ensures keys heard (here, m, run);
   interviews = c.hosts_end_interviews.ensures keys heard (here, m, run);
   says_done = λ key same. c.hosts_say_how_done.ensures key heard (subst (λ (k : Keys). Told (first_alone k (Some [])) heard) same (here, m, run));
+  ends =
+      by_rest (λ (b : Bool) (l : List Entry). NotesOfEnds b l) (first_alone keys (Some [])) (c.hosts_note_ends.ensures.whole keys) (c.hosts_note_ends.ensures.told keys) whole here heard m run rests;
   one_by_one = (c.hosts_ask_one_by_one.ensures.told keys heard (here, m, run)).0;
   numbered = (c.hosts_ask_one_by_one.ensures.told keys heard (here, m, run)).1;
   begins =
@@ -53,5 +56,7 @@ returns c = λ keys whole here heard m run rests fine link. record {
   queues = λ none. c.hosts_fit_their_queue.ensures.told keys heard (here, m, run) none fine;
   ticks = c.hosts_tell_time.ensures.counts keys (Some []) heard (here, m, run);
   sends = λ key same. c.hosts_send_what_is_due.ensures.told key heard (subst (λ (k : Keys). Told (first_alone k (Some [])) heard) same (here, m, run));
+  seals_once = c.hosts_seal_once.ensures.told keys heard (here, m, run);
+  nonces = c.hosts_count_nonces.ensures.told keys heard (here, m, run);
   link = link;
 }

@@ -1,0 +1,475 @@
+-- A host at whose events no attempt ends without a report leaves each series at its first attempt; and so it is at what the chip tells, where payloads are heard.
+use Rattle.std.proofs.Common.{◌≡◌, ◌≢◌, ℕ, ◌+◌, ◌-◌, ◌==◌, ◌&&◌, ◌||◌, not, nat_lt, Bool, true, false, if◌then◌else◌, List, [], ◌∷◌, ◌++◌, length, refl, sym, ap, ◌∙◌, subst}
+use Rattle.std.proofs.lemmas.Bool.{eq-eqb, eqb-true}
+use Rattle.std.specs.Prelude.{Option, Some, None}
+use Rattle.std.specs.List.{AllByRecursion}
+use Rattle.zw_base.proofs.Each.{all-right}
+use Rattle.supervision.specs.Host.{told_of}
+use Rattle.supervision.specs.declared.host_node.Told.{Told}
+use Rattle.supervision.specs.declared.host_node.Told.TheVariants.{Final, Working, Old}
+use Rattle.s0_session.specs.Nonces.{live_of}
+use Rattle.serial_frame.specs.Frame.{FrameParts}
+use Rattle.serial_frame.specs.declared.item.Item.TheVariants.{Good}
+use Rattle.serial_frame.specs.declared.unit.Unit.{Unit as LineUnit}
+use Rattle.serial_frame.specs.declared.unit.Unit.TheVariants.{Ack, Nak, Can, Framed}
+use Rattle.serial_link.specs.State.{turn_ticked}
+use Rattle.serial_link.specs.declared.turn.Turn.{Turn}
+use Rattle.serial_link.specs.declared.turn.Turn.TheVariants.{Idle as no_turn}
+use Rattle.chip_functions.specs.Response.{response_function}
+use Rattle.chip_functions.specs.declared.function.TheConstants.{SEND_DATA}
+use Rattle.chip_functions.specs.declared.notice.Notice.TheVariants.{SendData}
+use Rattle.chip_functions.specs.declared.notice.TransmitStatus.{TransmitStatus}
+use Rattle.chip_functions.specs.declared.notice.TransmitStatus.TheVariants.{CompleteOk}
+use Rattle.chip_functions.specs.declared.notice.Update.{Update}
+use Rattle.chip_functions.specs.declared.response.Response.TheVariants.{SendData as SendDataAnswer}
+use Rattle.chip_sim.specs.Answers.{notice_frame}
+use Rattle.chip_sim.specs.State.{ChipState}
+use Rattle.host_heard.specs.Telling.{heard_at}
+use Rattle.host_keep.specs.Status.{status_byte}
+use Rattle.host_requests.specs.Events.{RequestsEvent, end_at}
+use Rattle.host_requests.specs.Events.RequestsEvent.{BeginsAttempt, Pushes, IsSent, Responds, CallsBack, Updates as update_told_of}
+use Rattle.host_requests.specs.Frames.{function_of}
+use Rattle.host_requests.specs.Next.{at_callback, at_response, at_tick, at_update, counted_down, end_from, end_of, is_answered, judged, on_with, purpose_ends_at_update, sent_from}
+use Rattle.host_requests.specs.State.{RequestsState}
+use Rattle.host_requests.specs.declared.end.End.{End}
+use Rattle.host_requests.specs.declared.end.How.{How}
+use Rattle.host_requests.specs.declared.end.How.TheVariants.{AtCallback, AtUpdate}
+use Rattle.host_requests.specs.declared.next.Next.TheVariants as next
+use Rattle.host_requests.specs.declared.task.Purpose.{Purpose}
+use Rattle.host_requests.specs.declared.task.Purpose.TheVariants.{Housekeeping, Attempt, Abort}
+use Rattle.host_requests.specs.declared.task.Task.{Task}
+use Rattle.host_requests.specs.declared.task.Task.TheVariants.{Offer, Segment, NoMore}
+use Rattle.host_requests.specs.declared.under_way.Progress.{Progress}
+use Rattle.host_requests.specs.declared.under_way.Progress.TheVariants.{Submitted, Sent, Answered}
+use Rattle.host_requests.specs.declared.under_way.UnderWay.{UnderWay}
+use Rattle.host_node.specs.State.{NodeState, unknown, is_open, is_up, is_idle, is_running, has_waiting}
+use Rattle.host_node.specs.Steps.{after_again, after_again_tick, after_attempt_end, after_attempt_tick, after_hold_tick, after_occasion, after_sign, after_sleep, after_told, as_recorded, asleep, new_series, tick_end, tried_again, wait_ticks, with_again, with_wait}
+use Rattle.host_node.specs.Events.{NodeEvent, after as after_node}
+use Rattle.host_node.specs.Events.NodeEvent.{Joins as node_joins, Interviews as node_interviews, Puts, Takes_back, Accepts as node_accepts, Cancels as node_cancels, Begins as node_begins, Blocks, Starts as node_starts, Gives_segment as node_gives_segment, Gives_text as node_gives_text, Succeeds, Takes_nonce as node_takes_nonce, Restores_seen, Ends_attempt, Reports, Holds, Notifies as node_notifies, Sleeps, Queues_no_more as node_queues_no_more, Drops_no_more as node_drops_no_more, Ends_no_more, Ticks as node_ticks, Restarts}
+use Rattle.host_node.specs.declared.attempt.AttemptEnd.{AttemptEnd}
+use Rattle.host_node.specs.declared.attempt.AttemptEnd.TheVariants.{NoneRan, Again, Unanswered}
+use Rattle.host_node.specs.declared.attempt.Moment.{Moment}
+use Rattle.host_node.specs.declared.attempt.Moment.TheVariants.{BetweenTicks}
+use Rattle.host_node.specs.declared.attempt.Plan.TheVariants.{Whole, Segments, Sealed}
+use Rattle.host_node.specs.declared.series.Series.TheVariants as series
+use Rattle.host_model.specs.After.{after, failing_if, finishing, gives_up, giving, holding, is_busy, is_full, is_held, line_ticked, node_does, node_for, offering, queues_if_room, requests_do, submits, submits_part}
+use Rattle.host_model.specs.Did.{MayAll, after_all}
+use Rattle.host_model.specs.Ends.{attempt_ended, PartEnd, Good as well, part_end, after_end, after_end_if, after_part, after_task}
+use Rattle.host_model.specs.Events.{HostEvent, Accepts, Cancels, Joins, Queues, Queues_interview, Queues_probe, Hears, Requests_do, Interviews, Interview_unkept, Unreads, Is_unkept, Reports_old, Works, Finishes, Offers, Gives, Spends, Spends_unread, Takes_nonce, Notifies, Resends, Hears_value, Has_no_room, Line_ticks, Node_ticks, Queues_no_more, Drops_no_more, Submits_abort, Submits_front, Starts, Gives_text, Gives_segment, Begins, Begin_unkept}
+use Rattle.host_model.specs.May.{May}
+use Rattle.host_model.specs.Sessions.{open_command}
+use Rattle.host_model.specs.State.{HostState, node_of, with_node}
+use Rattle.host_model.specs.Taking.{AreJudged, IsJudged, told_if, told_requests}
+use Rattle.proof_serial.proofs.HostFits.{all-set, all_at}
+use Rattle.proof_calm.specs.Calls.{FrameFollows, IsSending}
+use Rattle.proof_calm.specs.Passes.{IsPlain, frames_in}
+use Rattle.proof_calm.specs.Tied.{Answers, Brings, Informs, IsCalled, IsFresh, IsOf, LeavesIt, LeaveIt, Nowhere, On_way, At_chip, Called, Tied}
+use Rattle.proof_calm.proofs.Ending.{EndsNoInterview, IsToldOf, Nothing, Something, answers_are, calls_are, handler_payload, none_under_way, send_under_way, update_told}
+use Rattle.proof_calm.proofs.Followed.{FollowersAre, payload_all}
+use Rattle.proof_calm.proofs.Following.{kept}
+use Rattle.proof_calm.proofs.Judging.{TieBy, ends_by, one_more, unit_tied}
+use Rattle.proof_calm.proofs.Reading.{goods}
+use Rattle.proof_answered.specs.FirstAttempts.{AllFirst, IsFirst}
+use Rattle.proof_answered.specs.Heard.{AllSayHeard, SaysHeard}
+
+-- ---- a node
+
+-- its attempt's wait does not run out, no attempt ends, and one that starts was due
+abbrev LastsNode : NodeState → NodeEvent → Type 0
+LastsNode n node_ticks = n.attempt_wait ≢ 1
+LastsNode n (Ends_attempt moment) = ⊥
+LastsNode n (node_starts plan) = n.series ≡ series.Due
+LastsNode n event = Unit {0}
+
+either : (b : Bool) (x y : NodeState) → IsFirst x → IsFirst y → IsFirst (if b then x else y)
+either true x y first later = first
+either false x y first later = later
+
+occasion_first : (n : NodeState) → IsFirst n → IsFirst (after_occasion n)
+occasion_first n first = either (is_open n && is_up n && is_idle n.series) (new_series n) n (λ some. refl) first
+
+sign_first : (n : NodeState) → IsFirst n → IsFirst (after_sign n)
+sign_first n first = either (is_running n.series) (with_wait n wait_ticks) n first first
+
+sleep_first : (n : NodeState) → IsFirst n → IsFirst (after_sleep n)
+sleep_first n first = either n.listens n (asleep n) first first
+
+told_first : (n : NodeState) (status : ℕ) (told : Told) → IsFirst n → IsFirst (after_told n status told)
+told_first n status (Final session) first = λ some. refl
+told_first n status Working first = sign_first n first
+told_first n status Old first = first
+
+again_first : (n : NodeState) → IsFirst n → IsFirst (after_again n)
+again_first n first = either (has_waiting n) (after_occasion n) n (occasion_first n first) first
+
+again_tick_first : (n : NodeState) → IsFirst n → IsFirst (after_again_tick n)
+again_tick_first n first = either (n.again_wait == 1) (after_again (with_again n 0)) (with_again n (n.again_wait - 1)) (again_first (with_again n 0) first) first
+
+-- the wait of its attempt is the same before and after the first two parts of a tick
+same_wait : (b : Bool) (x y : NodeState) (wait : ℕ) → x.attempt_wait ≡ wait → y.attempt_wait ≡ wait → (if b then x else y).attempt_wait ≡ wait
+same_wait true x y wait first later = first
+same_wait false x y wait first later = later
+
+again_wait : (n : NodeState) → (after_again n).attempt_wait ≡ n.attempt_wait
+again_wait n =
+    same_wait (has_waiting n) (after_occasion n) n n.attempt_wait (same_wait (is_open n && is_up n && is_idle n.series) (new_series n) n n.attempt_wait refl refl) refl
+
+again_tick_wait : (n : NodeState) → (after_again_tick n).attempt_wait ≡ n.attempt_wait
+again_tick_wait n = same_wait (n.again_wait == 1) (after_again (with_again n 0)) (with_again n (n.again_wait - 1)) n.attempt_wait (again_wait (with_again n 0)) refl
+
+attempt_tick_first : (n : NodeState) → n.attempt_wait ≢ 1 → IsFirst n → IsFirst (after_attempt_tick n)
+attempt_tick_first n lasts first = by (n.attempt_wait == 1) refl
+  where
+    by : (b : Bool) → (n.attempt_wait == 1) ≡ b → IsFirst (if b then after_attempt_end n BetweenTicks else with_wait n (n.attempt_wait - 1))
+    by true is = absurd (lasts (eqb-true n.attempt_wait 1 is))
+    by false is = first
+
+node_first : (n : NodeState) (event : NodeEvent) → LastsNode n event → IsFirst n → IsFirst (after_node n event)
+node_first n node_joins lasts first = first
+node_first n (node_interviews listens classes) lasts first = first
+node_first n (Puts command) lasts first = first
+node_first n Takes_back lasts first = first
+node_first n node_accepts lasts first = occasion_first n first
+node_first n (node_cancels command) lasts first = first
+node_first n node_begins lasts first = λ some. refl
+node_first n Blocks lasts first = first
+node_first n (node_starts Whole) lasts first = λ some. first (λ idle. absurd (let no : series.Due ≡ series.Idle = sym lasts ∙ idle in cc))
+node_first n (node_starts (Segments count)) lasts first = λ some. first (λ idle. absurd (let no : series.Due ≡ series.Idle = sym lasts ∙ idle in cc))
+node_first n (node_starts (Sealed plain)) lasts first = λ some. first (λ idle. absurd (let no : series.Due ≡ series.Idle = sym lasts ∙ idle in cc))
+node_first n node_gives_segment lasts first = first
+node_first n node_gives_text lasts first = first
+node_first n Succeeds lasts first = sign_first n first
+node_first n (node_takes_nonce seen text) lasts first = first
+node_first n (Restores_seen seen) lasts first = first
+node_first n (Ends_attempt moment) lasts first = absurd lasts
+node_first n (Reports id status) lasts first = told_first n status (told_of n.book id status) first
+node_first n Holds lasts first = first
+node_first n node_notifies lasts first = occasion_first (record n { awake = true; no_more = tried_again n.no_more }) first
+node_first n Sleeps lasts first = sleep_first n first
+node_first n node_queues_no_more lasts first = first
+node_first n node_drops_no_more lasts first = first
+node_first n Ends_no_more lasts first = sleep_first _ first
+node_first n node_ticks lasts first =
+    attempt_tick_first (after_again_tick (after_hold_tick n)) (λ one. lasts (sym (again_tick_wait (after_hold_tick n)) ∙ one)) (again_tick_first (after_hold_tick n) first)
+node_first n Restarts lasts first = occasion_first (as_recorded n) (λ some. refl)
+
+-- ---- all nodes
+
+does_first : (h : HostState) (n : ℕ) (event : NodeEvent) → LastsNode (node_of h n) event → AllFirst h → AllFirst (node_does h n event)
+does_first h n event lasts all =
+    all-set IsFirst h.nodes n (after_node (node_of h n) event) all (node_first (node_of h n) event lasts (all_at IsFirst h.nodes n (unknown 0) all (λ some. refl)))
+
+attempt_first : (h : HostState) (end : AttemptEnd) (command : Option ℕ) → AllFirst h → AllFirst (attempt_ended h end command)
+attempt_first h NoneRan command all = all
+attempt_first h Again command all = all
+attempt_first h (Unanswered fell) None all = all
+attempt_first h (Unanswered fell) (Some command) all = all
+
+-- a request of an attempt ends as its payload was heard
+abbrev EndsSo : Purpose → How → Type 0
+EndsSo (Attempt n more payload) how = how ≡ AtCallback CompleteOk
+EndsSo purpose how = Unit {0}
+
+abbrev pub EndsWell : Option End → Type 0
+EndsWell None = Unit {0}
+EndsWell (Some end) = EndsSo end.purpose end.how
+
+part_well : (more : Bool) → part_end more (AtCallback CompleteOk) ≡ well
+part_well true = refl
+part_well false = refl
+
+task_first : (h : HostState) (task : Task) → AllFirst h → AllFirst (after_task h task)
+task_first h (NoMore n) all = does_first h n Ends_no_more tt all
+task_first h task all = all
+
+end_first : (h : HostState) (purpose : Purpose) (how : How) (moment : Moment) → EndsSo purpose how → AllFirst h → AllFirst (after_end h (record { purpose = purpose; how = how }) moment)
+end_first h (Attempt n more payload) how moment so all =
+    subst (λ (w : How). AllFirst (after_part h n (part_end more w) moment)) (sym so)
+    (subst (λ (end : PartEnd). AllFirst (after_part h n end moment)) (sym (part_well more)) (does_first h n Succeeds tt all))
+end_first h (Housekeeping task) how moment so all = task_first h task all
+end_first h Abort how moment so all = all
+
+end_if_first : (h : HostState) (end : Option End) (moment : Moment) → EndsWell end → AllFirst h → AllFirst (after_end_if h end moment)
+end_if_first h None moment so all = all
+end_if_first h (Some end) moment so all = end_first h end.purpose end.how moment so all
+
+room_first : (h : HostState) (task : Task) → AllFirst h → AllFirst (queues_if_room h task)
+room_first h task all = by (is_full h)
+  where
+    by : (b : Bool) → AllFirst (if b then h else requests_do h (Pushes task))
+    by true = all
+    by false = all
+
+offering_first : (h : HostState) (n : ℕ) (live : Option (List ℕ)) → AllFirst h → AllFirst (offering h n live)
+offering_first h n None all = all
+offering_first h n (Some nonce) all = room_first h (Offer n nonce) all
+
+holding_first : (h : HostState) (n : ℕ) (held : Bool) → AllFirst h → AllFirst (holding h n held)
+holding_first h n true all = does_first h n Holds tt all
+holding_first h n false all = all
+
+part_first : (h : HostState) (n : ℕ) (more : Bool) (payload : List ℕ) (gives : NodeEvent) → LastsNode (node_of h n) gives → AllFirst h → AllFirst (submits_part h n more payload gives)
+part_first h n more payload gives lasts all = does_first (record (submits h (Attempt n more payload) (BeginsAttempt n more payload)) { served = n }) n gives lasts all
+
+-- ---- events of a host
+
+-- no attempt ends without a report
+abbrev pub LastsAt : HostState → HostEvent → Type 0
+LastsAt h (Requests_do event moment) = EndsWell (end_at h.requests event)
+LastsAt h (Node_ticks n) = (node_of h n).attempt_wait ≢ 1
+LastsAt h Line_ticks = h.side.turn ≡ no_turn
+LastsAt h event = Unit {0}
+
+abbrev pub LastAll : HostState → List HostEvent → Type 0
+LastAll h [] = Unit {0}
+LastAll h (event ∷ events) = LastsAt h event × LastAll (after h event) events
+
+pub event_first : (h : HostState) (event : HostEvent) → LastsAt h event → May h event → AllFirst h → AllFirst (after h event)
+event_first h (Accepts order carriage) lasts may all =
+    does_first (node_does h order.node (Puts (length h.commands + 1))) order.node node_accepts tt (does_first h order.node (Puts (length h.commands + 1)) tt all)
+event_first h (Cancels command) lasts may all = does_first h (node_for h command) (node_cancels command) tt all
+event_first h (Joins n) lasts may all = does_first h n node_joins tt all
+event_first h (Queues task) lasts may all = all
+event_first h (Queues_interview n) lasts may all = all
+event_first h Queues_probe lasts may all = all
+event_first h (Hears item) lasts may all = all
+event_first h (Requests_do event moment) lasts may all = end_if_first (requests_do h event) (end_at h.requests event) moment lasts all
+event_first h (Interviews n listens classes update) lasts may all = does_first h n (node_interviews listens classes) tt all
+event_first h (Interview_unkept n update) lasts may all = all
+event_first h (Unreads n payload) lasts may all = all
+event_first h (Is_unkept n) lasts may all = all
+event_first h (Reports_old n id) lasts may all = all
+event_first h (Works n id) lasts may all = does_first h n (Reports id 1) tt all
+event_first h (Finishes n session id command status wake) lasts may all =
+    holding_first (finishing h n id command status) n (is_held h n wake) (does_first h n (Reports id (status_byte status)) tt all)
+event_first h (Offers n) lasts may all = offering_first h n (live_of h.nonces n) all
+event_first h (Gives n drawn) lasts may all = offering_first (giving h n drawn) n (live_of (giving h n drawn).nonces n) all
+event_first h (Spends n) lasts may all = all
+event_first h (Spends_unread n payload) lasts may all = all
+event_first h (Takes_nonce n seen text) lasts may all = does_first h n (node_takes_nonce seen text) tt all
+event_first h (Notifies n) lasts may all = does_first h n node_notifies tt all
+event_first h (Resends n payload) lasts may all = room_first h (Segment n payload) all
+event_first h (Hears_value n setting) lasts may all = all
+event_first h (Has_no_room n property) lasts may all = all
+event_first h Line_ticks lasts may all = subst (λ (t : Turn). AllFirst (failing_if (gives_up t (turn_ticked t)) (line_ticked h))) (sym lasts) all
+event_first h (Node_ticks n) lasts may all =
+    attempt_first (node_does h n node_ticks) (tick_end (node_of h n)) (open_command (node_of h n)) (does_first h n node_ticks lasts all)
+event_first h (Queues_no_more n) lasts may all = does_first h n node_queues_no_more tt all
+event_first h (Drops_no_more n) lasts may all = does_first h n node_drops_no_more tt all
+event_first h Submits_abort lasts may all = all
+event_first h Submits_front lasts may all = all
+event_first h (Starts n plan more payload) lasts may all = part_first h n more payload (node_starts plan) may.2.0 all
+event_first h (Gives_text n payload) lasts may all = part_first h n false payload node_gives_text tt all
+event_first h (Gives_segment n more payload) lasts may all = part_first h n more payload node_gives_segment tt all
+event_first h (Begins n session command) lasts may all = does_first h n node_begins tt all
+event_first h (Begin_unkept n) lasts may all = does_first h n Blocks tt all
+
+pub all_first : (h : HostState) (events : List HostEvent) → LastAll h events → MayAll h events → AllFirst h → AllFirst (after_all h events)
+all_first h [] last may all = all
+all_first h (event ∷ events) last may all = all_first (after h event) events last.1 may.1 (event_first h event last.0 may.0 all)
+
+last-append : (h : HostState) (a b : List HostEvent) → LastAll h a → LastAll (after_all h a) b → LastAll h (a ++ b)
+last-append h [] b first later = later
+last-append h (event ∷ a) b first later = (first.0, last-append (after h event) a b first.1 later)
+
+-- ---- what the requests hear of
+
+answered_well : (r : RequestsState) → EndsWell (end_at r (Responds (SendDataAnswer 1)))
+answered_well r = by r.under_way
+  where
+    chosen : (u : UnderWay) (b : Bool) → EndsWell (end_of u (if b then next.GoesOn u.progress else judged (SendDataAnswer 1) u))
+    chosen u true = tt
+    chosen u false = tt
+
+    by : (under_way : Option UnderWay) → EndsWell (end_from (at_response (SendDataAnswer 1)) under_way)
+    by None = tt
+    by (Some u) = chosen u (is_answered u.progress || not (response_function (SendDataAnswer 1) == function_of u.purpose))
+
+called_well : (r : RequestsState) (id : ℕ) (status : TransmitStatus) → status ≡ CompleteOk → EndsWell (end_at r (CallsBack id status))
+called_well r id status ok = by r.under_way
+  where
+    so : (purpose : Purpose) → EndsSo purpose (AtCallback status)
+    so (Attempt n more payload) = ap (λ (s : TransmitStatus). AtCallback s) ok
+    so (Housekeeping task) = tt
+    so Abort = tt
+
+    chosen : (u : UnderWay) (b : Bool) → EndsWell (end_of u (if b then next.Ends (AtCallback status) else next.GoesOn u.progress))
+    chosen u true = so u.purpose
+    chosen u false = tt
+
+    by : (under_way : Option UnderWay) → EndsWell (end_from (at_callback r.last_id id status) under_way)
+    by None = tt
+    by (Some u) = chosen u ((function_of u.purpose == SEND_DATA) && (id == r.last_id))
+
+updated_well : (r : RequestsState) (update : Update) → EndsWell (end_at r (update_told_of update))
+updated_well r update = by r.under_way
+  where
+    chosen : (task : Task) (progress : Progress) (b : Bool)
+        → EndsWell (end_of (record { purpose = Housekeeping task; progress = progress }) (if b then next.Ends (AtUpdate update r.first) else next.GoesOn progress))
+    chosen task progress true = tt
+    chosen task progress false = tt
+
+    of : (purpose : Purpose) (progress : Progress) → EndsWell (end_of (record { purpose = purpose; progress = progress }) (at_update r.first update (record { purpose = purpose; progress = progress })))
+    of (Attempt n more payload) progress = tt
+    of (Housekeeping task) progress = chosen task progress (purpose_ends_at_update update (Housekeeping task))
+    of Abort progress = tt
+
+    by : (under_way : Option UnderWay) → EndsWell (end_from (at_update r.first update) under_way)
+    by None = tt
+    by (Some u) = of u.purpose u.progress
+
+sent_well : (r : RequestsState) → EndsWell (end_at r IsSent)
+sent_well r = by r.under_way
+  where
+    of : (purpose : Purpose) (progress : Progress) → EndsWell (end_of (record { purpose = purpose; progress = progress }) (sent_from purpose progress))
+    of (Attempt n more payload) Submitted = tt
+    of (Housekeeping task) Submitted = tt
+    of Abort Submitted = tt
+    of purpose (Sent left) = tt
+    of purpose (Answered sent left) = tt
+
+    by : (under_way : Option UnderWay) → EndsWell (end_from (λ u. sent_from u.purpose u.progress) under_way)
+    by None = tt
+    by (Some u) = of u.purpose u.progress
+
+-- a wait that was not counted down does not run out
+pub fresh_well : (u : UnderWay) → IsFresh u.progress → EndsWell (end_of u (at_tick u))
+fresh_well u fresh = by u.progress fresh
+  where
+    by : (progress : Progress) → IsFresh progress → EndsWell (end_of u (on_with (counted_down progress)))
+    by Submitted fresh = tt
+    by (Sent left) fresh = subst (λ (n : ℕ). EndsWell (end_of u (on_with (if nat_lt 1 n then Some (Sent (left - 1)) else None)))) (sym fresh) tt
+    by (Answered sent left) fresh = subst (λ (n : ℕ). EndsWell (end_of u (on_with (if nat_lt 1 n then Some (Answered sent (left - 1)) else None)))) (sym fresh) tt
+
+-- ---- one frame
+
+-- an event that the requests do not hear of, and no tick
+abbrev IsMild : HostEvent → Type 0
+IsMild (Requests_do event moment) = ⊥
+IsMild Line_ticks = ⊥
+IsMild (Node_ticks n) = ⊥
+IsMild event = Unit {0}
+
+mild_lasts : (h : HostState) (event : HostEvent) → IsMild event → LastsAt h event
+mild_lasts h (Requests_do event moment) mild = absurd mild
+mild_lasts h Line_ticks mild = absurd mild
+mild_lasts h (Node_ticks n) mild = absurd mild
+mild_lasts h event mild = tt
+
+all_mild : (h : HostState) (events : List HostEvent) → AllByRecursion IsMild events → LastAll h events
+all_mild h [] mild = tt
+all_mild h (event ∷ events) mild = (mild_lasts h event mild.0, all_mild (after h event) events mild.1)
+
+mild_followers : (n : ℕ) → FollowersAre IsMild n
+mild_followers n = record {
+  unread = λ payload. tt;
+  unkept = tt;
+  old = λ id. tt;
+  works = λ id. tt;
+  finishes = λ session id command status wake. tt;
+  offers = tt;
+  gives = λ drawn. tt;
+  spends = tt;
+  in_vain = λ payload. tt;
+  takes = λ seen text. tt;
+  resends = λ payload. tt;
+  hears = λ setting. tt;
+  no_room = λ property. tt;
+}
+
+told_last : (h : HostState) (event : RequestsEvent) (events : List HostEvent) → events ≡ told_requests event → EndsWell (end_at h.requests event) → LastAll h events
+told_last h event events are so = subst (LastAll h) (sym are) (so, tt)
+
+of_update : (h : HostState) (events : List HostEvent) → IsToldOf events → LastAll h events
+of_update h events (Nothing are) = subst (LastAll h) (sym are) tt
+of_update h events (Something update are) = told_last h (update_told_of update) events are (updated_well h.requests update)
+
+leaves_last : (joined : List Bool) (h : HostState) (frame : FrameParts) (events : List HostEvent) → LeavesIt joined frame → EndsNoInterview h → FrameFollows h frame events → LastAll h events
+leaves_last joined h frame events (Answers is) none follows =
+    told_last h (Responds (SendDataAnswer 1)) events (answers_are h events (subst (λ (f : FrameParts). FrameFollows h f events) is follows)) (answered_well h.requests)
+leaves_last joined h frame events (Brings n payload member some is) none follows =
+    all_mild h events
+    (payload_all IsMild n (mild_followers n) h payload (heard_at payload) events (λ tells. tt)
+    (handler_payload h n payload events member.is_node some (subst (λ (f : FrameParts). FrameFollows h f events) is follows)))
+leaves_last joined h frame events (Informs update is) none follows = of_update h events (update_told h update events none (subst (λ (f : FrameParts). FrameFollows h f events) is follows))
+
+-- ---- all that is on its way to the host
+
+module _ (counted : Bool) (s : ChipState) (asking : List FrameParts) where
+  frame_last : (h : HostState) (frame : FrameParts) (rest : List FrameParts) (events : List HostEvent) → FrameFollows h frame events → TieBy counted (kept h) s (frame ∷ rest) asking → SaysHeard frame → LastAll h events
+  frame_last h frame rest events follows tie heard = by tie.tied
+    where
+      sends : (u : UnderWay) → IsOf u (ends_by (kept h) s) → EndsNoInterview h
+      sends u of = send_under_way h u (record { under_way = of.under_way; sends = of.sends })
+
+      called : (u : UnderWay) → IsOf u (ends_by (kept h) s) → (is : IsCalled (ends_by (kept h) s) (frame ∷ rest) asking) → (before : List FrameParts)
+          → frame ∷ rest ≡ before ++ notice_frame (SendData h.requests.last_id is.status) ∷ is.behind → LeaveIt s.joined before → LastAll h events
+      called u of is [] are leave =
+          let first : frame ≡ notice_frame (SendData h.requests.last_id is.status) = cc in
+          told_last h (CallsBack h.requests.last_id is.status) events (calls_are h h.requests.last_id is.status events (subst (λ (f : FrameParts). FrameFollows h f events) first follows))
+          (called_well h.requests h.requests.last_id is.status (heard h.requests.last_id is.status first))
+      called u of is (one ∷ before) are leave =
+          let first : frame ≡ one = cc in
+          leaves_last s.joined h frame events (subst (LeavesIt s.joined) (sym first) leave.0) (sends u of) follows
+
+      by : Tied counted (ends_by (kept h) s) (frame ∷ rest) asking → LastAll h events
+      by (Nowhere is) = leaves_last s.joined h frame events is.leave.0 (none_under_way h is.none) follows
+      by (On_way u of fresh is) = leaves_last s.joined h frame events is.leave.0 (sends u of) follows
+      by (At_chip u of fresh is) = leaves_last s.joined h frame events is.leave.0 (sends u of) follows
+      by (Called u of fresh is) = called u of is is.before is.are is.before_leave
+
+  ack_last : (h : HostState) (turn : Turn) (events : List HostEvent) → events ≡ told_if (is_busy turn) IsSent → LastAll h events
+  ack_last h turn events are = subst (LastAll h) (sym are) (by (is_busy turn))
+    where
+      by : (b : Bool) → LastAll h (told_if b IsSent)
+      by true = (sent_well h.requests, tt)
+      by false = tt
+
+  unit_last : (h : HostState) (unit : LineUnit) (rest : List FrameParts) (events : List HostEvent) → IsPlain unit → IsJudged h (Good unit) events → TieBy counted (kept h) s (frames_in (unit ∷ []) ++ rest) asking
+      → AllSayHeard (frames_in (unit ∷ []) ++ rest) → LastAll h events
+  unit_last h Ack rest events plain (more, are, followed) tie heard = subst (LastAll h) (sym are) (tt, ack_last (after h (Hears (Good Ack))) h.side.turn more followed)
+  unit_last h Nak rest events plain judged_it tie heard = absurd plain
+  unit_last h Can rest events plain judged_it tie heard = absurd plain
+  unit_last h (Framed f) rest events plain (more, are, followed) tie heard =
+      subst (LastAll h) (sym are) (tt, frame_last (after h (Hears (Good (Framed f)))) f rest more followed tie heard.0)
+
+  pub units_last : (h : HostState) (units : List LineUnit) (rest : List FrameParts) (events : List HostEvent) → AllByRecursion IsPlain units → AreJudged h (goods units) events
+      → TieBy counted (kept h) s (frames_in units ++ rest) asking → AllSayHeard (frames_in units ++ rest) → LastAll h events
+  units_last h [] rest events plain judged_all tie heard = subst (LastAll h) (sym judged_all) tt
+  units_last h (unit ∷ units) rest events plain (first, later, are, one, others) tie heard =
+      let same = one_more counted s asking unit units rest in
+      let parts = subst (λ (fs : List FrameParts). TieBy counted (kept h) s fs asking) same tie in
+      let heard_parts = subst AllSayHeard same heard in
+      let here = unit_last h unit (frames_in units ++ rest) first plain.0 one parts heard_parts in
+      let then_tied = unit_tied counted s asking h unit (frames_in units ++ rest) first plain.0 one parts in
+      let behind = all-right SaysHeard (frames_in (unit ∷ [])) (frames_in units ++ rest) heard_parts in
+      subst (LastAll h) (sym are) (last-append h first later here (units_last (after_all h first) units rest later plain.1 others then_tied behind))
+
+-- ---- the call of a request of an attempt
+
+both : (a b : Bool) → a ≡ true → b ≡ true → (a && b) ≡ true
+both a b one two = rw one two
+
+pub call_signs : (h : HostState) (u : UnderWay) (n : ℕ) (more : Bool) (payload : List ℕ) (events : List HostEvent) → IsSending u h → u.purpose ≡ Attempt n more payload
+    → FrameFollows h (notice_frame (SendData h.requests.last_id CompleteOk)) events → (after_all h events).nodes ≡ (with_node h n (after_sign (node_of h n))).nodes
+call_signs h u n more payload events sending of follows =
+    ap (λ (l : List HostEvent). (after_all h l).nodes) (calls_are h h.requests.last_id CompleteOk events follows)
+    ∙ ap (λ (o : Option UnderWay). (after_end_if g (end_from (at_callback id id CompleteOk) o) BetweenTicks).nodes) sending.under_way
+    ∙ chosen ((function_of u.purpose == SEND_DATA) && (id == id)) (both (function_of u.purpose == SEND_DATA) (id == id) (eq-eqb (function_of u.purpose) SEND_DATA sending.sends) (eq-eqb id id refl))
+  where
+    id : ℕ
+    id = h.requests.last_id
+
+    g : HostState
+    g = requests_do h (CallsBack id CompleteOk)
+
+    -- which of the requests are left changes nothing of the nodes
+    ended : (purpose : Purpose) → purpose ≡ Attempt n more payload → (after_end g (record { purpose = purpose; how = AtCallback CompleteOk }) BetweenTicks).nodes ≡ (with_node h n (after_sign (node_of h n))).nodes
+    ended purpose is =
+        ap (λ (p : Purpose). (after_end g (record { purpose = p; how = AtCallback CompleteOk }) BetweenTicks).nodes) is
+        ∙ ap (λ (end : PartEnd). (after_part g n end BetweenTicks).nodes) (part_well more)
+
+    chosen : (b : Bool) → b ≡ true
+        → (after_end_if g (end_of u (if b then next.Ends (AtCallback CompleteOk) else next.GoesOn u.progress)) BetweenTicks).nodes ≡ (with_node h n (after_sign (node_of h n))).nodes
+    chosen true is = ended u.purpose of
+    chosen false is = absurd cc

@@ -1,0 +1,33 @@
+//! Nodes at work, over quiet lines.
+
+ghost use Rattle.std.specs.Prelude.{◌≡◌, Bool, List, length};
+ghost use Rattle.world_model.specs.Did.{AllAlong};
+ghost use Rattle.world_model.specs.State.{Machine};
+ghost use Rattle.world_lines.specs.Spoken.{Spoken, after_all, transcript_of};
+ghost use Rattle.world_lines.specs.Done.{AreDone, events_of};
+ghost use Rattle.world_lines.specs.Whole.{AreWhole};
+ghost use Rattle.proof_calm.specs.proof_work.proof_walk.Walk.{WalkWhere};
+ghost use Rattle.proof_calm.specs.proof_work.Phases.{AsksNothing};
+ghost use Rattle.proof_calm.specs.Tied.{IsTied, unheard};
+ghost use Rattle.proof_answered.specs.Few.{AreFew, IsStretched};
+ghost use Rattle.proof_answered.specs.Heard.{AllSayHeard};
+ghost use Rattle.proof_answered.specs.Outward.{AllListen};
+ghost use Rattle.proof_answered.specs.Workers.{IsWorkFor, KnowWorkers, KnowsWorkers};
+
+use crate::nodes_hear;
+use host_model::attempts_have_what_they_give;
+use proof_calm::waking::traffic::frames_fly_in_order;
+
+/// Where orders are for some nodes, and what comes to the host is of these, it has to do with these alone: of the others no series is due or runs, no command
+/// waits, and none is to be told that there is no more for it. So what it asks for, and what the chip sends, is for these; and where the device of each of
+/// these listens, each payload is heard over a stretch of quiet lines and ticks. The other nodes may sleep.
+pub fn workers_hear()
+    ensures walk { (these : List Bool) → length these ≡ 233 → WalkWhere (IsWorkFor these) AsksNothing (KnowWorkers these) }
+    ensures lines { (these : List Bool) (m : Machine) (lines : List Spoken) → length these ≡ 233 → AreDone m lines → AreWhole m lines →
+        AllAlong (IsWorkFor these) m (events_of lines) → IsStretched (transcript_of m lines) → IsTied m → AreFew 0 3 m → AllListen these m →
+        KnowsWorkers these m.host.state → KnowsWorkers these (after_all m lines).host.state × AllSayHeard (unheard (after_all m lines).outside.outer) }
+{
+    attempts_have_what_they_give();
+    frames_fly_in_order();
+    nodes_hear();
+}

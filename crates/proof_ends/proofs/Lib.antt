@@ -1,0 +1,4 @@
+mod Standing
+mod Noting
+mod Walking
+mod Readings
