@@ -10,3 +10,4 @@ mod Reports
 mod Opening
 mod Counting
 mod Standing
+mod Unsealed

@@ -1,4 +1,4 @@
--- Which nonces the host gives, and for which of them what nodes seal opens (Security 0 Command Class; that nonces count on, and that one opens one message, is this project's own rule).
+-- Which nonces the host gives, and for which of them what nodes seal opens (Security 0 Command Class; that nonces count on is this project's own rule).
 use Rattle.std.specs.Prelude.{◌≡◌, ℕ, ◌<◌, ◌≤◌, if◌then◌else◌, Bool, List, [], ◌∷◌, ◌++◌, length, filter, map, ⊤}
 use Rattle.std.specs.List.{AllByRecursion}
 use Rattle.s0_crypto.specs.declared.key_pair.Keys.{Keys}
