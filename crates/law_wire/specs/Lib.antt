@@ -32,4 +32,3 @@ pub use Rattle.law_transcript.specs.device_stack as device_stack
 pub use Rattle.law_transcript.specs as law_transcript
 pub use Rattle.law_transcript.specs.device_kinds as device_kinds
 pub use Rattle.law_transcript.specs.device_sim as device_sim
-pub use Rattle.law_transcript.specs as law_transcript

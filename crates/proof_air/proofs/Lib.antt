@@ -53,6 +53,5 @@ pub use Rattle.proof_walk.proofs.ShownChanges
 pub use Rattle.proof_walk.proofs.Results
 pub use Rattle.law_wire.proofs.Having
 pub use Rattle.law_wire.proofs.Deciding
-pub use Rattle.proof_walk.proofs.world_model_Along
-pub use Rattle.proof_walk.proofs.outside_model_EventLists
+pub use Rattle.proof_walk.proofs.EventLists
 pub use Rattle.proof_walk.proofs.HostOuts

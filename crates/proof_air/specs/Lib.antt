@@ -11,5 +11,3 @@ pub use Rattle.law_wire.specs.law_transcript as law_transcript
 pub use Rattle.law_wire.specs as law_wire
 pub use Rattle.proof_walk.specs.outside_model as outside_model
 pub use Rattle.proof_walk.specs.proof_device as proof_device
-pub use Rattle.proof_walk.specs.world_lines as world_lines
-pub use Rattle.proof_walk.specs.world_model as world_model

@@ -20,7 +20,3 @@ pub use Rattle.proof_walk.specs.world_lines as world_lines
 pub use Rattle.proof_walk.specs.world_model as world_model
 pub use Rattle.proof_world.specs.host_model as host_model
 pub use Rattle.proof_walk.specs.mesh_sim as mesh_sim
-pub use Rattle.proof_walk.specs.proof_host as proof_host
-pub use Rattle.proof_traffic.specs as proof_traffic
-pub use Rattle.proof_walk.specs.world_lines as world_lines
-pub use Rattle.proof_walk.specs.world_model as world_model

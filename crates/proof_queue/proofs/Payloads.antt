@@ -33,7 +33,7 @@ use Rattle.host_model.specs.After.{after}
 use Rattle.host_model.specs.Did.{after_all}
 use Rattle.host_model.specs.Events.{HostEvent, Interview_unkept, Interviews, Is_unkept, Spends, Spends_unread, Unreads}
 use Rattle.host_model.specs.Taking.{FrameEvents, InterviewEvents, IsOpened, NoticeEvents, PayloadEvents, ResponseEvents, SealedEvents, named_by, told_requests}
-use Rattle.proof_known.proofs.proof_waking_Bodies.{body_is}
+use Rattle.proof_known.proofs.Bodies.{body_is}
 use Rattle.proof_attempts.specs.proof_requests.law_host.Heard.{heeds_alone, listing_heard}
 use Rattle.proof_attempts.specs.proof_requests.Walking.{IsOfChip}
 use Rattle.proof_attempts.proofs.Queued.{told_queue}

@@ -29,7 +29,7 @@ use Rattle.proof_air.specs.world_model.State.{Machine}
 use Rattle.proof_air.specs.world_model.Events.{Event, Outside_does, Host_does, Host_takes, Decoder_ticks, Refuses, Shows_values, Restarts, OpensFrom, entered, happens, entries, shown_values, May}
 use Rattle.proof_air.specs.world_model.Did.{happens_all, entries_all}
 use Rattle.proof_air.specs.world_model.Lines.{IsEffect, Asks}
-use Rattle.proof_air.proofs.world_model_Along.{IsAskedBy, IsOfEffect, anywhere, effect_along}
+use Rattle.proof_air.proofs.Along.{IsAskedBy, IsOfEffect, anywhere, effect_along}
 use Rattle.proof_line.specs.proof_host.Facts.{Facts}
 use Rattle.proof_spoken.specs.Said.{AreSaid}
 use Rattle.proof_spoken.proofs.Orders.{IsNoOrder}

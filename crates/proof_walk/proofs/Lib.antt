@@ -36,6 +36,3 @@ pub use Rattle.proof_host.proofs.Values
 pub use Rattle.proof_device.proofs.Hosting
 pub use Rattle.proof_device.proofs.EventLists as world_model_EventLists
 pub use Rattle.proof_device.proofs.ShownChanges
-pub use Rattle.world_lines.proofs.Along as world_model_Along
-pub use Rattle.world_lines.proofs.Pieces as world_model_Pieces
-pub use Rattle.world_lines.proofs.EventLists as outside_model_EventLists

@@ -14,8 +14,8 @@ use Rattle.proof_walk.specs.world_model.Events.{Event, Outside_does, Host_does, 
 use Rattle.proof_walk.specs.world_model.Did.{MayAll, happens_all}
 use Rattle.proof_walk.specs.world_model.Lines.{IsEffect}
 use Rattle.proof_walk.specs.world_model.Prefixes.{LinePart, IsLineBefore}
-use Rattle.proof_walk.proofs.world_model_Along.{IsAskedBy, IsOfPart, IsOfEffect, along, pieces_along, effect_along}
-use Rattle.proof_walk.proofs.world_model_Pieces.{Of, Law, Pieces, of_none, of_then, of_line_part, of_line_before}
+use Rattle.proof_walk.proofs.Along.{IsAskedBy, IsOfPart, IsOfEffect, along, pieces_along, effect_along}
+use Rattle.proof_walk.proofs.Pieces.{Of, Law, Pieces, of_none, of_then, of_line_part, of_line_before}
 use Rattle.proof_world.specs.proof_serial.Line.{AreLines}
 use Rattle.proof_world.specs.Restarts.{KeepsWell, AllKeepWell}
 use Rattle.proof_work.specs.Doing.{IsDone}

@@ -7,4 +7,3 @@ pub use Rattle.host_model.specs as host_model
 pub use Rattle.proof_serial.specs as proof_serial
 pub use Rattle.world_lines.specs as world_lines
 pub use Rattle.device_sim.specs as device_sim
-pub use Rattle.host_model.specs as host_model

@@ -10,4 +10,3 @@ pub mod Table
 pub use Rattle.host_model.specs as host_model
 pub use Rattle.host_requests.specs as host_requests
 pub use Rattle.outside_model.specs as outside_model
-pub use Rattle.outside_model.specs as outside_model
