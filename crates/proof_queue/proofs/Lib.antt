@@ -5,6 +5,10 @@ mod Refused
 mod Asking
 mod Stills
 mod Sleepers
+mod Orders
+mod Looks
+mod Tells
+mod Pumped
 mod Walking
 mod Along
 mod Puts

@@ -1,7 +1,6 @@
--- What a look of the host adds to what waits by the transcript: the nodes that are due, in order. Up to a later time those come behind that have become due since, and where all became due
--- just now they stand in the order of their numbers. A node is told after it where it was, or was due.
+-- What a look of the host adds to what waits by the transcript: the nodes that are due, in order. Up to a later time those come behind that have become due since. A node is told after it where it was, or was due.
 use Rattle.std.proofs.Common.{◌≡◌, ◌⊎◌, ◌≤◌, ◌<◌, ℕ, ◌+◌, ◌==◌, ◌&&◌, ◌||◌, not, Bool, true, false, if◌then◌else◌, inl, inr, List, [], ◌∷◌, ◌++◌, map, filter, nat_le, nat_lt, bytes_eq, refl, sym, ap, ap₂, ◌∙◌, subst, arith}
-use Rattle.std.specs.List.{flat_map, list_any, range_with_len}
+use Rattle.std.specs.List.{flat_map, list_any}
 use Rattle.std.proofs.lemmas.Bool.{and_left, and_right, both_ways, cases_eq, cases_lt, eq-eqb, le-leb, le-ltb, leb-true, lt-leb, lt-ltb, ne_eqb}
 use Rattle.std.proofs.lemmas.List.{map-append}
 use Rattle.std.proofs.lemmas.List.Folds.{list_any-append}
@@ -20,7 +19,7 @@ use Rattle.law_time.specs.Waking.{has_slept, is_awake_sleeper, is_told as tells_
 use Rattle.law_time.specs.Wants.{no_more}
 use Rattle.law_time.specs.Queue.{Due, Queue, due_of, each_with, has_nothing, have_woken, in_order, is_full as queue_full, is_told, with_due, with_no_more}
 use Rattle.std.specs.Prelude.{is_some}
-use Rattle.proof_queue.proofs.Orders.{AreDistinct, by_number, due_at, filter_same, is_among, picked, picked_none, picked_same, split}
+use Rattle.proof_queue.proofs.Orders.{due_at, is_among, picked, picked_same, split}
 
 -- ---- that a series runs does not hang on the time, where no command waits
 
@@ -187,11 +186,6 @@ looks_twice heeds past before now a q up =
     due_is heeds past now a q ∙ ap (λ (l : List ℕ). each_with with_no_more q l) (later_dues heeds past before now a q up)
     ∙ each-append with_no_more q (dues heeds past before a q) (dues_since heeds past before now a q)
     ∙ ap (λ (k : Queue). each_with with_no_more k (dues_since heeds past before now a q)) (sym (due_is heeds past before a q))
-
--- where all of them became due at one time they stand in the order of their numbers
-pub dues_by_number : (p : ℕ → Bool) (past : List Entry) (t : ℕ) → ((n : ℕ) → p n ≡ true → key past n ≡ t) → ((n : ℕ) → p n ≡ true → (1 ≤ n) × (n < 1 + 232)) → AreDistinct (have_woken past)
-    → nodes_of (in_order (picked p (key past) (have_woken past))) ≡ filter (λ (m : ℕ). is_among (have_woken past) m && p m) (range_with_len 1 232)
-dues_by_number p past t at within distinct = by_number p (key past) t 1 232 at within (have_woken past) distinct
 
 -- ---- who is told after a look
 

@@ -127,10 +127,11 @@ put_node due (d ∷ dues) all =
 
 -- of numbers from one on
 
-pub filter_same : (p q : ℕ → Bool) (from count : ℕ) → ((m : ℕ) → from ≤ m → p m ≡ q m) → filter p (range_with_len from count) ≡ filter q (range_with_len from count)
+pub filter_same : (p q : ℕ → Bool) (from count : ℕ) → ((m : ℕ) → from ≤ m → m < from + count → p m ≡ q m) → filter p (range_with_len from count) ≡ filter q (range_with_len from count)
 filter_same p q from zero same = refl
 filter_same p q from (suc count) same =
-    ap₂ (λ (b : Bool) (l : List ℕ). if b then from ∷ l else l) (same from (omega arith)) (filter_same p q (from + 1) count (λ m more. same m (omega (arith, more))))
+    ap₂ (λ (b : Bool) (l : List ℕ). if b then from ∷ l else l) (same from (omega arith) (omega arith))
+    (filter_same p q (from + 1) count (λ m more less. same m (omega (arith, more)) (omega (arith, less))))
 
 filter_none : (p : ℕ → Bool) (numbers : List ℕ) → ((m : ℕ) → p m ≡ false) → filter p numbers ≡ []
 filter_none p [] none = refl
@@ -167,7 +168,7 @@ put_among p n from (suc count) above below none =
         ap (λ (b : Bool). put_number n (if b then from ∷ rest else rest)) (ap p (sym same) ∙ none) ∙ put_below p n (from + 1) count (omega (arith, same))
         ∙ ap (λ (k : ℕ). k ∷ rest) same
         ∙ ap (λ (l : List ℕ). from ∷ l)
-        (filter_same p (λ (m : ℕ). (n == m) || p m) (from + 1) count (λ m above. sym (ap (λ (b : Bool). b || p m) (ne_eqb n m (λ is. omega (arith, same, is, above))))))
+        (filter_same p (λ (m : ℕ). (n == m) || p m) (from + 1) count (λ m above less. sym (ap (λ (b : Bool). b || p m) (ne_eqb n m (λ is. omega (arith, same, is, above))))))
         ∙ sym (ap (λ (b : Bool). if b || p from then from ∷ more else more) (eq-eqb n from same))
 
     there : (n ≡ from → ⊥) → (b : Bool) → put_number n rest ≡ more → put_number n (if b then from ∷ rest else rest) ≡ (if (n == from) || b then from ∷ more else more)
@@ -186,10 +187,10 @@ AreDistinct [] = Unit {0}
 AreDistinct (n ∷ nodes) = (is_among nodes n ≡ false) × AreDistinct nodes
 
 -- those of one tick stand in the order of their numbers
-pub by_number : (p : ℕ → Bool) (tick : ℕ → ℕ) (t from count : ℕ) → ((n : ℕ) → p n ≡ true → tick n ≡ t) → ((n : ℕ) → p n ≡ true → (from ≤ n) × (n < from + count)) → (nodes : List ℕ)
+pub by_number : (p : ℕ → Bool) (tick : ℕ → ℕ) (t from count : ℕ) → ((n : ℕ) → p n ≡ true → tick n ≡ t) → (nodes : List ℕ) → AllByRecursion (λ n. (from ≤ n) × (n < from + count)) nodes
     → AreDistinct nodes → nodes_of (in_order (picked p tick nodes)) ≡ filter (λ (m : ℕ). is_among nodes m && p m) (range_with_len from count)
-by_number p tick t from count ticks within [] distinct = sym (filter_none (λ (m : ℕ). false && p m) (range_with_len from count) (λ m. refl))
-by_number p tick t from count ticks within (n ∷ nodes) distinct = by (p n) refl (by_number p tick t from count ticks within nodes distinct.1)
+by_number p tick t from count ticks [] within distinct = sym (filter_none (λ (m : ℕ). false && p m) (range_with_len from count) (λ m. refl))
+by_number p tick t from count ticks (n ∷ nodes) within distinct = by (p n) refl (by_number p tick t from count ticks nodes within.1 distinct.1)
   where
     numbers : List ℕ
     numbers = range_with_len from count
@@ -225,6 +226,56 @@ by_number p tick t from count ticks within (n ∷ nodes) distinct = by (p n) ref
         put_node (due_at n (tick n)) (in_order dues)
         (all_in_order (λ (d : Due). tick n ≡ d.tick) dues (picked_all (λ (d : Due). tick n ≡ d.tick) p tick (λ k passes. ticks n is ∙ sym (ticks k passes)) nodes))
         ∙ ap (λ (l : List ℕ). put_number n l) more
-        ∙ put_among (λ (m : ℕ). is_among nodes m && p m) n from count (within n is).0 (within n is).1 (and_left (is_among nodes n) (p n) distinct.0)
-        ∙ filter_same (λ (m : ℕ). (n == m) || (is_among nodes m && p m)) (λ (m : ℕ). ((n == m) || is_among nodes m) && p m) from count (λ m above. it m is)
-    by false is more = more ∙ filter_same (λ (m : ℕ). is_among nodes m && p m) (λ (m : ℕ). ((n == m) || is_among nodes m) && p m) from count (λ m above. not_it m is)
+        ∙ put_among (λ (m : ℕ). is_among nodes m && p m) n from count within.0.0 within.0.1 (and_left (is_among nodes n) (p n) distinct.0)
+        ∙ filter_same (λ (m : ℕ). (n == m) || (is_among nodes m && p m)) (λ (m : ℕ). ((n == m) || is_among nodes m) && p m) from count (λ m above less. it m is)
+    by false is more = more ∙ filter_same (λ (m : ℕ). is_among nodes m && p m) (λ (m : ℕ). ((n == m) || is_among nodes m) && p m) from count (λ m above less. not_it m is)
+
+-- ---- which they are
+
+put_among_dues : (due : Due) (dues : List Due) (n : ℕ) → is_among (nodes_of (put_in_order due dues)) n ≡ ((due.node == n) || is_among (nodes_of dues) n)
+put_among_dues due [] n = refl
+put_among_dues due (d ∷ dues) n = by (is_earlier due d) (put_among_dues due dues n)
+  where
+    swap : (a b c : Bool) → (b || (a || c)) ≡ (a || (b || c))
+    swap true true c = refl
+    swap true false c = refl
+    swap false b c = refl
+
+    by : (b : Bool) → is_among (nodes_of (put_in_order due dues)) n ≡ ((due.node == n) || is_among (nodes_of dues) n)
+        → is_among (nodes_of (if b then due ∷ d ∷ dues else d ∷ put_in_order due dues)) n ≡ ((due.node == n) || ((d.node == n) || is_among (nodes_of dues) n))
+    by true more = refl
+    by false more = ap (λ (b : Bool). (d.node == n) || b) more ∙ swap (due.node == n) (d.node == n) (is_among (nodes_of dues) n)
+
+pub picked_among : (p : ℕ → Bool) (tick : ℕ → ℕ) (nodes : List ℕ) (n : ℕ) → is_among (nodes_of (in_order (picked p tick nodes))) n ≡ (is_among nodes n && p n)
+picked_among p tick [] n = refl
+picked_among p tick (m ∷ nodes) n = by (p m) refl (picked_among p tick nodes n)
+  where
+    found : List Due
+    found = picked p tick nodes
+
+    it : (b : Bool) → p m ≡ b → ((m == n) && b) ≡ ((m == n) && p n)
+    it b is = elim (cases_eq m n) [
+      | inl same ↦ ap (λ (c : Bool). (m == n) && c) (sym is ∙ ap p same)
+      | inr other ↦ ap (λ (c : Bool). c && b) (ne_eqb m n other) ∙ sym (ap (λ (c : Bool). c && p n) (ne_eqb m n other))
+    ]
+
+    shared : (a b c : Bool) → ((a && c) || (b && c)) ≡ ((a || b) && c)
+    shared true b true = refl
+    shared true true false = refl
+    shared true false false = refl
+    shared false b c = refl
+
+    never : (a : Bool) → (a && false) ≡ false
+    never true = refl
+    never false = refl
+
+    always : (a : Bool) → (a && true) ≡ a
+    always true = refl
+    always false = refl
+
+    by : (b : Bool) → p m ≡ b → is_among (nodes_of (in_order found)) n ≡ (is_among nodes n && p n)
+        → is_among (nodes_of (in_order (if b then due_at m (tick m) ∷ found else found))) n ≡ (((m == n) || is_among nodes n) && p n)
+    by true is more =
+        put_among_dues (due_at m (tick m)) (in_order found) n ∙ ap₂ (λ (b c : Bool). b || c) (sym (always (m == n)) ∙ it true is) more ∙ shared (m == n) (is_among nodes n) (p n)
+    by false is more =
+        more ∙ ap (λ (b : Bool). b || (is_among nodes n && p n)) (sym (never (m == n)) ∙ it false is) ∙ shared (m == n) (is_among nodes n) (p n)

@@ -52,7 +52,7 @@ asleep_last n (entry.Asleep node ∷ told) all = by (node == n) (asleep_last n t
     by false is = is
 asleep_last n (e ∷ told) all = asleep_last n told all.1
 
-none_awake : (past : List Entry) (n : ℕ) → NoneWoken past → counts_awake n past ≡ false
+pub none_awake : (past : List Entry) (n : ℕ) → NoneWoken past → counts_awake n past ≡ false
 none_awake past n none = asleep_last n (since_restart past) (since_unwoken [] past tt (all_unwoken past none))
 
 not_wanting : (n : NodeState) → n.awake ≡ false → wants_no_more n ≡ false
