@@ -53,5 +53,5 @@ pub use Rattle.proof_walk.proofs.ShownChanges
 pub use Rattle.proof_walk.proofs.Results
 pub use Rattle.law_wire.proofs.Having
 pub use Rattle.law_wire.proofs.Deciding
-pub use Rattle.proof_walk.proofs.EventLists
+pub use Rattle.proof_walk.proofs.EventLists as outside_model_EventLists
 pub use Rattle.proof_walk.proofs.HostOuts

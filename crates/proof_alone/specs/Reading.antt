@@ -16,7 +16,7 @@ use Rattle.host_requests.specs.declared.task.Task.TheVariants.{Members}
 use Rattle.proof_line.specs.host_model.State.{HostState}
 use Rattle.proof_line.specs.host_model.Events.{HostEvent, Queues}
 use Rattle.proof_line.specs.host_model.Asking.{places_refusal}
-use Rattle.proof_line.proofs.Silence.{Silent}
+use Rattle.host_model.proofs.Silence.{Silent}
 use Rattle.proof_line.specs.outside_model.State.{is_stalled}
 use Rattle.proof_line.specs.outside_model.Events.{OuterEvent, Clears_pipe, Collides_next, Cuts, Discovers, Joins, Links, Loses, Loses_acks, Marks_change, Marks_loss, Repeats, Sets_device, Shows, Stalls, Wakes_device}
 use Rattle.proof_line.specs.world_model.State.{Machine}

@@ -15,7 +15,7 @@ use Rattle.host_model.specs.declared.out.HostOut.TheVariants.{Write, Note}
 use Rattle.proof_air.specs.outside_model.State.{Outside, OuterState}
 use Rattle.proof_air.specs.outside_model.Events.{Host_begins, Host_notes, Host_writes, entries as entries_outside, happens as happens_outside, outcome, stamp, ticked_entry}
 use Rattle.proof_air.specs.outside_model.Did.{entries_all as entries_all_outside, happens_all as happens_all_outside}
-use Rattle.proof_air.proofs.EventLists.{entries_all-append}
+use Rattle.proof_air.proofs.outside_model_EventLists.{entries_all-append}
 use Rattle.proof_air.specs.world_model.State.{Machine, begun_in, host_does, host_entries, noted_by, routed}
 use Rattle.proof_air.specs.world_model.Events.{Event, Outside_does, Host_does, Host_takes, Decoder_ticks, Refuses, Shows_values, Restarts, entries, fed, happens, notes, shown_values, May}
 use Rattle.proof_air.specs.world_model.Did.{entries_all, MayAll}

@@ -14,7 +14,7 @@ use Rattle.proof_air.specs.proof_host.Entries.{notes_of}
 use Rattle.proof_air.specs.outside_model.State.{Outside, OuterState}
 use Rattle.proof_air.specs.outside_model.Events.{Host_writes, Host_notes, Host_begins, entries as entries_outside, happens as happens_outside, outcome, stamp, ticked_entry}
 use Rattle.proof_air.specs.outside_model.Did.{entries_all as entries_all_outside, happens_all as happens_all_outside}
-use Rattle.proof_air.proofs.EventLists.{entries_all-append, happens_all-append}
+use Rattle.proof_air.proofs.outside_model_EventLists.{entries_all-append, happens_all-append}
 use Rattle.proof_air.specs.world_model.State.{begun_in, noted_by, routed}
 use Rattle.proof_transcript.proofs.Outer.{IsPlain, ArePlain, entered_clock, stamp_plain, ticked_plain, told_plain}
 

@@ -16,7 +16,7 @@ use Rattle.proof_alone.specs.host_model.State.{HostState}
 use Rattle.proof_alone.specs.host_model.Events.{HostEvent, Requests_do}
 use Rattle.proof_alone.specs.host_model.Did.{after_all, outs_all}
 use Rattle.proof_alone.specs.host_model.Taking.{FrameEvents}
-use Rattle.proof_alone.proofs.Own.{IsOwn}
+use Rattle.host_model.proofs.Own.{IsOwn}
 use Rattle.proof_alone.specs.State.{HostMachine}
 use Rattle.proof_alone.specs.Phases.{Asked, Behind, Ticking}
 use Rattle.proof_alone.specs.Runs.{Knowledge}
