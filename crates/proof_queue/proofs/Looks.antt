@@ -23,7 +23,7 @@ use Rattle.proof_queue.proofs.Orders.{due_at, is_among, picked, picked_same, spl
 
 -- ---- that a series runs does not hang on the time, where no command waits
 
-IsOne : Series → Type 0
+abbrev IsOne : Series → Type 0
 IsOne s = (s.runs ≡ false) ⊎ (s.again ≡ [])
 
 one_either : (b : Bool) (s t : Series) → IsOne s → IsOne t → IsOne (if b then s else t)

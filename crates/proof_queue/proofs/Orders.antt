@@ -108,7 +108,7 @@ split first second tick t low high (n ∷ nodes) = by (first n) (second n) refl 
 
 -- ---- numbers in order
 
-put_number : ℕ → List ℕ → List ℕ
+abbrev put_number : ℕ → List ℕ → List ℕ
 put_number n [] = n ∷ []
 put_number n (m ∷ rest) = if nat_lt n m then n ∷ m ∷ rest else m ∷ put_number n rest
 
