@@ -9,6 +9,7 @@ mod Orders
 mod Looks
 mod Tells
 mod Pumped
+mod Joined
 mod Walking
 mod Along
 mod Puts
