@@ -2,16 +2,16 @@ pub mod Lasting
 pub mod Ahead
 mod Nodes
 mod Releasing
-mod Counting
+pub mod Counting
 pub mod Ticking
-mod Telling
+pub mod Telling
 mod Holding
 mod Working
 mod Opening
 mod SeriesSteps
 mod Finishing
 mod KeptAwake
-mod Doings
+pub mod Doings
 mod SeriesTold
 mod SeriesGoes
 mod SeriesTie
@@ -19,7 +19,7 @@ mod Payloads
 mod Carried
 pub mod Requested
 pub mod Wrote
-mod Slept
+pub mod Slept
 mod Owing
 mod Late
 mod Sleeping

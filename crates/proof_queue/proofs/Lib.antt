@@ -10,6 +10,8 @@ mod Looks
 mod Tells
 mod Pumped
 mod Joined
+mod Dropping
+mod Sleeps
 mod Walking
 mod Along
 mod Puts

@@ -108,15 +108,25 @@ open_false false is = refl
 abbrev pub wanting : HostState → List ℕ
 wanting h = filter (λ (m : ℕ). wants_no_more (node_of h m)) (range_with_len 1 232)
 
--- ---- a host that looks, with this queue
+-- ---- a host that looks
 
-pub record MayLook (past : List Entry) (now : ℕ) (h : HostState) (a : Asked) (q : Queue) : Type 0 where
+pub record MayLook (past : List Entry) (now : ℕ) (h : HostState) : Type 0 where
   pub each : (n : ℕ) → 1 ≤ n → n ≤ 232 → Sees past now n (node_of h n)
-  pub told : (n : ℕ) → 1 ≤ n → n ≤ 232 → (node_of h n).listens ≡ false → is_told a q n ≡ not (is_unasked (node_of h n).no_more)
   pub begun : clock past ≤ now
   pub nodes : AllByRecursion (λ n. (1 ≤ n) × (n < 1 + 232)) (joined past)
   pub distinct : AreDistinct (joined past)
   pub known : (n : ℕ) → 1 ≤ n → n ≤ 232 → is_some (node_of h n).classes ≡ true → is_among (joined past) n ≡ true
+
+-- those that it has told so are told by the transcript, with this queue
+abbrev pub AreTold : HostState → Asked → Queue → Type 0
+AreTold h a q = (n : ℕ) → 1 ≤ n → n ≤ 232 → (node_of h n).listens ≡ false → is_told a q n ≡ not (is_unasked (node_of h n).no_more)
+
+-- a node would sleep; and those that would, and are not told
+abbrev pub would_sleep : NodeState → Bool
+would_sleep node = has_all node && (node.hold == 0)
+
+abbrev pub sleepers : HostState → Asked → Queue → List ℕ
+sleepers h a q = filter (λ (m : ℕ). would_sleep (node_of h m) && not (is_told a q m)) (range_with_len 1 232)
 
 by_woken : (P : List ℕ → Type 0) (past : List Entry) → P [] → P (joined past) → P (have_woken past)
 by_woken P past none all = by (are_none (shown woke_at past))
@@ -147,18 +157,12 @@ module _ (taken : List Entry → Carried → List Told) (past : List Entry) (now
       ∙ known (listed_of s.awake (is_false s.listens) (is_some s.classes) (is_false (has_waiting s)) (is_idle s.series) all)
 
   -- where it became due now, or later than the last look
-  due_wanting : (p : ℕ → Bool) → ((n : ℕ) → p n ≡ true → key past n ≡ now)
-      → ((n : ℕ) → 1 ≤ n → n ≤ 232 → (is_among (have_woken past) n && p n) ≡ wants_no_more (node n)) → AllByRecursion (λ n. (1 ≤ n) × (n < 1 + 232)) (joined past) → AreDistinct (joined past)
-      → nodes_of (in_order (picked p (key past) (have_woken past))) ≡ wanting h
-  due_wanting p at same nodes distinct =
+  due_sleepers : (p : ℕ → Bool) (k : Queue) → ((n : ℕ) → p n ≡ true → key past n ≡ now)
+      → ((n : ℕ) → 1 ≤ n → n ≤ 232 → (is_among (have_woken past) n && p n) ≡ (would_sleep (node n) && not (is_told a k n))) → AllByRecursion (λ n. (1 ≤ n) × (n < 1 + 232)) (joined past)
+      → AreDistinct (joined past) → nodes_of (in_order (picked p (key past) (have_woken past))) ≡ sleepers h a k
+  due_sleepers p k at same nodes distinct =
       by_number p (key past) now 1 232 at (have_woken past) (by_woken (AllByRecursion (λ n. (1 ≤ n) × (n < 1 + 232))) past tt nodes) (by_woken AreDistinct past tt distinct)
-      ∙ filter_same (λ (m : ℕ). is_among (have_woken past) m && p m) (λ (m : ℕ). wants_no_more (node m)) 1 232 (λ m from to. same m from (omega (arith, to)))
-
-  -- ---- nothing was looked at, and the clock is that of the transcript
-
-  fresh_wants : (n t k u : Bool) → (n ≡ true → t ≡ not u) → (n && k && not t) ≡ (n && k && u)
-  fresh_wants false t k u is = refl
-  fresh_wants true t k u is = ap (λ (b : Bool). k && b) (ap not (is refl) ∙ twice_not u)
+      ∙ filter_same (λ (m : ℕ). is_among (have_woken past) m && p m) (λ (m : ℕ). would_sleep (node m) && not (is_told a k m)) 1 232 (λ m from to. same m from (omega (arith, to)))
 
   within_wants : (g p : Bool) → (p ≡ true → g ≡ true) → (g && p) ≡ p
   within_wants true p is = refl
@@ -179,10 +183,10 @@ module _ (taken : List Entry → Carried → List Told) (past : List Entry) (now
   left_of true c is = refl
   left_of false c is = absurd (let bad : false ≡ true = is in cc)
 
-  pub raw_wanting : MayLook past now h a q → clock past ≡ now → with_due heeds past now a q ≡ each_with with_no_more q (wanting h)
-  raw_wanting looks at =
-      due_is heeds past now a q
-      ∙ ap (λ (l : List ℕ). each_with with_no_more q l) (due_wanting (is_due heeds past now a q) at_now (λ n from to. same n from to) looks.nodes looks.distinct)
+  -- ---- where the clock is that of the transcript
+
+  pub now_sleepers : MayLook past now h → clock past ≡ now → dues heeds past now a q ≡ sleepers h a q
+  now_sleepers looks at = due_sleepers (is_due heeds past now a q) q at_now (λ n from to. same n from to) looks.nodes looks.distinct
     where
       at_now : (n : ℕ) → is_due heeds past now a q n ≡ true → key past n ≡ now
       at_now n is =
@@ -190,37 +194,36 @@ module _ (taken : List Entry → Carried → List Told) (past : List Entry) (now
           let high = later_up (clock past) (held_until n past) in
           omega (arith, low, high, at)
 
-      same : (n : ℕ) → 1 ≤ n → n ≤ 232 → (is_among (have_woken past) n && is_due heeds past now a q n) ≡ wants_no_more (node n)
+      same : (n : ℕ) → 1 ≤ n → n ≤ 232 → (is_among (have_woken past) n && is_due heeds past now a q n) ≡ (would_sleep (node n) && not (is_told a q n))
       same n from to =
           let s = node n in
           let sees = looks.each n from to in
           let is : is_due heeds past now a q n ≡ (has_all s && (s.hold == 0) && not (is_told a q n)) =
           ap₂ (λ (b c : Bool). b && c && not (is_told a q n)) (nothing_is taken past now n s sees) (over_is past now n s looks.begun sees.held) in
-          let deaf : has_all s ≡ true → is_told a q n ≡ not (is_unasked s.no_more) =
-          (λ all. looks.told n from to (open_false s.listens (deaf_of s.awake (is_false s.listens) (is_some s.classes) (is_false (has_waiting s)) (is_idle s.series) all))) in
           within_wants (is_among (have_woken past) n) (is_due heeds past now a q n)
           (λ due. among_woken n sees (looks.known n from to) (left_of (has_all s) (s.hold == 0) (left_of (has_all s && (s.hold == 0)) (not (is_told a q n)) (sym is ∙ due))))
-          ∙ is ∙ fresh_wants (has_all s) (is_told a q n) (s.hold == 0) (is_unasked s.no_more) deaf ∙ sym (wants_is s)
+          ∙ is
 
-  -- ---- it has looked up to a time, that of now or of the tick before
+  -- ---- where it has looked up to a time, that of now or of the tick before
 
-  since_wants : (g n k b t r u : Bool) → (n ≡ true → g ≡ true) → (n ≡ true → r ≡ not u) → r ≡ (t || (g && (n && b && not t))) → (n && k && not t && not b) ≡ (n && k && u)
-  since_wants g false k b t r u among told is = refl
-  since_wants g true k b t r u among told is =
-      sym (by k t b) ∙ sym (ap (λ (c : Bool). k && c) (sym (twice_not u) ∙ ap not (sym (told refl) ∙ is ∙ ap (λ (c : Bool). t || (c && (b && not t))) (among refl))))
+  since_told : (g n k b t : Bool) → (n ≡ true → g ≡ true) → (n && k && not t && not b) ≡ (n && k && not (t || (g && (n && b && not t))))
+  since_told g false k b t among = refl
+  since_told g true k b t among = by k t b ∙ sym (ap (λ (c : Bool). k && not (t || (c && (b && not t)))) (among refl))
     where
-      by : (k t b : Bool) → (k && not (t || (b && not t))) ≡ (k && not t && not b)
+      by : (k t b : Bool) → (k && not t && not b) ≡ (k && not (t || (b && not t)))
       by false t b = refl
       by true true b = refl
       by true false true = refl
       by true false false = refl
 
-  pub since_wanting : (before : ℕ) → before ≤ now → now ≤ before + 1 → MayLook past now h a (with_due heeds past before a q)
-      → with_due heeds past now a q ≡ each_with with_no_more (with_due heeds past before a q) (wanting h)
-  since_wanting before up near looks =
-      looks_twice heeds past before now a q up
-      ∙ ap (λ (l : List ℕ). each_with with_no_more (with_due heeds past before a q) l)
-      (due_wanting (is_due_since heeds past before now a q) at_now (λ n from to. same n from to) looks.nodes looks.distinct)
+  pub told_then : (before n : ℕ) → is_told a (with_due heeds past before a q) n ≡ (is_told a q n || (is_among (have_woken past) n && is_due heeds past before a q n))
+  told_then before n =
+      ap (λ (k : Queue). is_told a k n) (due_is heeds past before a q) ∙ told_after a q (dues heeds past before a q) n
+      ∙ ap (λ (b : Bool). is_told a q n || b) (picked_among (is_due heeds past before a q) (key past) (have_woken past) n)
+
+  pub since_sleepers : (before : ℕ) → before ≤ now → now ≤ before + 1 → MayLook past now h → dues_since heeds past before now a q ≡ sleepers h a (with_due heeds past before a q)
+  since_sleepers before up near looks =
+      due_sleepers (is_due_since heeds past before now a q) (with_due heeds past before a q) at_now (λ n from to. same n from to) looks.nodes looks.distinct
     where
       at_now : (n : ℕ) → is_due_since heeds past before now a q n ≡ true → key past n ≡ now
       at_now n is =
@@ -235,27 +238,47 @@ module _ (taken : List Entry → Carried → List Told) (past : List Entry) (now
             | inr more ↦ absurd (let bad : false ≡ true = sym (ap not (le-leb k before more)) ∙ is in cc)
           ]
 
-      told_then : (n : ℕ) → is_told a (with_due heeds past before a q) n ≡ (is_told a q n || (is_among (have_woken past) n && is_due heeds past before a q n))
-      told_then n =
-          ap (λ (k : Queue). is_told a k n) (due_is heeds past before a q) ∙ told_after a q (dues heeds past before a q) n
-          ∙ ap (λ (b : Bool). is_told a q n || b) (picked_among (is_due heeds past before a q) (key past) (have_woken past) n)
-
-      same : (n : ℕ) → 1 ≤ n → n ≤ 232 → (is_among (have_woken past) n && is_due_since heeds past before now a q n) ≡ wants_no_more (node n)
+      same : (n : ℕ) → 1 ≤ n → n ≤ 232 → (is_among (have_woken past) n && is_due_since heeds past before now a q n) ≡ (would_sleep (node n) && not (is_told a (with_due heeds past before a q) n))
       same n from to =
           let s = node n in
           let sees = looks.each n from to in
           let is : is_due_since heeds past before now a q n ≡ (has_all s && (s.hold == 0) && not (is_told a q n) && not (nat_le (key past n) before)) =
           ap₂ (λ (b c : Bool). b && c && not (is_told a q n) && not (nat_le (key past n) before)) (nothing_is taken past now n s sees) (over_is past now n s looks.begun sees.held) in
           let then_is : is_told a (with_due heeds past before a q) n ≡ (is_told a q n || (is_among (have_woken past) n && (has_all s && nat_le (key past n) before && not (is_told a q n)))) =
-          told_then n
+          told_then before n
           ∙ ap (λ (b : Bool). is_told a q n || (is_among (have_woken past) n && (b && nat_le (key past n) before && not (is_told a q n))))
           (nothing_always heeds past before now n ∙ nothing_is taken past now n s sees) in
-          let deaf : has_all s ≡ true → is_told a (with_due heeds past before a q) n ≡ not (is_unasked s.no_more) =
-          (λ all. looks.told n from to (open_false s.listens (deaf_of s.awake (is_false s.listens) (is_some s.classes) (is_false (has_waiting s)) (is_idle s.series) all))) in
           let among : has_all s ≡ true → is_among (have_woken past) n ≡ true = (λ all. among_woken n sees (looks.known n from to) all) in
           within_wants (is_among (have_woken past) n) (is_due_since heeds past before now a q n)
           (λ since. among (left_of (has_all s) (s.hold == 0) (left_of (has_all s && (s.hold == 0)) (not (is_told a q n))
           (left_of (has_all s && (s.hold == 0) && not (is_told a q n)) (not (nat_le (key past n) before)) (sym is ∙ since)))))
-          ∙ is
-          ∙ since_wants (is_among (have_woken past) n) (has_all s) (s.hold == 0) (nat_le (key past n) before) (is_told a q n) (is_told a (with_due heeds past before a q) n) (is_unasked s.no_more) among deaf then_is
+          ∙ is ∙ since_told (is_among (have_woken past) n) (has_all s) (s.hold == 0) (nat_le (key past n) before) (is_told a q n) among
+          ∙ sym (ap (λ (b : Bool). has_all s && (s.hold == 0) && not b) then_is)
+
+  -- ---- those that a pump lets sleep
+
+  told_wants : (n k t u : Bool) → (n ≡ true → t ≡ not u) → (n && k && not t) ≡ (n && k && u)
+  told_wants false t k u is = refl
+  told_wants true t k u is = ap (λ (b : Bool). t && b) (ap not (is refl) ∙ twice_not u)
+
+  pub sleepers_want : (k : Queue) → AreTold h a k → sleepers h a k ≡ wanting h
+  sleepers_want k told =
+      filter_same (λ (m : ℕ). would_sleep (node m) && not (is_told a k m)) (λ (m : ℕ). wants_no_more (node m)) 1 232 (λ m from to. same m from (omega (arith, to)))
+    where
+      same : (n : ℕ) → 1 ≤ n → n ≤ 232 → (would_sleep (node n) && not (is_told a k n)) ≡ wants_no_more (node n)
+      same n from to =
+          let s = node n in
+          told_wants (has_all s) (s.hold == 0) (is_told a k n) (is_unasked s.no_more)
+          (λ all. told n from to (open_false s.listens (deaf_of s.awake (is_false s.listens) (is_some s.classes) (is_false (has_waiting s)) (is_idle s.series) all)))
           ∙ sym (wants_is s)
+
+  -- where nothing was looked at, and the clock is that of the transcript
+  pub raw_wanting : MayLook past now h → clock past ≡ now → AreTold h a q → with_due heeds past now a q ≡ each_with with_no_more q (wanting h)
+  raw_wanting looks at told = due_is heeds past now a q ∙ ap (λ (l : List ℕ). each_with with_no_more q l) (now_sleepers looks at ∙ sleepers_want q told)
+
+  -- where it has looked up to a time
+  pub since_wanting : (before : ℕ) → before ≤ now → now ≤ before + 1 → MayLook past now h → AreTold h a (with_due heeds past before a q)
+      → with_due heeds past now a q ≡ each_with with_no_more (with_due heeds past before a q) (wanting h)
+  since_wanting before up near looks told =
+      looks_twice heeds past before now a q up
+      ∙ ap (λ (l : List ℕ). each_with with_no_more (with_due heeds past before a q) l) (since_sleepers before up near looks ∙ sleepers_want (with_due heeds past before a q) told)

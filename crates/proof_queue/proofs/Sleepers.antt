@@ -20,11 +20,11 @@ use Rattle.proof_attempts.proofs.Queued.{wanting_is_node}
 use Rattle.proof_attempts.specs.Waking.{TieAwake}
 use Rattle.proof_queue.specs.Waiting.{NoneWoken}
 
-abbrev Unwoken : Entry → Type 0
+abbrev pub Unwoken : Entry → Type 0
 Unwoken (entry.Awake n) = ⊥
 Unwoken e = Unit {0}
 
-abbrev Are : List Entry → Type 0
+abbrev pub Are : List Entry → Type 0
 Are told = AllByRecursion Unwoken told
 
 all_unwoken : (told : List Entry) → NoneWoken told → Are told
