@@ -52,8 +52,8 @@ use Rattle.proof_attempts.proofs.Doings.{did, does_at, end_does, failing_does, h
 use Rattle.proof_known.proofs.Events.{outs_told}
 use Rattle.proof_known.proofs.proof_alone_Apart.{AreOfLine}
 use Rattle.proof_known.proofs.proof_device_HostOuts.{OwnIs, SharedAre, outs_are}
+use Rattle.proof_queue.specs.Sleeping.{is_dropped}
 use Rattle.proof_queue.proofs.Sleepers.{Are, Unwoken}
-use Rattle.proof_queue.proofs.Tells.{is_dropped}
 
 -- ---- one node
 

@@ -12,6 +12,8 @@ mod Pumped
 mod Joined
 mod Dropping
 mod Sleeps
+mod Ending
+mod Seeing
 mod Walking
 mod Along
 mod Puts

@@ -21,6 +21,7 @@ use Rattle.law_time.specs.Queue.{Queue, each_with, has_nothing, have_woken, in_o
 use Rattle.host_node.specs.State.{NodeState, has_waiting, is_false, is_idle, is_unasked, wants_no_more}
 use Rattle.host_model.specs.State.{HostState, node_of}
 use Rattle.proof_attempts.specs.proof_requests.law_host.Heard.{heeds_alone, listing_heard}
+use Rattle.proof_queue.specs.Sleeping.{has_all, wanting}
 use Rattle.proof_queue.proofs.Sleepers.{none_awake}
 use Rattle.proof_queue.proofs.Orders.{AreDistinct, by_number, filter_same, is_among, picked, picked_among}
 use Rattle.proof_queue.proofs.Looks.{due_is, dues, dues_since, is_due, is_due_since, key, looks_twice, nodes_of, nothing_always, told_after}
@@ -34,10 +35,6 @@ pub record Sees (past : List Entry) (now n : ℕ) (node : NodeState) : Type 0 wh
   pub waits : are_none (waiting n past) ≡ not (has_waiting node)
   pub runs_so : runs n past now ≡ not (is_idle node.series)
   pub held : node.hold ≡ held_until n past - now
-
--- nothing keeps it awake but that it is held
-abbrev pub has_all : NodeState → Bool
-has_all node = node.awake && is_false node.listens && is_some node.classes && is_false (has_waiting node) && is_idle node.series
 
 same_not : (b : Bool) → not b ≡ is_false b
 same_not true = refl
@@ -103,10 +100,6 @@ awake_of false l c w i is = absurd (let bad : false ≡ true = is in cc)
 open_false : (b : Bool) → is_false b ≡ true → b ≡ false
 open_false true is = absurd (let bad : false ≡ true = is in cc)
 open_false false is = refl
-
--- those that a pump lets sleep
-abbrev pub wanting : HostState → List ℕ
-wanting h = filter (λ (m : ℕ). wants_no_more (node_of h m)) (range_with_len 1 232)
 
 -- ---- a host that looks
 

@@ -18,10 +18,9 @@ use Rattle.host_model.specs.State.{HostState, node_of}
 use Rattle.host_model.specs.After.{after, is_full}
 use Rattle.host_model.specs.Events.{HostEvent, Drops_no_more, Queues_no_more}
 use Rattle.host_model.specs.Pumping.{no_more_event}
+use Rattle.proof_queue.specs.Sleeping.{full_for, is_dropped, slept, wanting}
 use Rattle.proof_queue.specs.Waiting.{want_of_task}
 use Rattle.proof_queue.proofs.Orders.{filter_same, is_among}
-use Rattle.proof_queue.proofs.Pumped.{wanting}
-use Rattle.proof_queue.proofs.Tells.{is_dropped}
 
 -- ---- the first of some numbers
 
@@ -137,15 +136,6 @@ next_if h full n rest places is =
     (λ m other. ap (λ (s : NodeState). wants_no_more s) (node_other h full n m other))
 
 -- ---- all of them
-
--- the host after it has let these sleep, and whom it found the queue full for
-abbrev pub slept : HostState → List ℕ → HostState
-slept h [] = h
-slept h (n ∷ nodes) = slept (after h (no_more_event h n)) nodes
-
-abbrev pub full_for : HostState → List ℕ → List ℕ
-full_for h [] = []
-full_for h (n ∷ nodes) = (if is_full h then n ∷ [] else []) ++ full_for (after h (no_more_event h n)) nodes
 
 -- this waits, these are to be told of a dropped message, and these nodes have theirs dropped
 pub record Stands (q : Queue) (tasks : List Task) (owes : List ℕ) (drops : ℕ → Bool) : Type 0 where

@@ -26,6 +26,7 @@ use Rattle.host_model.specs.Did.{one_if}
 use Rattle.proof_work.specs.Work.{times_due, told_at, told_by, told_for, told_in}
 use Rattle.proof_attempts.specs.Carried.{CarriesWell, IsOther, UnderWayWell, WaitsWell, nodes_of}
 use Rattle.proof_attempts.specs.Slept.{SleptSo}
+use Rattle.proof_queue.specs.Sleeping.{is_dropped}
 use Rattle.proof_queue.specs.Waiting.{want_of_task}
 use Rattle.proof_queue.proofs.Looks.{same_no_more}
 
@@ -129,11 +130,6 @@ told_by_request past requests n well request slept deaf = by requests.under_way 
         during true once = ap (λ (b : Bool). not b) (slept.during (ap (λ (o : Option UnderWay). told_at n o) is ∙ once)) ∙ sym (ap (λ (k : ℕ). nat_lt 0 k) once)
 
 -- ---- so it is told
-
-abbrev pub is_dropped : NoMoreState → Bool
-is_dropped Unasked = false
-is_dropped Queued = false
-is_dropped Dropped = true
 
 pub told_is : (past : List Entry) (requests : RequestsState) (q : Queue) (n : ℕ) (state : NoMoreState) → UnderWayWell requests.under_way → AllByRecursion WaitsWell requests.queue
     → ((u : UnderWay) → requests.under_way ≡ Some u → request_last past ≡ request_of u.purpose requests.last_id ∷ []) → SleptSo n past requests
