@@ -14,6 +14,7 @@ mod Dropping
 mod Sleeps
 mod Ending
 mod Seeing
+mod Ties
 mod Walking
 mod Along
 mod Puts

@@ -141,3 +141,6 @@ module _ (here : Phase) (past : List Entry) (m : HostMachine) (looking : IsLooki
 
   pub clock_now : m.awaits ≡ false → clock past ≡ m.clock
   clock_now unnumbered = later_is _ _ m.clock time.begun time.shown (time.now unnumbered)
+
+  pub risen : m.awaits ≡ true → 1 ≤ m.clock
+  risen awaits = let later = time.later awaits in omega (arith, later)

@@ -1,26 +1,30 @@
 -- What is known along the run gives the nodes that a look finds: they are those that the pump lets sleep.
-use Rattle.std.proofs.Common.{◌≡◌, ◌≤◌, ℕ, ◌+◌, false, List, [], ◌++◌, length, refl, sym, subst}
+use Rattle.std.proofs.Common.{◌≡◌, ◌≤◌, ℕ, ◌+◌, ◌-◌, true, false, List, [], ◌∷◌, ◌++◌, length, refl, sym, subst, arith}
 use Rattle.std.specs.Prelude.{Some}
 use Rattle.s0_crypto.specs.declared.key_pair.Keys.{Keys}
 use Rattle.zw_text.specs.declared.entry.Entry.{Entry}
-use Rattle.law_time.specs.Moments.{Allows}
+use Rattle.zw_text.specs.declared.entry.Entry.TheVariants.{Time}
+use Rattle.law_time.specs.Moments.{Allows, clock}
 use Rattle.law_time.specs.Waking.{may_wake}
 use Rattle.law_time.specs.Requests.{asked}
 use Rattle.law_time.specs.Queue.{Queue, each_with, with_due, with_no_more}
 use Rattle.host_model.specs.State.{HostState}
 use Rattle.proof_attempts.specs.proof_requests.law_host.Heard.{heeds_alone}
 use Rattle.proof_attempts.specs.proof_requests.proof_alone.State.{HostMachine, first_alone}
+use Rattle.proof_attempts.specs.proof_requests.proof_alone.Steps.{Numbers}
 use Rattle.proof_attempts.specs.proof_requests.proof_alone.Phases.{Phase}
 use Rattle.proof_attempts.specs.proof_requests.proof_alone.Runs.{Run}
+use Rattle.proof_attempts.specs.proof_requests.proof_alone.Runs.Run.{Stepped}
 use Rattle.proof_attempts.specs.proof_requests.proof_alone.Tables.{TieTables}
 use Rattle.proof_attempts.proofs.Running.{run_keeps}
 use Rattle.proof_known.specs.Known.{KnowsTold, KnowsWhole}
 use Rattle.proof_queue.specs.Waiting.{queue_of}
 use Rattle.proof_queue.specs.Sleeping.{WaitsIn, full_for, slept, wanting}
 use Rattle.proof_queue.proofs.Joined.{joined_along}
-use Rattle.proof_queue.proofs.Pumped.{raw_wanting, since_wanting}
-use Rattle.proof_queue.proofs.Seeing.{Sights, clock_now, may_look, told_now, work}
+use Rattle.proof_queue.proofs.Pumped.{MayLook, raw_wanting, since_wanting}
+use Rattle.proof_queue.proofs.Seeing.{Sights, clock_now, may_look, risen, told_now, work}
 use Rattle.proof_queue.proofs.Sleeps.{sleep_stands}
+use Rattle.proof_queue.proofs.Ties.{time_same}
 use Rattle.proof_queue.proofs.sleeping.hosts_let_sleep_as_told.Goals as goal
 
 module _ (c : goal.After-hosts_hold_as_told) (keys : Keys) where
@@ -63,3 +67,18 @@ returns-clause-again c = λ keys taken here told m owes before run looking up ne
     let seen : Queue = with_due (heeds_alone taken) told before (asked told) q in
     lets seen (with_due (heeds_alone taken) told m.clock (asked told) q) m.state owes (work here told m looking known).host.nodes.places
     (since_wanting taken told m.clock m.state (asked told) q before up near (may_look here told m looking known) (told_now here told m looking known seen waits.0.wants_are waits.1)) waits
+
+-- the number of the tick is a step of the run
+pub returns-clause-numbers : goal.returns-clause-numbers
+returns-clause-numbers c = λ keys taken here told m run looking awaits.
+    let later : List Entry = told ++ Time m.clock ∷ [] in
+    let n : HostMachine = record m { awaits = false } in
+    let known = sights c keys here told m run in
+    let next = sights c keys here later n (Stepped Numbers (awaits, refl) refl refl run) in
+    let before : ℕ = m.clock - 1 in
+    let is : before + 1 ≡ m.clock = omega (arith, risen here told m looking known awaits) in
+    subst (λ (t : ℕ). with_due (heeds_alone taken) (told ++ Time t ∷ []) t (asked (told ++ Time t ∷ [])) (queue_of (heeds_alone taken) (told ++ Time t ∷ []))
+    ≡ with_due (heeds_alone taken) told t (asked told) (queue_of (heeds_alone taken) told)) is
+    (time_same taken told before m.state (subst (λ (t : ℕ). MayLook told t m.state) (sym is) (may_look here told m looking known))
+    (subst (λ (t : ℕ). MayLook (told ++ Time t ∷ []) t m.state) (sym is) (may_look here later n looking next))
+    (subst (λ (t : ℕ). clock (told ++ Time t ∷ []) ≡ t) (sym is) (clock_now here later n looking next refl)))
