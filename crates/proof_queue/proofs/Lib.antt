@@ -5,6 +5,16 @@ mod Refused
 mod Asking
 mod Stills
 mod Sleepers
+mod Orders
+mod Looks
+mod Tells
+mod Pumped
+mod Joined
+mod Dropping
+mod Sleeps
+mod Ending
+mod Seeing
+mod Ties
 mod Walking
 mod Along
 mod Puts
