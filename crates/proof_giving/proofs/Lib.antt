@@ -14,3 +14,4 @@ mod Along
 mod Unframed
 mod Acked
 mod Quiet
+mod Segments

@@ -1,6 +1,6 @@
 //! Whether the last request of a host has ended badly, by its transcript.
 
-ghost use Rattle.std.specs.Prelude.{◌≡◌, ◌≤◌, ◌<◌, ◌++◌, Bool, false, true, None, Some, length, List, [], ◌∷◌, ℕ};
+ghost use Rattle.std.specs.Prelude.{◌≡◌, ◌≤◌, ◌<◌, ◌+◌, ◌++◌, nat_lt, Bool, false, true, None, Some, length, List, [], ◌∷◌, ℕ};
 ghost use Rattle.std.specs.List.{AllByRecursion, list_any};
 ghost use Rattle.serial_frame.specs.Frame.{FrameParts};
 ghost use Rattle.serial_frame.specs.declared.unit.TheConstants.{ACK};
@@ -12,7 +12,9 @@ ghost use Rattle.zw_text.specs.declared.entry.Entry.TheVariants.{Said, Refused, 
 ghost use Rattle.zw_text.specs.declared.entry.Refusal.{Refusal};
 ghost use Rattle.zw_text.specs.Transcript.{line_of};
 ghost use Rattle.law_transcript.specs.Restarts.{is_restart};
-ghost use Rattle.law_time.specs.Attempts.{ends_badly, is_of_inner};
+ghost use Rattle.host_orders.specs.declared.carriage.Form.TheVariants.{Cut};
+ghost use Rattle.host_model.specs.Sessions.{segment_at, segment_count};
+ghost use Rattle.law_time.specs.Attempts.{ends_badly, is_inner, is_of_inner};
 ghost use Rattle.law_time.specs.Ends.{is_abort_frame};
 ghost use Rattle.law_time.specs.Judged.{is_data};
 ghost use Rattle.law_time.specs.Moments.{clock};
@@ -29,8 +31,8 @@ ghost use Rattle.proof_attempts.specs.proof_requests.proof_alone.Steps.{IsOfUnit
 ghost use Rattle.proof_attempts.specs.proof_requests.proof_waking.Judged.{TieFrames};
 ghost use Rattle.supervision.specs.Host.{open_session};
 ghost use Rattle.host_heard.specs.declared.told.Told.{Told};
-ghost use Rattle.law_transcript.specs.Units.{Carried};
-ghost use Rattle.law_time.specs.Sessions.{last_command};
+ghost use Rattle.law_transcript.specs.Units.{Carried, sending_in};
+ghost use Rattle.law_time.specs.Sessions.{Session, last_command};
 ghost use Rattle.host_model.specs.State.{HostState, node_of};
 ghost use Rattle.host_model.specs.After.{after};
 ghost use Rattle.host_model.specs.Events.{HostEvent};
@@ -91,4 +93,11 @@ pub fn attempts_stay_with_the_request()
         ((badly : Bool) → NodeSo (attempts_so_far (heeds_alone taken) n past) (node_of h n) time badly →
         NodeSo (attempts_so_far (heeds_alone taken) n past) (node_of g n) time badly) →
         AttemptsSo (heeds_alone taken) n later g time now }
+{}
+
+/// A frame that carries the segment at a place of a session's message is told to be followed by others just where that is not the last place.
+pub fn segments_tell_what_follows()
+    ensures { (session : Session) (k n : ℕ) (unit : List ℕ) → 1 ≤ length session.message → k < segment_count session.message →
+        sending_in unit ≡ record { node = n; payload = segment_at session.number session.message k } ∷ [] →
+        is_inner session Cut unit ≡ nat_lt (k + 1) (segment_count session.message) }
 {}
