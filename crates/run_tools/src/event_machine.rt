@@ -82,7 +82,9 @@ fn run_event(
     ensures pieces { OnOk result (out.new.items ≡ line_pieces world.old line.now) }
     ensures prefix { OnErr result ((rest : Items (Items ℕ)) × (line_pieces world.old line.now ≡ out.new.items ++ rest)) }
 {
-    out.push(said_line(alloc, line)?.as_slice())?;
+    let said = said_line(alloc, line)?;
+    let text = said.as_slice();
+    out.push(text)?;
     let mut entries = List::new(alloc);
     world.step(line, &mut entries)?;
     let told = entries.as_slice();
