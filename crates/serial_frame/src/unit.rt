@@ -68,10 +68,9 @@ fn encode_frame(alloc: Global, frame: &Frame) -> Result<Bytes, NoMemory>
     ensures fits { length frame.now.body ≤ 252 }
 {
     let body = frame.body.as_slice();
-    let head = [body.len() as u8 + 3, kind_code(frame.kind), frame.func];
-    let mut bytes = Bytes::from_slice(alloc, &[SOF])?;
-    bytes.extend(&head)?;
+    let head = [SOF, body.len() as u8 + 3, kind_code(frame.kind), frame.func];
+    let mut bytes = Bytes::from_slice(alloc, &head)?;
     bytes.extend(body)?;
-    bytes.push(xor_all(xor_all(SUM_START, &head), body))?;
+    bytes.push(xor_all(xor_all(SUM_START, &head[1..]), body))?;
     Ok(bytes)
 }
