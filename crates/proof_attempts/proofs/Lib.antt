@@ -46,3 +46,13 @@ pub use Rattle.proof_requests.proofs.Growing as proof_requests_Growing
 pub use Rattle.proof_requests.proofs.Standing as proof_requests_Standing
 pub use Rattle.proof_requests.proofs.Judging as proof_requests_Judging
 pub use Rattle.proof_requests.proofs.EndsHere as proof_requests_EndsHere
+pub use Rattle.proof_requests.proofs.proof_alone_Apart
+pub use Rattle.proof_requests.proofs.proof_waking_Judging
+pub use Rattle.proof_requests.proofs.Line
+pub use Rattle.proof_requests.proofs.OnLine
+pub use Rattle.proof_work.proofs.Doing as proof_work_Doing
+pub use Rattle.proof_work.proofs.HostOuts
+pub use Rattle.proof_requests.proofs.EndsDone
+pub use Rattle.proof_requests.proofs.Interviews
+pub use Rattle.proof_requests.proofs.EndsLate
+pub use Rattle.proof_requests.proofs.EndsTold

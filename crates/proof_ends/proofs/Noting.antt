@@ -39,16 +39,16 @@ use Rattle.host_node.specs.declared.attempt.AttemptEnd.TheVariants.{NoneRan, Aga
 use Rattle.host_model.specs.State.{HostState, node_of}
 use Rattle.host_model.specs.Sessions.{open_command}
 use Rattle.host_model.specs.Ends.{PartEnd, Good, Passed_over, Bad, asleep_entry, attempt_entries, done_of, end_entries, failed_entry, neighbours_entry, out_entry, part_end, part_entries}
-use Rattle.proof_requests.specs.law_host.Ends.{answer_to, sleep_note, sleep_notes}
-use Rattle.proof_requests.specs.Carrying.{CarriesSo}
-use Rattle.proof_requests.specs.Ends.{EndsHere, IsUntold as Untold_purpose, OwesNoEnd, TellsEnd}
-use Rattle.proof_requests.specs.Ends.OwesNoEnd.{Aborted, Apart, Unended, Untold}
-use Rattle.proof_requests.proofs.EndsDone.{ends_as_done}
-use Rattle.proof_requests.proofs.Interviews.{interviews_may}
-use Rattle.proof_attempts.specs.Carried.{CarriesWell, nodes_of}
-use Rattle.proof_attempts.proofs.Opening.{OpenLast, open_last}
-use Rattle.proof_attempts.proofs.Releasing.{opens}
-use Rattle.proof_attempts.proofs.Sleeping.{EndSo, attempt_so, tick_so}
+use Rattle.proof_rests.specs.proof_requests.law_host.Ends.{answer_to, sleep_note, sleep_notes}
+use Rattle.proof_rests.specs.proof_requests.Carrying.{CarriesSo}
+use Rattle.proof_rests.specs.proof_requests.Ends.{EndsHere, IsUntold as Untold_purpose, OwesNoEnd, TellsEnd}
+use Rattle.proof_rests.specs.proof_requests.Ends.OwesNoEnd.{Aborted, Apart, Unended, Untold}
+use Rattle.proof_rests.proofs.EndsDone.{ends_as_done}
+use Rattle.proof_rests.proofs.Interviews.{interviews_may}
+use Rattle.proof_rests.specs.proof_attempts.Carried.{CarriesWell, nodes_of}
+use Rattle.proof_rests.proofs.Opening.{OpenLast, open_last}
+use Rattle.proof_rests.proofs.Releasing.{opens}
+use Rattle.proof_rests.proofs.Sleeping.{EndSo, attempt_so, tick_so}
 use Rattle.proof_ends.specs.Ends.{AnswerNotes, DoneNotes, EndNotes, GivesUp, NotesNothing, node_asked, nodes_asked, owes_end, tells_end}
 
 -- ---- what a request is, by its purpose

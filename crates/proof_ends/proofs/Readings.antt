@@ -15,8 +15,8 @@ use Rattle.law_time.specs.Ends.{ends_here}
 use Rattle.law_time.specs.Judged.{last_of}
 use Rattle.law_time.specs.Waking.{is_awake_sleeper, nodes_told}
 use Rattle.law_time.specs.Requests.{asked}
-use Rattle.proof_requests.specs.law_host.Ends.{answer_to, sleep_note, sleep_notes}
-use Rattle.proof_attempts.proofs.Opening.{last_is}
+use Rattle.proof_rests.specs.proof_requests.law_host.Ends.{answer_to, sleep_note, sleep_notes}
+use Rattle.proof_rests.proofs.Opening.{last_is}
 use Rattle.proof_ends.specs.Ends.{AnswerNotes, DoneNotes, EndNotes, GiveUps, GivesUp, InterviewNotes, OutcomeNotes, Reads, may_stand}
 use Rattle.proof_ends.specs.Ends.GiveUps.{None_yet, One_more}
 use Rattle.proof_ends.specs.Ends.Reads.{Starts, Stands, Asks, Ends, Passes, Ticks, Ticks_late, Restarts, Refuses}

@@ -19,9 +19,9 @@ use Rattle.law_time.specs.Ends.{ends_here, has_ended, is_ending_here, is_given_u
 use Rattle.law_time.specs.Interviews.{fails, node_interviewed, succeeds}
 use Rattle.law_time.specs.Questions.{is_question}
 use Rattle.law_time.specs.Sessions.{is_open, last_command}
-use Rattle.proof_requests.specs.law_host.Ends.{answer_to, given_up_notes, sleep_notes}
-use Rattle.proof_requests.specs.law_host.Heard.{is_of_outside}
-use Rattle.proof_requests.specs.Carrying.{is_errand}
+use Rattle.proof_rests.specs.proof_requests.law_host.Ends.{answer_to, given_up_notes, sleep_notes}
+use Rattle.proof_rests.specs.proof_requests.law_host.Heard.{is_of_outside}
+use Rattle.proof_rests.specs.proof_requests.Carrying.{is_errand}
 
 -- ---- what an end has noted
 
