@@ -12,3 +12,4 @@ pub mod TurnOrder
 pub mod Staffing
 pub mod Speaking
 pub mod Staffed
+pub mod Beginning

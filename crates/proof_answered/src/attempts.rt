@@ -1,6 +1,7 @@
 //! First attempts, over quiet lines.
 
 ghost use Rattle.std.specs.Prelude.{◌≡◌, Bool, List, length, ℕ};
+ghost use Rattle.s0_crypto.specs.declared.key_pair.Keys.{Keys};
 ghost use Rattle.chip_functions.specs.declared.notice.Notice.TheVariants.{SendData};
 ghost use Rattle.chip_functions.specs.declared.notice.TransmitStatus.TheVariants.{CompleteOk};
 ghost use Rattle.chip_sim.specs.Answers.{notice_frame};
@@ -9,7 +10,7 @@ ghost use Rattle.host_requests.specs.declared.under_way.UnderWay.{UnderWay};
 ghost use Rattle.host_node.specs.Steps.{after_sign};
 ghost use Rattle.host_model.specs.Did.{after_all as after_events};
 ghost use Rattle.host_model.specs.Events.{HostEvent};
-ghost use Rattle.host_model.specs.State.{HostState, node_of, with_node};
+ghost use Rattle.host_model.specs.State.{HostState, first_host, node_of, with_node};
 ghost use Rattle.world_model.specs.Did.{AllAlong};
 ghost use Rattle.world_model.specs.State.{Machine};
 ghost use Rattle.world_lines.specs.Spoken.{Spoken, after_all, transcript_of};
@@ -35,6 +36,7 @@ pub fn attempts_stay_first()
     ensures well { (h : HostState) (u : UnderWay) (n : ℕ) (more : Bool) (payload : List ℕ) (events : List HostEvent) → IsSending u h →
         u.purpose ≡ Attempt n more payload → FrameFollows h (notice_frame (SendData h.requests.last_id CompleteOk)) events →
         (after_events h events).nodes ≡ (with_node h n (after_sign (node_of h n))).nodes }
+    ensures first { (keys : Keys) → AllFirst (first_host keys) }
     ensures walk { WalkWhere (AndInTime IsHeardThen) AsksNothing (KnowFirst IsStretched KnowHeard) }
     ensures listening { (these : List Bool) → length these ≡ 233 →
         WalkWhere (AndInTime (IsSentTo these)) AsksNothing (KnowFirst IsStretched (KnowListening these)) }

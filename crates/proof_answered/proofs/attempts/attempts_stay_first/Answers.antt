@@ -9,6 +9,7 @@ use Rattle.proof_answered.specs.FirstAttempts.{IsInTime, KnowFirst}
 use Rattle.proof_answered.specs.Heard.{IsHeardThen, KnowHeard}
 use Rattle.proof_answered.specs.Outward.{IsSentTo, KnowListening, KnowNetwork}
 use Rattle.proof_answered.proofs.AttemptEnds.{call_signs}
+use Rattle.proof_answered.proofs.Beginning.{first_attempts}
 use Rattle.proof_answered.proofs.FirstWalk.{IsOfStretch, any_stretch, first_walk, first_walk_freely}
 use Rattle.proof_answered.proofs.HeardCalls.{rests_heard}
 use Rattle.proof_answered.proofs.Staffed.{worked_before}
@@ -20,6 +21,9 @@ worked these = record { before = worked_before these; stretched = λ past is. is
 
 pub returns-clause-well : goal.returns-clause-well
 returns-clause-well c = call_signs
+
+pub returns-clause-first : goal.returns-clause-first
+returns-clause-first c = first_attempts
 
 pub returns-clause-walk : goal.returns-clause-walk
 returns-clause-walk c = first_walk airs IsHeardThen IsStretched any_stretch KnowHeard c.payloads_are_heard.ensures.walk (λ here past m known is. known is)

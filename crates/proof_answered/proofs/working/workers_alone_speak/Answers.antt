@@ -4,10 +4,14 @@ use Rattle.proof_calm.proofs.Lines.{lines_lead}
 use Rattle.proof_calm.specs.proof_work.Phases.{AsksNothing}
 use Rattle.proof_calm.proofs.proof_traffic_Parts.{Airs}
 use Rattle.proof_answered.specs.Workers.{KnowStaff}
+use Rattle.proof_answered.proofs.Beginning.{first_speak, first_staffed}
 use Rattle.proof_answered.proofs.HeardCalls.{rests_heard}
 use Rattle.proof_answered.proofs.Staffed.{staff_walk}
 use Rattle.proof_answered.proofs.Walking.{begins_known}
 use Rattle.proof_answered.proofs.working.workers_alone_speak.Goals as goal
+
+pub returns-clause-first : goal.returns-clause-first
+returns-clause-first c = λ these keys records devices idle. (first_staffed these keys, first_speak these c.frames_fly_in_order.ensures.first keys records devices idle)
 
 pub returns-clause-walk : goal.returns-clause-walk
 returns-clause-walk c = λ these many. staff_walk airs c.devices_stay_the_same.ensures.event these many (c.workers_hear.ensures.walk these many)
