@@ -1,4 +1,4 @@
--- At each step of a host alone its nonces count on, and each opens one payload at most.
+-- At each step of a host alone its nonces count on, and what opens, opens for one with a number above.
 use Rattle.std.proofs.Common.{◌≡◌, ◌⊎◌, ℕ, ◌≤◌, ◌<◌, not, Bool, true, false, if◌then◌else◌, inl, inr, List, [], ◌∷◌, ◌++◌, length, length-append, refl, sym, ap, ap₂, ◌∙◌, subst, append-nil, append_assoc, suc, arith}
 use Rattle.std.specs.Prelude.{Option, Some, None}
 use Rattle.std.specs.List.{AllByRecursion, flat_map}

@@ -9,3 +9,5 @@ mod Accounts
 mod Reports
 mod Opening
 mod Counting
+mod Standing
+mod Unsealed

@@ -1,4 +1,4 @@
--- Which nonces the host gives, and for which of them what nodes seal opens (Security 0 Command Class; that nonces count on, and that one opens one message, is this project's own rule).
+-- Which nonces the host gives, and for which of them what nodes seal opens (Security 0 Command Class; that nonces count on is this project's own rule).
 use Rattle.std.specs.Prelude.{◌≡◌, ℕ, ◌<◌, ◌≤◌, if◌then◌else◌, Bool, List, [], ◌∷◌, ◌++◌, length, filter, map, ⊤}
 use Rattle.std.specs.List.{AllByRecursion}
 use Rattle.s0_crypto.specs.declared.key_pair.Keys.{Keys}
@@ -102,7 +102,7 @@ MayTell keys drawn openings past entry = ⊤
 -- ---- the law
 
 -- Nonces have numbers, by which their first bytes count, and seven bytes that were drawn; each Nonce Report gives one, with no number below those that its node was given before. What a node
--- seals opens for such a nonce, each time for one with a number above those for which it opened before.
+-- seals opens for such a nonce, each time for one with a number above those for which it opened before. Numbers may be passed over, and two may have the same bytes.
 pub record CountsNonces (keys : Keys) (transcript : List Entry) : Type 0 where
   pub drawn : ℕ → ℕ → List ℕ
   pub seven : (node number : ℕ) → length (drawn node number) ≡ 7

@@ -25,7 +25,8 @@ use proof_messages::hosts_leave_nonces;
 /// In any run of a host alone, also where it starts again, over a keeper that tells its records and has none at first: its nonces have numbers, by which their
 /// first bytes count, and seven bytes that were drawn for each. Each Nonce Report that it asks its chip to send gives one, with no number below those that it
 /// asked to give that node before. And where it notes what a sealed payload tells, that opened with the host's keys for a nonce of its node with a number above
-/// those for which payloads of that node opened before: so each opens one payload at most.
+/// those for which payloads of that node opened before: so the nonce of one number opens one payload at most. The numbers have no bound here, and two
+/// may have the same bytes.
 pub fn hosts_count_nonces()
     ensures told { (keys : Keys) (told : List Entry) → Told (first_alone keys (Some [])) told → CountsNonces keys told }
     ensures known { (keys : Keys) (here : Phase) (told : List Entry) (m : HostMachine) → Run (first_alone keys (Some [])) here told m → KnowsNonces keys here told m }

@@ -1,16 +1,19 @@
 //! The nonces of a host alone, by its transcript.
 //!
 //! Each message that a host asks its chip to send sealed is sealed for a nonce that its node told after the host had asked for one, and nothing else was sealed
-//! for that node since (`hosts_seal_once`). The nonces that the host gives have numbers; each Nonce Report gives one, in order, and each opens one payload at
-//! most (`hosts_count_nonces`). So it is of all lines (`lines_seal_once`, `lines_count_nonces`).
-//! The definitions are in `specs/`: `Sealing` and `Giving` (the laws), `Known` and `Counted` (what is known at each phase). `proofs/Payloads` has which payloads
-//! are of Security 0, `Queued` what waits to be asked, `Since` what stays with further entries, `Taking` where a nonce is taken, and `Walking` the walk over
-//! what is sealed. `Ordered` has lists in order, `Accounts` the nonces that are given and drawn, `Reports` those that are sent and wait, `Opening` what was
-//! judged and opened, and `Counting` the walk over them; `Grounds` is what both walks stand on.
+//! for that node since (`hosts_seal_once`). The nonces that the host gives have numbers; each Nonce Report gives one, in order, and the nonce of a number
+//! opens one payload at most (`hosts_count_nonces`). So it is of all lines (`lines_seal_once`, `lines_count_nonces`).
+//! The definitions are in `specs/`: `Sealing` and `Giving` (the laws), `Known` and `Counted` (what is known at each phase). `proofs/Payloads` has which
+//! payloads are of Security 0, `Queued` what waits to be asked, `Since` what stays with further entries, `Taking` where a nonce is taken, and `Walking`
+//! the walk over what is sealed. `Ordered` has lists in order, `Accounts` the nonces that are given and drawn, `Reports` those that are sent and wait,
+//! `Opening` what was judged and opened, and `Counting` the walk over them; `Grounds` is what both walks need. `Standing` computes whether a
+//! question stands, and `Unsealed` that nothing is sealed, for a rejected and a worked transcript (`rejected_seals`, `worked_seals`).
 #![tactic(auto)]
 
 mod giving;
 mod sealing;
+mod worked;
 
 pub use giving::{hosts_count_nonces, lines_count_nonces};
 pub use sealing::{hosts_seal_once, lines_seal_once};
+pub use worked::{rejected_seals, worked_seals};

@@ -1,3 +1,4 @@
 pub mod Waiting
 pub mod Heeding
 pub mod Turn
+pub mod Sleeping

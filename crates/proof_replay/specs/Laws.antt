@@ -67,7 +67,7 @@ QueuesByMessages heard = (taken : List Entry → Carried → List Told) × FitsQ
 -- The number of a tick is above those before it, and lines have asked for so many ticks.
 -- Each payload that it asks its chip to send is a message of the last session of its node, by what the node listed, a nonce or a question for one, lets the node sleep, or was
 -- asked for by a line; where its keys are those of a network key, by what nodes told openly or sealed with that key.
--- Each message that it seals is for a nonce that its node told since it was asked, and none serves twice; and each nonce that it gives opens one payload at most, in order.
+-- Each message that it seals is for a nonce that its node told since it was asked, each question serving once; and the nonces that it gives, and those for which it opens, have numbers in order.
 -- Its link kept the rules of the serial line, a new one from each start on.
 pub record HostsKeepLaws (keys : Keys) (whole : Bool) (heard : List Entry) (records : Option (List (List ℕ))) : Type 0 where
   pub orders : HostLaws heard
