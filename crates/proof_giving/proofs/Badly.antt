@@ -11,7 +11,7 @@ use Rattle.proof_queue.specs.proof_attempts.proof_requests.Asking.{EndedByFrame,
 use Rattle.proof_queue.specs.proof_attempts.proof_requests.Standing.{Standing, ending_in, failing_in, first_ending, giving_up_in, sent_in, responses_in, silence_in, standing_of, wait_in, with_answer, with_copy, with_judging}
 use Rattle.proof_queue.proofs.proof_requests_Ended.{copy_stands, frame_answered, frame_judged, gave_up, given_up_later, line_answered, line_judged, sent_copied, silence_answered, silence_judged}
 use Rattle.proof_queue.proofs.proof_requests_Judging.{ending_kept}
-use Rattle.proof_queue.proofs.Ending.{frame_ending, line_gives, silence_is}
+use Rattle.proof_queue.proofs.proof_attempts_Ending.{frame_ending, line_gives, silence_is}
 
 pub last_true : (a b c : Bool) → c ≡ true → (a || b || c) ≡ true
 last_true true b c is = refl

@@ -33,4 +33,4 @@ pub use Rattle.proof_attempts.proofs.Telling
 pub use Rattle.proof_attempts.proofs.proof_requests_EndsHere
 pub use Rattle.proof_attempts.proofs.proof_requests_Judging
 pub use Rattle.proof_attempts.proofs.proof_requests_Ended
-pub use Rattle.proof_attempts.proofs.Ending
+pub use Rattle.proof_attempts.proofs.Ending as proof_attempts_Ending
