@@ -18,10 +18,10 @@ use Rattle.host_node.specs.State.{NodeState}
 use Rattle.host_node.specs.Steps.{after_sign}
 use Rattle.host_node.specs.declared.series.Series.{Series}
 use Rattle.host_node.specs.declared.series.Series.TheVariants.{Idle, Due, Running}
-use Rattle.proof_attempts.specs.Attempts.{LastIs}
-use Rattle.proof_attempts.specs.proof_requests.law_host.Heard.{heeds_alone}
-use Rattle.proof_attempts.specs.proof_requests.proof_alone.Steps.{IsOfUnit}
-use Rattle.proof_attempts.proofs.proof_requests_Telling.{clock_same}
+use Rattle.proof_queue.specs.proof_attempts.Attempts.{LastIs}
+use Rattle.proof_queue.specs.proof_attempts.proof_requests.law_host.Heard.{heeds_alone}
+use Rattle.proof_queue.specs.proof_attempts.proof_requests.proof_alone.Steps.{IsOfUnit}
+use Rattle.proof_queue.proofs.proof_requests_Telling.{clock_same}
 use Rattle.proof_giving.specs.Told.{LeavesAttempts, attempts_so_far}
 use Rattle.proof_giving.specs.Tie.{NodeSo}
 use Rattle.proof_giving.proofs.Asking.{mark_leaves}

@@ -14,8 +14,8 @@ use Rattle.host_node.specs.State.{NodeState, is_idle}
 use Rattle.host_node.specs.declared.series.Series.{Series}
 use Rattle.host_node.specs.declared.series.Series.TheVariants.{Idle, Due, Running}
 use Rattle.host_model.specs.State.{HostState, node_of}
-use Rattle.proof_attempts.specs.Attempts.{LastIs, has_ended_badly}
-use Rattle.proof_attempts.specs.proof_requests.law_host.Heard.{heeds_alone}
+use Rattle.proof_queue.specs.proof_attempts.Attempts.{LastIs, has_ended_badly}
+use Rattle.proof_queue.specs.proof_attempts.proof_requests.law_host.Heard.{heeds_alone}
 use Rattle.proof_queue.proofs.Segments.{Shows}
 use Rattle.proof_giving.specs.Told.{attempts_so_far}
 use Rattle.proof_giving.specs.Stays.{ShowsSessions, Stays}

@@ -44,21 +44,21 @@ use Rattle.host_model.specs.Outs.{outs}
 use Rattle.host_model.specs.Pumping.{IsNext}
 use Rattle.host_model.specs.declared.out.HostOut.{HostOut}
 use Rattle.host_model.specs.declared.out.HostOut.TheVariants.{Write}
-use Rattle.proof_attempts.specs.proof_requests.law_host.Heard.{heeds_alone}
-use Rattle.proof_attempts.specs.proof_requests.proof_alone.State.{HostMachine}
-use Rattle.proof_attempts.specs.proof_requests.proof_alone.Steps.{AreTold, IsOfUnit}
-use Rattle.proof_attempts.specs.proof_requests.proof_alone.Phases.{Submitting, IsNumbered}
-use Rattle.proof_attempts.specs.proof_requests.Asking.{doing_of}
-use Rattle.proof_attempts.specs.proof_requests.Walking.{Ground, IsRead, IsTied, ReadsAs}
-use Rattle.proof_attempts.proofs.Queued.{PayloadsBring}
-use Rattle.proof_attempts.proofs.Stepping.{event_is_read, time_told}
-use Rattle.proof_attempts.proofs.Walking.{is_fresh, written_told}
-use Rattle.proof_attempts.proofs.AttemptsGo.{begins, goes_further, other_asked}
-use Rattle.proof_attempts.proofs.Wrote.{front_now}
-use Rattle.proof_attempts.proofs.proof_requests_Growing.{asked_new}
-use Rattle.proof_attempts.proofs.proof_requests_Telling.{quiet_on}
-use Rattle.proof_attempts.proofs.Doings.{did, does_at, node_after}
-use Rattle.proof_attempts.specs.Attempts.{AreAttempts, has_ended_badly, is_over_by}
+use Rattle.proof_queue.specs.proof_attempts.proof_requests.law_host.Heard.{heeds_alone}
+use Rattle.proof_queue.specs.proof_attempts.proof_requests.proof_alone.State.{HostMachine}
+use Rattle.proof_queue.specs.proof_attempts.proof_requests.proof_alone.Steps.{AreTold, IsOfUnit}
+use Rattle.proof_queue.specs.proof_attempts.proof_requests.proof_alone.Phases.{Submitting, IsNumbered}
+use Rattle.proof_queue.specs.proof_attempts.proof_requests.Asking.{doing_of}
+use Rattle.proof_queue.specs.proof_attempts.proof_requests.Walking.{Ground, IsRead, IsTied, ReadsAs}
+use Rattle.proof_queue.proofs.Queued.{PayloadsBring}
+use Rattle.proof_queue.proofs.Stepping.{event_is_read, time_told}
+use Rattle.proof_queue.proofs.proof_attempts_Walking.{is_fresh, written_told}
+use Rattle.proof_queue.proofs.AttemptsGo.{begins, goes_further, other_asked}
+use Rattle.proof_queue.proofs.Wrote.{front_now}
+use Rattle.proof_queue.proofs.proof_requests_Growing.{asked_new}
+use Rattle.proof_queue.proofs.proof_requests_Telling.{quiet_on}
+use Rattle.proof_queue.proofs.Doings.{did, does_at, node_after}
+use Rattle.proof_queue.specs.proof_attempts.Attempts.{AreAttempts, has_ended_badly, is_over_by}
 use Rattle.proof_queue.specs.Waiting.{want_of_task}
 use Rattle.proof_queue.proofs.Books.{last_is}
 use Rattle.proof_giving.specs.Told.{LeavesAttempts, attempts_so_far}

@@ -15,11 +15,11 @@ use Rattle.host_node.specs.Facts.{NodeFacts, SeriesFacts}
 use Rattle.host_node.specs.declared.series.Series.{Series}
 use Rattle.host_node.specs.declared.series.Series.TheVariants.{Idle, Due, Running}
 use Rattle.host_model.specs.State.{HostState, node_of}
-use Rattle.proof_attempts.specs.Attempts.{begun_of, has_ended_badly, is_over_by}
-use Rattle.proof_attempts.specs.proof_requests.Asking.{TieAsked, doing_of}
-use Rattle.proof_attempts.specs.proof_requests.proof_alone.Steps.{AreFrames}
-use Rattle.proof_attempts.proofs.AttemptsGo.{running_not_over, unended_well}
-use Rattle.proof_attempts.proofs.Late.{unended_at}
+use Rattle.proof_queue.specs.proof_attempts.Attempts.{begun_of, has_ended_badly, is_over_by}
+use Rattle.proof_queue.specs.proof_attempts.proof_requests.Asking.{TieAsked, doing_of}
+use Rattle.proof_queue.specs.proof_attempts.proof_requests.proof_alone.Steps.{AreFrames}
+use Rattle.proof_queue.proofs.AttemptsGo.{running_not_over, unended_well}
+use Rattle.proof_queue.proofs.Late.{unended_at}
 use Rattle.proof_giving.specs.Told.{attempts_so_far}
 use Rattle.proof_giving.specs.Tie.{AttemptsSo, is_badly_over}
 use Rattle.proof_giving.proofs.Asking.{over_as}

@@ -7,11 +7,11 @@ use Rattle.law_transcript.specs.Units.{is_frame, notice_in}
 use Rattle.law_time.specs.Attempts.{ends_badly, is_bad}
 use Rattle.law_time.specs.Ends.{is_abort_frame, is_before_failing, wait_by, waits_before_failing}
 use Rattle.law_time.specs.Requests.{Answer, Asked, Judging, are_none}
-use Rattle.proof_attempts.specs.proof_requests.Asking.{EndedByFrame, EndedByLine, EndedInSilence, HasEnded, Leaving}
-use Rattle.proof_attempts.specs.proof_requests.Standing.{Standing, ending_in, failing_in, first_ending, giving_up_in, sent_in, responses_in, silence_in, standing_of, wait_in, with_answer, with_copy, with_judging}
-use Rattle.proof_attempts.proofs.proof_requests_Ended.{copy_stands, frame_answered, frame_judged, gave_up, given_up_later, line_answered, line_judged, sent_copied, silence_answered, silence_judged}
-use Rattle.proof_attempts.proofs.proof_requests_Judging.{ending_kept}
-use Rattle.proof_attempts.proofs.Ending.{frame_ending, line_gives, silence_is}
+use Rattle.proof_queue.specs.proof_attempts.proof_requests.Asking.{EndedByFrame, EndedByLine, EndedInSilence, HasEnded, Leaving}
+use Rattle.proof_queue.specs.proof_attempts.proof_requests.Standing.{Standing, ending_in, failing_in, first_ending, giving_up_in, sent_in, responses_in, silence_in, standing_of, wait_in, with_answer, with_copy, with_judging}
+use Rattle.proof_queue.proofs.proof_requests_Ended.{copy_stands, frame_answered, frame_judged, gave_up, given_up_later, line_answered, line_judged, sent_copied, silence_answered, silence_judged}
+use Rattle.proof_queue.proofs.proof_requests_Judging.{ending_kept}
+use Rattle.proof_queue.proofs.proof_attempts_Ending.{frame_ending, line_gives, silence_is}
 
 pub last_true : (a b c : Bool) → c ≡ true → (a || b || c) ≡ true
 last_true true b c is = refl

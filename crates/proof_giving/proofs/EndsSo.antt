@@ -28,13 +28,13 @@ use Rattle.host_requests.specs.declared.end.How.{How}
 use Rattle.host_requests.specs.declared.end.How.TheVariants.{AtCallback, AtResponse, AtUpdate, Refused, Silent, LinkFailed, AbortSent}
 use Rattle.host_requests.specs.declared.task.Purpose.TheVariants.{Attempt, Abort}
 use Rattle.host_model.specs.Ends.{part_end}
-use Rattle.proof_attempts.specs.proof_requests.Asking.{WasAsked}
-use Rattle.proof_attempts.specs.proof_requests.Ends.{EndsHere, EndsHow}
-use Rattle.proof_attempts.specs.proof_requests.Standing.{Standing, ending_in, ends_now, failing_in, first_ending, standing_of, wait_in, with_judging}
-use Rattle.proof_attempts.specs.proof_requests.proof_alone.Steps.{IsOfUnit}
-use Rattle.proof_attempts.specs.proof_requests.proof_waking.Judged.{TieFrames}
-use Rattle.proof_attempts.proofs.proof_requests_EndsHere.{frame_here}
-use Rattle.proof_attempts.proofs.proof_requests_Judging.{ending_judged}
+use Rattle.proof_queue.specs.proof_attempts.proof_requests.Asking.{WasAsked}
+use Rattle.proof_queue.specs.proof_attempts.proof_requests.Ends.{EndsHere, EndsHow}
+use Rattle.proof_queue.specs.proof_attempts.proof_requests.Standing.{Standing, ending_in, ends_now, failing_in, first_ending, standing_of, wait_in, with_judging}
+use Rattle.proof_queue.specs.proof_attempts.proof_requests.proof_alone.Steps.{IsOfUnit}
+use Rattle.proof_queue.specs.proof_attempts.proof_requests.proof_waking.Judged.{TieFrames}
+use Rattle.proof_queue.proofs.proof_requests_EndsHere.{frame_here}
+use Rattle.proof_queue.proofs.proof_requests_Judging.{ending_judged}
 use Rattle.proof_giving.specs.Tie.{is_bad_part}
 use Rattle.proof_giving.proofs.Badly.{badly_in, by_ending, is_bad_end, last_true, mid_true}
 use Rattle.proof_giving.proofs.Stays.{judged_stands, judging_of}

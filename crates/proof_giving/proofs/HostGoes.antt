@@ -23,11 +23,11 @@ use Rattle.host_model.specs.State.{HostState, node_of}
 use Rattle.host_model.specs.Sessions.{open_command}
 use Rattle.host_model.specs.Ends.{PartEnd, Good, Passed_over, Bad, asleep_entry, attempt_entries, end_entries, end_entries_if, failed_entry, neighbours_entry, part_end, part_entries, task_entries}
 use Rattle.host_model.specs.Facts.{HostFacts}
-use Rattle.proof_attempts.specs.Attempts.{is_over_by}
-use Rattle.proof_attempts.proofs.Doings.{does_at, end_does, part_does, purpose_does, task_does}
-use Rattle.proof_attempts.proofs.Nodes.{ends_by, ran}
-use Rattle.proof_attempts.proofs.Opening.{open_last}
-use Rattle.proof_attempts.proofs.SeriesGoes.{lasts_of, opened_by, others_by}
+use Rattle.proof_queue.specs.proof_attempts.Attempts.{is_over_by}
+use Rattle.proof_queue.proofs.Doings.{does_at, end_does, part_does, purpose_does, task_does}
+use Rattle.proof_queue.proofs.Nodes.{ends_by, ran}
+use Rattle.proof_queue.proofs.Opening.{open_last}
+use Rattle.proof_queue.proofs.SeriesGoes.{lasts_of, opened_by, others_by}
 use Rattle.proof_giving.specs.Tie.{NodeSo, anew_step, is_bad_for, is_bad_of, is_bad_part, is_good, is_good_for, is_good_of, is_third}
 use Rattle.proof_giving.proofs.NodesGo.{attempt_tick_so, badly_so, either_so, end_so, same_so, sleep_so, waits_tick_so}
 

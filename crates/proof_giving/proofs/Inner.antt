@@ -25,8 +25,8 @@ use Rattle.host_model.specs.Sessions.{command_by, message_for, open_command}
 use Rattle.host_model.specs.Facts.{HostFacts, IsCommandOf}
 use Rattle.host_keep.specs.Kept.{Taken}
 use Rattle.proof_host.specs.Tables.{taken_at, taken_by}
-use Rattle.proof_attempts.specs.proof_requests.law_host.Heard.{heeds_alone, listing_heard}
-use Rattle.proof_attempts.proofs.Opening.{OpenLast, open_last}
+use Rattle.proof_queue.specs.proof_attempts.proof_requests.law_host.Heard.{heeds_alone, listing_heard}
+use Rattle.proof_queue.proofs.Opening.{OpenLast, open_last}
 use Rattle.proof_queue.proofs.Kept.{BookKept}
 use Rattle.proof_queue.proofs.Segments.{Shows, open_is_last}
 use Rattle.host_heard.specs.declared.told.Told.{Told}

@@ -9,8 +9,8 @@ use Rattle.host_node.specs.declared.series.Series.{Series}
 use Rattle.host_node.specs.declared.series.Series.TheVariants.{Idle, Due, Running}
 use Rattle.host_node.specs.State.{NodeState, has_waiting, is_idle, is_open, is_running, is_up}
 use Rattle.host_node.specs.Steps.{after_again, after_again_tick, after_attempt_end, after_attempt_tick, after_attempts, after_begin, after_hold_tick, after_nonce, after_occasion, after_restart, after_sign, after_sleep, as_recorded, asleep, new_series, next_due, series_over, with_again, with_final, with_wait, without_attempt}
-use Rattle.proof_attempts.specs.Attempts.{AreAttempts, GoesOn, LastIs, begun_of, is_over_by}
-use Rattle.proof_attempts.proofs.AttemptsGo.{begun_as, gives_sign, is_kept_late, is_next_due, over_later, running_goes, running_not_over, sign_less, ticks}
+use Rattle.proof_queue.specs.proof_attempts.Attempts.{AreAttempts, GoesOn, LastIs, begun_of, is_over_by}
+use Rattle.proof_queue.proofs.AttemptsGo.{begun_as, gives_sign, is_kept_late, is_next_due, over_later, running_goes, running_not_over, sign_less, ticks}
 use Rattle.proof_giving.specs.Tie.{NodeSo, SentAs, is_third}
 
 -- ---- nodes of one series

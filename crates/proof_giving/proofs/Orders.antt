@@ -30,7 +30,7 @@ use Rattle.s0_session.specs.Nonces.{live_of}
 use Rattle.serial_link.specs.State.{tick_side}
 use Rattle.proof_host.proofs.Commands.{taken_pushed, taken_set}
 use Rattle.proof_host.specs.Tables.{taken_at}
-use Rattle.proof_attempts.proofs.Doings.{Doing, did, does_at, end_does, failing_does, held_does, node_after, part_does, purpose_does, task_does}
+use Rattle.proof_queue.proofs.Doings.{Doing, did, does_at, end_does, failing_does, held_does, node_after, part_does, purpose_does, task_does}
 use Rattle.proof_giving.specs.Stays.{KeepsSessions, NoSession}
 use Rattle.proof_queue.proofs.Kept.{BookKept, book_same, occasion_kept, room_keeps, sign_kept, told_kept}
 

@@ -15,9 +15,9 @@ use Rattle.law_time.specs.Sessions.{is_last_command}
 use Rattle.host_model.specs.declared.out.HostOut.{HostOut}
 use Rattle.host_model.specs.declared.out.HostOut.TheVariants.{Note, Write}
 use Rattle.proof_host.specs.Entries.{notes_of}
-use Rattle.proof_attempts.specs.proof_requests.law_host.Heard.{heeds_alone}
-use Rattle.proof_attempts.specs.proof_requests.proof_alone.Steps.{AreTold, IsOfUnit}
-use Rattle.proof_attempts.proofs.Telling.{same_sessions_by}
+use Rattle.proof_queue.specs.proof_attempts.proof_requests.law_host.Heard.{heeds_alone}
+use Rattle.proof_queue.specs.proof_attempts.proof_requests.proof_alone.Steps.{AreTold, IsOfUnit}
+use Rattle.proof_queue.proofs.Telling.{same_sessions_by}
 use Rattle.proof_giving.specs.Told.{GoesAlong, attempts_so_far}
 use Rattle.proof_giving.specs.Tie.{anew_step}
 use Rattle.proof_giving.proofs.Told.{attempts_again, attempts_one, node_is}

@@ -28,14 +28,14 @@ use Rattle.host_model.specs.Events.{Begins}
 use Rattle.world_model.specs.Events.{OpensFrom}
 use Rattle.host_model.specs.State.{HostState, node_of}
 use Rattle.host_model.specs.Facts.{HostFacts}
-use Rattle.proof_attempts.specs.Attempts.{IsSign, LastIs, has_ended_badly}
-use Rattle.proof_attempts.specs.proof_requests.Asking.{Doing}
-use Rattle.proof_attempts.specs.proof_requests.Standing.{IsAside, with_entries}
-use Rattle.proof_attempts.specs.proof_requests.law_host.Heard.{heeds_alone}
-use Rattle.proof_attempts.specs.proof_requests.proof_waking.Judged.{TieFrames}
-use Rattle.proof_attempts.proofs.AttemptsGo.{over_later}
-use Rattle.proof_attempts.proofs.proof_requests_Growing.{asked_in_vain, asked_on, asked_said}
-use Rattle.proof_attempts.proofs.proof_requests_Telling.{quiet_on}
+use Rattle.proof_queue.specs.proof_attempts.Attempts.{IsSign, LastIs, has_ended_badly}
+use Rattle.proof_queue.specs.proof_attempts.proof_requests.Asking.{Doing}
+use Rattle.proof_queue.specs.proof_attempts.proof_requests.Standing.{IsAside, with_entries}
+use Rattle.proof_queue.specs.proof_attempts.proof_requests.law_host.Heard.{heeds_alone}
+use Rattle.proof_queue.specs.proof_attempts.proof_requests.proof_waking.Judged.{TieFrames}
+use Rattle.proof_queue.proofs.AttemptsGo.{over_later}
+use Rattle.proof_queue.proofs.proof_requests_Growing.{asked_in_vain, asked_on, asked_said}
+use Rattle.proof_queue.proofs.proof_requests_Telling.{quiet_on}
 use Rattle.proof_giving.specs.Told.{LeavesAttempts, attempts_so_far}
 use Rattle.proof_giving.specs.Stays.{KeepsSessions, ShowsSessions}
 use Rattle.proof_giving.specs.Tie.{AttemptsSo, IsOver, NodeSo, is_badly_over}
@@ -44,8 +44,8 @@ use Rattle.proof_giving.proofs.Stays.{stays_answered, stays_in_vain, stays_on, s
 use Rattle.proof_giving.proofs.Told.{attempts_in_vain, attempts_left, attempts_one, attempts_said, attempts_start, node_is}
 use Rattle.proof_giving.proofs.NodesGo.{begin_so, idle_so, restart_so}
 use Rattle.proof_giving.proofs.Orders.{orders_kept}
-use Rattle.proof_attempts.proofs.Counting.{each_restarts}
-use Rattle.proof_attempts.proofs.Doings.{node_after}
+use Rattle.proof_queue.proofs.Counting.{each_restarts}
+use Rattle.proof_queue.proofs.Doings.{node_after}
 
 -- ---- time
 

@@ -18,14 +18,14 @@ use Rattle.law_time.specs.Ends.{is_abort_frame}
 use Rattle.law_time.specs.Judged.{acknowledged, frames_come, is_data, judged, last_of}
 use Rattle.law_time.specs.Moments.{clock}
 use Rattle.law_time.specs.Requests.{Answer, Asked, Judging, asked, is_answer}
-use Rattle.proof_attempts.specs.proof_requests.Asking.{Doing, TieAsked, TieUnderWay, WasAsked}
-use Rattle.proof_attempts.specs.proof_requests.Standing.{IsAside, Standing, standing_of, with_answer, with_entries, with_judging}
-use Rattle.proof_attempts.specs.proof_requests.proof_alone.Steps.{IsOfUnit}
-use Rattle.proof_attempts.specs.proof_requests.proof_waking.Judged.{TieFrames, frames_of}
-use Rattle.proof_attempts.proofs.proof_requests_Growing.{asked_in_vain, asked_on, asked_said}
-use Rattle.proof_attempts.proofs.proof_requests_Standing.{stands_answered, stands_aside, stands_judged}
-use Rattle.proof_attempts.proofs.proof_requests_Telling.{IsQuiet, mark_quiet, quiet_asides, quiet_on}
-use Rattle.proof_attempts.proofs.proof_waking_Apart.{acknowledged_frames}
+use Rattle.proof_queue.specs.proof_attempts.proof_requests.Asking.{Doing, TieAsked, TieUnderWay, WasAsked}
+use Rattle.proof_queue.specs.proof_attempts.proof_requests.Standing.{IsAside, Standing, standing_of, with_answer, with_entries, with_judging}
+use Rattle.proof_queue.specs.proof_attempts.proof_requests.proof_alone.Steps.{IsOfUnit}
+use Rattle.proof_queue.specs.proof_attempts.proof_requests.proof_waking.Judged.{TieFrames, frames_of}
+use Rattle.proof_queue.proofs.proof_requests_Growing.{asked_in_vain, asked_on, asked_said}
+use Rattle.proof_queue.proofs.proof_requests_Standing.{stands_answered, stands_aside, stands_judged}
+use Rattle.proof_queue.proofs.proof_requests_Telling.{IsQuiet, mark_quiet, quiet_asides, quiet_on}
+use Rattle.proof_queue.proofs.proof_waking_Apart.{acknowledged_frames}
 use Rattle.proof_giving.specs.Tie.{IsOver}
 use Rattle.proof_giving.proofs.Badly.{badly_answered, badly_in, badly_judged, badly_later}
 

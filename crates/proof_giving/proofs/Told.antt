@@ -16,9 +16,9 @@ use Rattle.law_time.specs.Judged.{is_acknowledgement}
 use Rattle.law_time.specs.Moments.{clock}
 use Rattle.law_time.specs.Queue.{Requests, no_requests, requests, requests_after, requests_from}
 use Rattle.law_time.specs.Requests.{Asked, are_none, is_new}
-use Rattle.proof_attempts.specs.Series.{IsOfNoLine}
-use Rattle.proof_attempts.specs.proof_requests.law_host.Heard.{heeds_alone}
-use Rattle.proof_attempts.proofs.Ahead.{ahead_from, ahead_joined}
+use Rattle.proof_queue.specs.proof_attempts.Series.{IsOfNoLine}
+use Rattle.proof_queue.specs.proof_attempts.proof_requests.law_host.Heard.{heeds_alone}
+use Rattle.proof_queue.proofs.Ahead.{ahead_from, ahead_joined}
 use Rattle.proof_queue.proofs.Books.{same_step}
 use Rattle.proof_giving.specs.Told.{LeavesAttempts, attempts_from, attempts_so_far}
 

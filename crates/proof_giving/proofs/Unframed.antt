@@ -26,8 +26,8 @@ use Rattle.host_model.specs.Ends.{PartEnd, Bad, part_end}
 use Rattle.host_model.specs.Events.{Requests_do}
 use Rattle.host_model.specs.Facts.{HostFacts}
 use Rattle.host_model.specs.Outs.{request_entries}
-use Rattle.proof_attempts.specs.Attempts.{has_ended_badly, is_over_by}
-use Rattle.proof_attempts.specs.proof_requests.law_host.Heard.{heeds_alone}
+use Rattle.proof_queue.specs.proof_attempts.Attempts.{has_ended_badly, is_over_by}
+use Rattle.proof_queue.specs.proof_attempts.proof_requests.law_host.Heard.{heeds_alone}
 use Rattle.proof_giving.specs.Told.{GoesAlong, attempts_so_far}
 use Rattle.proof_giving.specs.Tie.{AttemptsSo, IsNoAbort, NodeSo, anew_step, is_bad_for, is_bad_of, is_bad_part, is_badly_over, is_for, is_good_for, is_good, is_last_of}
 use Rattle.proof_giving.proofs.Over.{along_goes}

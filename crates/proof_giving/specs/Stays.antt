@@ -13,7 +13,7 @@ use Rattle.host_model.specs.Events.{HostEvent, Begins}
 use Rattle.host_model.specs.Facts.{HostFacts}
 use Rattle.host_model.specs.State.{Command, HostState, command_at, node_of}
 use Rattle.proof_host.specs.Tables.{taken_at}
-use Rattle.proof_sending.specs.Due.{AreCarried}
+use Rattle.proof_queue.specs.proof_sending.Due.{AreCarried}
 use Rattle.proof_giving.specs.Told.{attempts_so_far}
 
 -- the transcript shows the sessions of a node, and which is open, and how orders are carried

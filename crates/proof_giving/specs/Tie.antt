@@ -23,9 +23,9 @@ use Rattle.host_node.specs.declared.series.Series.TheVariants.{Running}
 use Rattle.host_model.specs.Ends.{PartEnd, Good, Passed_over, Bad, part_end}
 use Rattle.host_model.specs.State.{HostState, node_of}
 use Rattle.host_model.specs.Events.{HostEvent, Submits_abort, Submits_front, Starts, Gives_text, Gives_segment}
-use Rattle.proof_attempts.specs.Attempts.{AreAttempts, has_ended_badly}
-use Rattle.proof_attempts.specs.proof_requests.Asking.{Doing, HasEnded, WasAsked}
-use Rattle.proof_attempts.specs.proof_requests.Standing.{standing_of}
+use Rattle.proof_queue.specs.proof_attempts.Attempts.{AreAttempts, has_ended_badly}
+use Rattle.proof_queue.specs.proof_attempts.proof_requests.Asking.{Doing, HasEnded, WasAsked}
+use Rattle.proof_queue.specs.proof_attempts.proof_requests.Standing.{standing_of}
 use Rattle.proof_queue.specs.Waiting.{want_of_task}
 use Rattle.proof_giving.specs.Told.{attempts_so_far}
 

@@ -19,7 +19,7 @@ ghost use Rattle.host_node.specs.Steps.{
 ghost use Rattle.host_node.specs.declared.attempt.Moment.{Moment};
 ghost use Rattle.host_node.specs.declared.series.Series.TheVariants.{Running};
 ghost use Rattle.law_time.specs.Attempts.{Attempts, anew, is_late};
-ghost use Rattle.proof_attempts.specs.Attempts.{is_over_by};
+ghost use Rattle.proof_queue.specs.proof_attempts.Attempts.{is_over_by};
 ghost use Rattle.proof_giving.specs.Tie.{NodeSo, is_third};
 
 /// A node stays tied to its attempts as they are told: where a series may be due, where it sleeps, with a sign, and as the end of the last request is known;

@@ -17,8 +17,8 @@ ghost use Rattle.law_time.specs.Requests.{asked};
 ghost use Rattle.law_time.specs.Sessions.{is_last_command};
 ghost use Rattle.host_requests.specs.declared.end.End.{End};
 ghost use Rattle.host_requests.specs.declared.under_way.UnderWay.{UnderWay};
-ghost use Rattle.proof_attempts.specs.proof_requests.Asking.{Doing};
-ghost use Rattle.proof_attempts.specs.proof_requests.Standing.{first_ending, standing_of};
+ghost use Rattle.proof_queue.specs.proof_attempts.proof_requests.Asking.{Doing};
+ghost use Rattle.proof_queue.specs.proof_attempts.proof_requests.Standing.{first_ending, standing_of};
 ghost use Rattle.proof_giving.specs.Told.{GoesAlong, attempts_so_far};
 ghost use Rattle.host_requests.specs.Events.{RequestsEvent, end_at};
 ghost use Rattle.host_node.specs.Steps.{after_sign, tick_end};
@@ -30,14 +30,14 @@ ghost use Rattle.host_model.specs.Ends.{Bad, attempt_entries, part_end};
 ghost use Rattle.host_model.specs.Facts.{HostFacts};
 ghost use Rattle.host_model.specs.Outs.{request_entries};
 ghost use Rattle.host_model.specs.Events.{HostEvent, Node_ticks, Requests_do};
-ghost use Rattle.proof_attempts.specs.Attempts.{is_over_by};
+ghost use Rattle.proof_queue.specs.proof_attempts.Attempts.{is_over_by};
 ghost use Rattle.host_model.specs.After.{after};
-ghost use Rattle.proof_attempts.specs.proof_requests.law_host.Heard.{heeds_alone};
-ghost use Rattle.proof_attempts.specs.proof_requests.proof_alone.State.{HostMachine};
-ghost use Rattle.proof_attempts.specs.proof_requests.proof_alone.Steps.{Does, IsOfUnit};
-ghost use Rattle.proof_attempts.specs.proof_requests.proof_alone.Phases.{May, Submitting};
-ghost use Rattle.proof_attempts.specs.proof_requests.proof_alone.Runs.{both_know};
-ghost use Rattle.proof_attempts.specs.proof_requests.Walking.{Ground, KnowsAsked};
+ghost use Rattle.proof_queue.specs.proof_attempts.proof_requests.law_host.Heard.{heeds_alone};
+ghost use Rattle.proof_queue.specs.proof_attempts.proof_requests.proof_alone.State.{HostMachine};
+ghost use Rattle.proof_queue.specs.proof_attempts.proof_requests.proof_alone.Steps.{Does, IsOfUnit};
+ghost use Rattle.proof_queue.specs.proof_attempts.proof_requests.proof_alone.Phases.{May, Submitting};
+ghost use Rattle.proof_queue.specs.proof_attempts.proof_requests.proof_alone.Runs.{both_know};
+ghost use Rattle.proof_queue.specs.proof_attempts.proof_requests.Walking.{Ground, KnowsAsked};
 ghost use Rattle.proof_giving.specs.Tie.{
   AttemptsSo,
   IsOver,

@@ -9,9 +9,9 @@ ghost use Rattle.law_time.specs.Attempts.{attempt_is_over};
 ghost use Rattle.law_time.specs.Heeds.{Heeds};
 ghost use Rattle.law_time.specs.Requests.{asked};
 ghost use Rattle.law_time.specs.Unanswered.{to_give_up};
-ghost use Rattle.proof_attempts.specs.Attempts.{is_over_by};
-ghost use Rattle.proof_attempts.specs.proof_requests.Asking.{TieAsked, doing_of};
-ghost use Rattle.proof_attempts.specs.proof_requests.proof_alone.Steps.{AreFrames};
+ghost use Rattle.proof_queue.specs.proof_attempts.Attempts.{is_over_by};
+ghost use Rattle.proof_queue.specs.proof_attempts.proof_requests.Asking.{TieAsked, doing_of};
+ghost use Rattle.proof_queue.specs.proof_attempts.proof_requests.proof_alone.Steps.{AreFrames};
 ghost use Rattle.proof_giving.specs.Told.{attempts_so_far};
 ghost use Rattle.proof_giving.specs.Tie.{AttemptsSo, is_badly_over};
 

@@ -1,7 +1,7 @@
 -- The attempt of the request is over, and no other.
 use Rattle.law_time.specs.Judged.{acknowledged}
 use Rattle.law_time.specs.Requests.{asked}
-use Rattle.proof_attempts.specs.proof_requests.Standing.{standing_of}
+use Rattle.proof_queue.specs.proof_attempts.proof_requests.Standing.{standing_of}
 use Rattle.proof_giving.proofs.Badly.{unframed_badly}
 use Rattle.proof_giving.proofs.Unframed.{unframed_goes}
 use Rattle.proof_giving.proofs.requests.attempts_end_in_silence.Goals as goal

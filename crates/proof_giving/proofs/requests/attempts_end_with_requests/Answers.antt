@@ -10,7 +10,7 @@ use Rattle.host_model.specs.Ends.{attempt_entries}
 use Rattle.host_model.specs.Events.{Node_ticks, Requests_do}
 use Rattle.host_model.specs.Outs.{request_entries}
 use Rattle.host_model.specs.Sessions.{open_command}
-use Rattle.proof_attempts.proofs.Doings.{node_after}
+use Rattle.proof_queue.proofs.Doings.{node_after}
 use Rattle.proof_giving.specs.Tie.{NodeSo, anew_step, is_last_of}
 use Rattle.proof_giving.proofs.HostGoes.{ended_by, node_ticks_by}
 use Rattle.proof_giving.proofs.requests.attempts_end_with_requests.Goals as goal
