@@ -1,8 +1,7 @@
 -- A node whose No More Information found the queue full stays so at an event of its host that is no pump, unless that tells that it wakes or falls asleep.
-use Rattle.std.proofs.Common.{◌≡◌, ◌⊎◌, ◌≤◌, ◌<◌, ℕ, ◌+◌, ◌-◌, ◌==◌, ◌&&◌, not, Bool, true, false, if◌then◌else◌, inl, inr, length, List, [], ◌∷◌, ◌++◌, nat_lt, refl, sym, ap, ap₂, ◌∙◌, subst, arith}
-use Rattle.std.specs.Prelude.{Option, Some, None, is_some}
-use Rattle.std.specs.List.{AllByRecursion}
-use Rattle.std.proofs.lemmas.Bool.{and_right, both_ways, cases_eq, eq-eqb, eqb-true, ne_eqb}
+use Rattle.std.proofs.Common.{◌≡◌, ◌⊎◌, ◌≤◌, ℕ, ◌+◌, ◌-◌, ◌==◌, ◌&&◌, Bool, true, false, if◌then◌else◌, inl, inr, length, List, [], ◌∷◌, ◌++◌, nat_lt, refl, sym, ap, ◌∙◌, subst, arith}
+use Rattle.std.specs.Prelude.{Option, Some, None}
+use Rattle.std.proofs.lemmas.Bool.{and_right, both_ways, eq-eqb, eqb-true}
 use Rattle.zw_text.specs.declared.entry.Entry.{Entry}
 use Rattle.zw_text.specs.declared.entry.Entry.TheVariants as entry
 use Rattle.zw_text.specs.Transcript.{wakings}
@@ -33,22 +32,21 @@ use Rattle.host_node.specs.declared.attempt.Plan.{Plan}
 use Rattle.host_node.specs.declared.attempt.Plan.TheVariants.{Whole, Segments, Sealed}
 use Rattle.host_node.specs.declared.no_more.NoMore.{NoMore as NoMoreState}
 use Rattle.host_node.specs.declared.no_more.NoMore.TheVariants.{Unasked, Queued, Dropped}
-use Rattle.host_node.specs.Facts.{NodeFacts, NoMoreFacts}
+use Rattle.host_node.specs.Facts.{NoMoreFacts}
 use Rattle.host_node.specs.State.{NodeState, has_waiting, is_idle, is_open, is_running, is_up}
 use Rattle.host_node.specs.Steps.{after_again, after_again_tick, after_attempt_end, after_attempts, after_hold_tick, after_notification, after_occasion, after_put, after_sleep, after_told, asleep, new_series, next_due, series_over, tried_again, with_again, with_wait, without_attempt}
 use Rattle.host_node.specs.Events.{NodeEvent, after as after_node}
-use Rattle.host_node.specs.Events.NodeEvent.{Joins as node_joins, Interviews as node_interviews, Puts, Accepts as node_accepts, Cancels as node_cancels, Begins as node_begins, Blocks, Starts as node_starts, Gives_segment as node_gives_segment, Gives_text as node_gives_text, Succeeds, Takes_nonce as node_takes_nonce, Ends_attempt, Reports, Holds, Notifies as node_notifies, Ends_no_more, Ticks}
+use Rattle.host_node.specs.Events.NodeEvent.{Joins as node_joins, Interviews as node_interviews, Cancels as node_cancels, Begins as node_begins, Blocks, Starts as node_starts, Gives_segment as node_gives_segment, Gives_text as node_gives_text, Succeeds, Takes_nonce as node_takes_nonce, Ends_attempt, Reports, Holds, Ends_no_more, Ticks}
 use Rattle.host_model.specs.Did.{one_if}
 use Rattle.host_model.specs.State.{HostState, node_of}
 use Rattle.host_model.specs.Ends.{PartEnd, Good, Passed_over, Bad, part_end}
 use Rattle.host_model.specs.After.{after, gives_up, is_held, node_for}
-use Rattle.host_model.specs.Facts.{HostFacts}
 use Rattle.host_model.specs.Events.{HostEvent, Accepts, Cancels, Joins, Requests_do, Interviews, Works, Finishes, Takes_nonce, Notifies, Line_ticks, Node_ticks, Queues_no_more, Drops_no_more, Starts, Gives_text, Gives_segment, Begins, Begin_unkept}
 use Rattle.host_model.specs.Outs.{outs}
 use Rattle.proof_work.specs.Work.{HostWork, times_due, told_at, told_for, told_in}
 use Rattle.proof_attempts.specs.proof_requests.proof_alone.Steps.{AreTold}
 use Rattle.proof_attempts.proofs.Counting.{event_awake}
-use Rattle.proof_attempts.proofs.Doings.{did, does_at, end_does, failing_does, held_does, node_after, one_does, part_does, purpose_does, task_does}
+use Rattle.proof_attempts.proofs.Doings.{did, does_at, end_does, failing_does, held_does, node_after, part_does, purpose_does, task_does}
 use Rattle.proof_known.proofs.Events.{outs_told}
 use Rattle.proof_known.proofs.proof_alone_Apart.{AreOfLine}
 use Rattle.proof_known.proofs.proof_device_HostOuts.{OwnIs, SharedAre, outs_are}

@@ -1,15 +1,14 @@
 -- Where a request ends no node is to be let sleep that was not, and none that was is not: those whose No More Information waits are as they were.
-use Rattle.std.proofs.Common.{◌≡◌, ◌⊎◌, ◌≤◌, ◌<◌, ℕ, ◌+◌, ◌==◌, ◌&&◌, ◌||◌, not, Bool, true, false, if◌then◌else◌, inl, inr, length, List, [], ◌∷◌, ◌++◌, bytes_eq, nat_lt, refl, sym, ap, ap₂, ◌∙◌, subst, arith}
+use Rattle.std.proofs.Common.{◌≡◌, ◌⊎◌, ◌<◌, ℕ, ◌+◌, ◌==◌, ◌&&◌, ◌||◌, not, Bool, true, false, if◌then◌else◌, inl, inr, length, List, [], ◌∷◌, ◌++◌, bytes_eq, nat_lt, refl, sym, ap, ap₂, ◌∙◌, subst}
 use Rattle.std.specs.Prelude.{Option, Some, None, is_some}
-use Rattle.std.specs.List.{AllByRecursion, list_any}
-use Rattle.std.proofs.lemmas.Bool.{and_left, and_right, both_ways, eq-eqb, eqb-true, lt-ltb, or_right}
+use Rattle.std.specs.List.{list_any}
+use Rattle.std.proofs.lemmas.Bool.{and_left, and_right, eq-eqb, eqb-true}
 use Rattle.std.proofs.lemmas.List.Folds.{list_any-append}
 use Rattle.chip_functions.specs.declared.response.Response.TheVariants.{GetRoutingInfo, IsFailedNode as failed_node}
 use Rattle.zw_text.specs.declared.entry.Entry.{Entry}
-use Rattle.zw_text.specs.declared.entry.Entry.TheVariants as entry
 use Rattle.zw_text.specs.Transcript.{waking_at, wakings}
 use Rattle.zw_text.proofs.Views.{shown-append}
-use Rattle.law_time.specs.Requests.{Asked, are_none}
+use Rattle.law_time.specs.Requests.{Asked}
 use Rattle.law_time.specs.Waking.{has_slept, is_told as tells_it}
 use Rattle.law_time.specs.Wants.{no_more}
 use Rattle.law_time.specs.Queue.{Queue, is_told}
@@ -30,13 +29,11 @@ use Rattle.host_node.specs.declared.series.Series.{Series}
 use Rattle.host_node.specs.declared.series.Series.TheVariants.{Idle, Due, Running}
 use Rattle.host_node.specs.State.{NodeState, has_waiting, is_false, is_idle, is_running}
 use Rattle.host_node.specs.TableState.{node_of as node_among}
-use Rattle.host_node.specs.Steps.{after_attempt_end, after_attempts, after_no_more, after_no_more_end, after_sign, after_sleep, asleep, attempt_end, falls_asleep, next_due, series_over, with_wait, without_attempt}
-use Rattle.host_node.specs.Events.{NodeEvent, after as after_node}
-use Rattle.host_node.specs.Events.NodeEvent.{Succeeds, Ends_attempt, Ends_no_more}
+use Rattle.host_node.specs.Steps.{after_attempt_end, after_no_more, after_no_more_end, after_sign, after_sleep, asleep, attempt_end, falls_asleep, next_due, series_over, with_wait, without_attempt}
 use Rattle.host_model.specs.Did.{one_if}
 use Rattle.host_model.specs.State.{HostState, node_of}
 use Rattle.host_model.specs.Sessions.{open_command}
-use Rattle.host_model.specs.Ends.{PartEnd, Good, Passed_over, Bad, asleep_entry, attempt_entries, end_entries, end_entries_if, failed_entry, neighbours_entry, out_entry, part_end, part_entries, task_entries}
+use Rattle.host_model.specs.Ends.{PartEnd, Good, Passed_over, Bad, asleep_entry, attempt_entries, end_entries, end_entries_if, failed_entry, neighbours_entry, part_end, part_entries, task_entries}
 use Rattle.host_model.specs.After.{after, requests_do}
 use Rattle.host_model.specs.Events.{Requests_do}
 use Rattle.host_model.specs.Outs.{request_entries}

@@ -1,12 +1,11 @@
 -- The nodes that joined by the transcript of a host alone: each is a node and joined once, and each that was interviewed joined.
-use Rattle.std.proofs.Common.{◌≡◌, ◌⊎◌, ◌≤◌, ◌<◌, ℕ, ◌+◌, ◌==◌, ◌||◌, Bool, true, false, if◌then◌else◌, inl, inr, List, [], ◌∷◌, ◌++◌, refl, sym, ap, ap₂, ◌∙◌, subst, append-nil, append_assoc, arith}
+use Rattle.std.proofs.Common.{◌≡◌, ◌⊎◌, ◌≤◌, ◌<◌, ℕ, ◌+◌, ◌==◌, ◌||◌, Bool, true, false, if◌then◌else◌, inl, inr, List, [], ◌∷◌, ◌++◌, refl, sym, ap, ◌∙◌, subst, append-nil, append_assoc, arith}
 use Rattle.std.specs.Prelude.{Option, Some, None, Result, Ok, Err, is_some}
 use Rattle.std.specs.List.{AllByRecursion, flat_map, list_any}
-use Rattle.std.proofs.lemmas.Bool.{both_ways, eq-eqb, eqb-true, or_from, or_left, or_right}
+use Rattle.std.proofs.lemmas.Bool.{both_ways, eq-eqb, eqb-true, or_from, or_left}
 use Rattle.std.proofs.lemmas.Grind.{flat_map-append}
 use Rattle.std.proofs.lemmas.List.Folds.{list_any-append}
 use Rattle.zw_base.proofs.Each.{all-append}
-use Rattle.zw_words.specs.declared.side.Side.TheVariants.{Chip}
 use Rattle.zw_words.specs.declared.fault.LineFault.{LineFault}
 use Rattle.zw_text.specs.Line.{IsNode, LineText, line_at}
 use Rattle.zw_text.specs.declared.line.Line.{Line}
@@ -19,14 +18,11 @@ use Rattle.zw_text.proofs.TextLaws.{line_takes}
 use Rattle.zw_text.proofs.Views.{folded-append, shown-append}
 use Rattle.law_transcript.specs.Answers.{before_last}
 use Rattle.law_transcript.specs.Nodes.{is_interviewed, known_at_first, known_classes}
-use Rattle.chip_functions.specs.declared.notice.Update.{Update}
 use Rattle.host_model.specs.State.{HostState, node_of}
 use Rattle.host_model.specs.Did.{MayAll}
 use Rattle.host_model.specs.May.{May as MayHost}
 use Rattle.host_model.specs.Events.{HostEvent, Accepts, Hears, Interviews, Joins}
 use Rattle.host_model.specs.Outs.{answers, outs}
-use Rattle.host_model.specs.declared.out.HostOut.{HostOut}
-use Rattle.host_model.specs.declared.out.HostOut.TheVariants.{Note}
 use Rattle.proof_world.proofs.Hosts.{of_joined}
 use Rattle.proof_attempts.specs.proof_requests.law_host.Heard.{listing_heard}
 use Rattle.proof_attempts.specs.proof_requests.proof_alone.State.{HostMachine}

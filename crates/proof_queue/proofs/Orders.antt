@@ -1,7 +1,7 @@
 -- The nodes that are due, in order: those of earlier ticks stand before those of later ones, and those of one tick in the order of their numbers.
 use Rattle.std.proofs.Common.{◌≡◌, ◌≤◌, ◌<◌, ℕ, zero, suc, ◌+◌, ◌==◌, ◌&&◌, ◌||◌, Bool, true, false, if◌then◌else◌, inl, inr, List, [], ◌∷◌, ◌++◌, map, filter, nat_lt, refl, sym, ap, ap₂, ◌∙◌, arith}
 use Rattle.std.specs.List.{AllByRecursion, list_any, range_with_len}
-use Rattle.std.proofs.lemmas.Bool.{and_left, both_ways, cases_eq, eq-eqb, le-ltb, lt-ltb, ne_eqb, or_from, or_left}
+use Rattle.std.proofs.lemmas.Bool.{and_left, cases_eq, eq-eqb, le-ltb, lt-ltb, ne_eqb, or_from, or_left}
 use Rattle.law_time.specs.Queue.{Due, in_order, is_earlier, put_in_order}
 
 -- ---- two that are due

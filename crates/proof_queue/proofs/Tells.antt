@@ -1,5 +1,5 @@
 -- A node that does not listen is told by the transcript that there is no more for it where its host has it so: it is to be told by a task that waits or the request under way, or that was dropped.
-use Rattle.std.proofs.Common.{◌≡◌, ◌⊎◌, ◌≤◌, ℕ, ◌+◌, ◌==◌, ◌&&◌, ◌||◌, not, Bool, true, false, if◌then◌else◌, inl, inr, List, [], ◌∷◌, ◌++◌, map, nat_lt, bytes_eq, refl, sym, ap, ap₂, ◌∙◌, subst, arith}
+use Rattle.std.proofs.Common.{◌≡◌, ℕ, ◌+◌, ◌==◌, ◌&&◌, ◌||◌, not, Bool, true, false, if◌then◌else◌, inl, inr, List, [], ◌∷◌, ◌++◌, map, nat_lt, bytes_eq, refl, sym, ap, ap₂, ◌∙◌, subst, arith}
 use Rattle.std.specs.Prelude.{Option, Some, None}
 use Rattle.std.specs.List.{AllByRecursion, flat_map, list_any}
 use Rattle.std.proofs.lemmas.Bool.{and_right, both_ways, cases_eq, eq-eqb, lt-ltb, ne_eqb, or_right}
@@ -8,7 +8,7 @@ use Rattle.encap.specs.Opening.{begins_with}
 use Rattle.law_transcript.specs.Units.{sending_of}
 use Rattle.law_time.specs.Interviews.{listens}
 use Rattle.law_time.specs.Requests.{asked, request_last}
-use Rattle.law_time.specs.Waking.{has_slept, is_told as tells_it, node_told, nodes_told}
+use Rattle.law_time.specs.Waking.{has_slept, is_told as tells_it, node_told}
 use Rattle.law_time.specs.Wants.{no_more, told_of}
 use Rattle.law_time.specs.Queue.{Queue, is_told}
 use Rattle.chip_functions.specs.declared.request.Request.{Request}
@@ -23,7 +23,7 @@ use Rattle.host_node.specs.declared.no_more.NoMore.{NoMore as NoMoreState}
 use Rattle.host_node.specs.declared.no_more.NoMore.TheVariants.{Unasked, Queued, Dropped}
 use Rattle.host_node.specs.State.{is_unasked}
 use Rattle.host_model.specs.Did.{one_if}
-use Rattle.proof_work.specs.Work.{times_due, told_at, told_by, told_for, told_in}
+use Rattle.proof_work.specs.Work.{times_due, told_at, told_for, told_in}
 use Rattle.proof_attempts.specs.Carried.{CarriesWell, IsOther, UnderWayWell, WaitsWell, nodes_of}
 use Rattle.proof_attempts.specs.Slept.{SleptSo}
 use Rattle.proof_queue.specs.Sleeping.{is_dropped}

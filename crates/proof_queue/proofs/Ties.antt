@@ -1,11 +1,9 @@
 -- What waits by the transcript of a host alone after more entries, as it stands and after a look at the time: by entries at which the host does not look, by notes, and by the number of a tick.
-use Rattle.std.proofs.Common.{◌≡◌, ◌⊎◌, ◌≤◌, ◌<◌, ℕ, ◌+◌, ◌-◌, ◌==◌, ◌&&◌, ◌||◌, not, Bool, true, false, if◌then◌else◌, inl, inr, List, [], ◌∷◌, ◌++◌, length, map, filter, nat_le, refl, sym, ap, ap₂, ◌∙◌, subst, append-nil, append_assoc, arith}
-use Rattle.std.specs.Prelude.{drop}
-use Rattle.std.specs.List.{AllByRecursion, list_any, range_with_len}
-use Rattle.std.proofs.lemmas.Bool.{both_ways, cases_eq, eq-eqb, ne_eqb, or_right}
+use Rattle.std.proofs.Common.{◌≡◌, ◌≤◌, ℕ, ◌+◌, ◌-◌, ◌==◌, ◌&&◌, ◌||◌, not, Bool, true, false, if◌then◌else◌, inl, inr, List, [], ◌∷◌, ◌++◌, length, filter, nat_le, refl, sym, ap, ap₂, ◌∙◌, subst, append-nil, append_assoc, arith}
+use Rattle.std.specs.List.{AllByRecursion}
+use Rattle.std.proofs.lemmas.Bool.{cases_eq, eq-eqb, ne_eqb, or_right}
 use Rattle.serial_frame.specs.declared.unit.TheConstants.{NAK}
 use Rattle.zw_words.specs.declared.side.Side.TheVariants.{Host, Chip}
-use Rattle.zw_text.specs.declared.line.Line.{Line}
 use Rattle.zw_text.specs.declared.entry.Entry.{Entry}
 use Rattle.zw_text.specs.declared.entry.Entry.TheVariants as entry
 use Rattle.zw_text.specs.Transcript.{line_of, waking_at, wakings}
@@ -18,19 +16,16 @@ use Rattle.law_time.specs.Judged.{is_mark}
 use Rattle.law_time.specs.Moments.{clock, now_at}
 use Rattle.law_time.specs.Requests.{Asked, are_none, asked}
 use Rattle.law_time.specs.Wants.{no_more}
-use Rattle.law_time.specs.Queue.{Queue, Requests, each_with, has_looked, is_first, is_full as queue_full, is_judged, is_told, lacks_places, may_queue, owes_no_refusal, queue_before, queue_step, requests, with_due, with_no_more}
+use Rattle.law_time.specs.Queue.{Queue, Requests, each_with, has_looked, is_full as queue_full, is_judged, is_told, lacks_places, may_queue, owes_no_refusal, queue_before, queue_step, with_due, with_no_more}
 use Rattle.host_requests.specs.declared.task.Task.{Task}
 use Rattle.host_model.specs.State.{HostState, node_of}
 use Rattle.proof_attempts.specs.proof_requests.law_host.Heard.{heeds_alone}
-use Rattle.proof_attempts.specs.proof_requests.proof_alone.Steps.{IsOfUnit}
-use Rattle.proof_attempts.proofs.proof_waking_Parts.{IsNoted}
-use Rattle.proof_attempts.proofs.proof_requests_Telling.{IsQuiet, quiet_on}
+use Rattle.proof_attempts.proofs.proof_requests_Telling.{quiet_on}
 use Rattle.proof_queue.specs.Waiting.{Fits, queue_of}
 use Rattle.proof_queue.specs.Turn.{may_go}
 use Rattle.proof_queue.proofs.Books.{book_joined, last_is, no_line}
-use Rattle.proof_queue.proofs.Leaving.{fulls}
 use Rattle.proof_queue.proofs.Ending.{told_same}
-use Rattle.proof_queue.proofs.Looks.{due_is, dues, dues_since, looks_twice}
+use Rattle.proof_queue.proofs.Looks.{due_is, dues_since, looks_twice}
 use Rattle.proof_queue.proofs.Orders.{filter_same, is_among}
 use Rattle.proof_queue.proofs.Pumped.{MayLook, now_sleepers, since_sleepers, sleepers, would_sleep}
 use Rattle.proof_queue.proofs.Sleeps.{Stands}
