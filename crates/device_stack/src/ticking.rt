@@ -86,7 +86,9 @@ impl Stack {
         requires { self.old.clock + 1 < 2 ^ 64 }
         ensures { self.new ≡ aged self.old }
     {
-        self.awake = self.stays_awake();
+        if !self.kind.listens() {
+            self.awake = self.stays_awake();
+        }
         self.clock += 1;
     }
 

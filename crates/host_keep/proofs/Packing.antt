@@ -1,7 +1,8 @@
 -- Texts that are packed into one: one text more, and the text at a place.
 use Rattle.std.proofs.Common.{◌≡◌, ℕ, zero, suc, ◌+◌, ◌-◌, ◌<◌, ◌≤◌, List, [], ◌∷◌, ◌++◌, length, take, drop, get_or, Some, refl, ap, sym, ◌∙◌, arith}
 use Rattle.std.specs.Prelude.{slice_get, slice_range}
-use Rattle.std.proofs.lemmas.List.{length-append, length-drop, take_all, take-append-le, drop_at, drop-append-le}
+use Rattle.std.specs.List.{flat_map}
+use Rattle.std.proofs.lemmas.List.{length-append, length-drop, take_all, take-append-le, take-append-drop, drop_all, drop_at, drop-append-le, drop-drop}
 use Rattle.host_keep.specs.Packed.{IsPacked, begin_at, texts_of}
 
 -- the place where the ends begin is within the whole
@@ -55,3 +56,11 @@ ends_at bytes from [] at is under = absurd (omega (arith, under))
 ends_at bytes from (end ∷ ends) zero is under = (is.0, packed_within bytes end ends is.1)
 ends_at bytes from (end ∷ ends) (suc zero) is under = ends_at bytes end ends zero is.1 (omega (arith, under))
 ends_at bytes from (end ∷ ends) (suc (suc at)) is under = ends_at bytes end ends (suc at) is.1 (omega (arith, under))
+
+-- all texts, one after the other, are the whole from where they begin
+pub all_texts : (bytes : List ℕ) (from : ℕ) (ends : List ℕ) → IsPacked bytes from ends → flat_map (λ text. text) (texts_of bytes from ends) ≡ drop from bytes
+all_texts bytes from [] is = sym (drop_all from bytes (omega (arith, is)))
+all_texts bytes from (end ∷ ends) is =
+    let on : end ≡ from + (end - from) = omega (arith, is.0) in
+    ap (λ rest. slice_range bytes from end ++ rest) (all_texts bytes end ends is.1 ∙ ap (λ n. drop n bytes) on ∙ sym (drop-drop (end - from) from bytes))
+    ∙ take-append-drop (end - from) (drop from bytes)

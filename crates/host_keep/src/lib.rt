@@ -26,5 +26,6 @@ pub use memory_keeper::MemoryKeeper;
 pub use plain_keeper::PlainKeeper;
 pub use reading::{RecordFault, read_record};
 pub use record::Record;
+pub use texts::Texts;
 pub use worked::worked_records;
 pub use writing::write_record;

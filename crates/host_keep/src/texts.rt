@@ -1,6 +1,7 @@
 //! Texts, packed into one.
 
 ghost use Rattle.std.specs.Prelude.{◌≡◌, ◌<◌, ◌≤◌, [], ◌∷◌, ◌++◌, length, slice_get, slice_range, Some, OnOk, OnErr};
+ghost use Rattle.std.specs.List.{flat_map};
 ghost use Rattle.host_keep.specs.Packed.{IsPacked, begin_at, texts_of};
 
 use std::alloc::Global;
@@ -9,7 +10,7 @@ use zw_base::NoMemory;
 
 /// Texts in their order, as one text with the end of each. Contracts see the list of them.
 #[derive(Drop)]
-pub(crate) struct Texts {
+pub struct Texts {
     bytes: Vec<u8>,
     ends: Vec<usize>,
 }
@@ -27,7 +28,7 @@ impl Model for Texts {
 
 impl Texts {
     /// No texts. It takes no memory.
-    pub(crate) fn new(alloc: Global) -> Texts
+    pub fn new(alloc: Global) -> Texts
         ensures { result ≡ [] }
     {
         Texts {
@@ -37,7 +38,7 @@ impl Texts {
     }
 
     /// Adds a text at the end.
-    pub(crate) fn push(&mut self, text: &[u8]) -> Result<(), NoMemory>
+    pub fn push(&mut self, text: &[u8]) -> Result<(), NoMemory>
         ensures ok { OnOk result (self.new ≡ self.old ++ text.now ∷ []) }
         ensures err { OnErr result (self.new ≡ self.old) }
     {
@@ -48,14 +49,29 @@ impl Texts {
         Ok(())
     }
 
-    pub(crate) fn len(&self) -> usize
+    pub fn len(&self) -> usize
         ensures { result ≡ length self.now }
     {
         self.ends.as_slice().len()
     }
 
+    /// Takes all texts away. Their room is kept.
+    pub fn clear(&mut self)
+        ensures { self.new ≡ [] }
+    {
+        self.bytes.clear();
+        self.ends.clear();
+    }
+
+    /// All texts, one after the other.
+    pub fn whole(&self) -> &[u8]
+        ensures { result.now ≡ flat_map (λ text. text) self.now }
+    {
+        self.bytes.as_slice()
+    }
+
     /// The text at that place, counted from 0.
-    pub(crate) fn get(&self, at: usize) -> &[u8]
+    pub fn get(&self, at: usize) -> &[u8]
         requires { at < length self.now }
         ensures { slice_get self.now at ≡ Some result.now }
     {

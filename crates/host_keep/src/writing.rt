@@ -14,11 +14,15 @@ use serde_json::Value;
 use std::alloc::{AllocError, Global};
 use zw_base::{Bytes, NoMemory, NodeId, What, Word};
 
+/// The most numbers of a record, or of what comes before its bytes.
+const MOST_BEFORE_BYTES: usize = 8;
+
 /// Adds bytes as numbers.
 fn put_bytes(numbers: &mut Vec<u64>, bytes: &[u8]) -> Result<(), AllocError>
     ensures numbers { OnOk result (numbers.new.items ≡ numbers.old.items ++ bytes.now) }
     ensures range { AreBytes bytes.now }
 {
+    numbers.reserve(bytes.len())?;
     for byte in bytes {
         numbers.push(u64::from(*byte))?;
     }
@@ -86,7 +90,7 @@ fn numbers_of(alloc: Global, kept: &Record) -> Result<Vec<u64>, AllocError>
     ensures numbers { IfOk result (λ numbers. numbers.items ≡ numbers_of kept.now) }
     ensures range { OnOk result (IsRecord kept.now) }
 {
-    let mut numbers = Vec::new(alloc);
+    let mut numbers = Vec::with_capacity(alloc, MOST_BEFORE_BYTES)?;
     match kept {
         Record::Accepted { command, order } => {
             numbers.extend_from_slice(&[
@@ -152,8 +156,8 @@ fn row_value(alloc: Global, numbers: &[u64]) -> Result<Value, AllocError>
 fn write_row(alloc: Global, numbers: &[u64]) -> Result<Bytes, NoMemory>
     ensures { IfOk result (λ bytes. bytes ≡ row_text numbers.now) }
 {
-    let text = row_value(alloc, numbers)?.to_string(alloc)?;
-    Bytes::from_slice(alloc, text.as_bytes())
+    let text = row_value(alloc, numbers)?.to_vec(alloc)?;
+    Bytes::from_slice(alloc, text.as_slice())
 }
 
 /// The text of a record: its numbers as a JSON array with no space.

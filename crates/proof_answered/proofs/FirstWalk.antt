@@ -27,7 +27,7 @@ use Rattle.world_model.specs.State.{Machine}
 use Rattle.world_model.specs.Events.{Event, Outside_does, Host_does, Host_takes, Decoder_ticks, Refuses, Shows_values, happens, entries, May}
 use Rattle.proof_calm.specs.proof_work.Phases.{AsksNothing}
 use Rattle.proof_calm.specs.proof_work.proof_walk.Phases.{Phase, Said_line, Doing, To_tick, Arriving, Giving, Ticking_devices, Ticking_chip, Ticking_decoder, Ticking_host, Sleeping, Submitting, Moving, Moved, Goes}
-use Rattle.proof_calm.specs.proof_work.proof_walk.Walk.{WalkWhere}
+use Rattle.proof_calm.specs.proof_work.proof_walk.Walk.{Walk, WalkWhere}
 use Rattle.proof_calm.proofs.proof_traffic_Parts.{Airs}
 use Rattle.proof_calm.specs.Awaited.{AwaitsAt, AwaitsNone}
 use Rattle.proof_calm.specs.Passes.{IsPlain, OnLine, frames_in}
@@ -185,20 +185,48 @@ first_on air here next m event goes may in_time line_at awaits tie heard all = a
 
 -- ---- the walk, over each that knows where the request is and what calls say
 
-module _ (air : Airs) (Has : Machine → Event → Type 0) (Ground : Phase → List Entry → Machine → Type 0) (walk : WalkWhere Has AsksNothing Ground)
-    (says : (here : Phase) (past : List Entry) (m : Machine) → Ground here past m → IsStretched past → Knows here past m × AllSayHeard (unheard m.outside.outer)) where
-  does_all : (here next : Phase) (past : List Entry) (m : Machine) (event : Event) → Goes here m event next → May m event → IsInTime m event → IsStretched (past ++ entries m event) → KnowFirst Ground here past m → First (happens m event)
+-- what is said of the text: that it is a stretch, and so was each part of it from the beginning on
+pub record IsOfStretch (Is : List Entry → Type 0) : Type 0 where
+  pub before : (past told : List Entry) → Is (past ++ told) → Is past
+  pub stretched : (past : List Entry) → Is past → IsStretched past
+
+module _ (air : Airs) (Has : Machine → Event → Type 0) (Is : List Entry → Type 0) (of_stretch : IsOfStretch Is) (Ground : Phase → List Entry → Machine → Type 0) (walk : WalkWhere Has AsksNothing Ground)
+    (says : (here : Phase) (past : List Entry) (m : Machine) → Ground here past m → Is past → Knows here past m × AllSayHeard (unheard m.outside.outer)) where
+  does_all : (here next : Phase) (past : List Entry) (m : Machine) (event : Event) → Goes here m event next → May m event → IsInTime m event → Is (past ++ entries m event) → KnowFirst Is Ground here past m → First (happens m event)
   does_all here next past m event goes may in_time is known =
-      let before = stretched_before past (entries m event) is in
+      let before = of_stretch.before past (entries m event) is in
       let at = says here past m known.0 before in
-      let tied = at.0.tied before.quiet in
+      let tied = at.0.tied (of_stretch.stretched past before).quiet in
       first_on air here next m event goes may in_time tied.0 tied.1 tied.6 at.1 (known.1 before)
 
-  pub first_walk : WalkWhere (AndInTime Has) AsksNothing (KnowFirst Ground)
+  pub first_walk : WalkWhere (AndInTime Has) AsksNothing (KnowFirst Is Ground)
   first_walk = record {
-    said = λ past m words line read known. let on = walk.said past m words line read known.0 in (on.0, (on.1, λ is. known.1 (stretched_before past (entry.Said words ∷ []) is)));
+    said = λ past m words line read known. let on = walk.said past m words line read known.0 in (on.0, (on.1, λ is. known.1 (of_stretch.before past (entry.Said words ∷ []) is)));
     event = λ here next past m event goes may has known.
         let on = walk.event here next past m event goes may has.0 known.0 in
         (on.0, (on.1, λ is. does_all here next past m event goes may has.1 is known));
     turn = λ here next past m turns known. (walk.turn here next past m turns known.0, known.1);
   }
+
+-- where nothing else is assumed of events
+abbrev HasNothing : Machine → Event → Type 0
+HasNothing m event = Unit {0}
+
+module _ (air : Airs) (Is : List Entry → Type 0) (of_stretch : IsOfStretch Is) (Ground : Phase → List Entry → Machine → Type 0) (walk : Walk AsksNothing Ground)
+    (says : (here : Phase) (past : List Entry) (m : Machine) → Ground here past m → Is past → Knows here past m × AllSayHeard (unheard m.outside.outer)) where
+  pub first_walk_freely : WalkWhere IsInTime AsksNothing (KnowFirst Is Ground)
+  first_walk_freely = record {
+    said = on.said;
+    event = λ here next past m event goes may in_time known. on.event here next past m event goes may (tt, in_time) known;
+    turn = on.turn;
+  }
+    where
+      ground : WalkWhere HasNothing AsksNothing Ground
+      ground = record { said = walk.said; event = λ here next past m event goes may has known. walk.event here next past m event goes may known; turn = walk.turn }
+
+      on : WalkWhere (AndInTime HasNothing) AsksNothing (KnowFirst Is Ground)
+      on = first_walk air HasNothing Is of_stretch Ground ground says
+
+-- a stretch whatever its lines ask for
+pub any_stretch : IsOfStretch IsStretched
+any_stretch = record { before = stretched_before; stretched = λ past is. is }

@@ -3,9 +3,13 @@ pub mod Apart
 pub mod Flying
 pub mod Walking
 pub mod Listeners
+pub mod Unheard
 pub mod HeardCalls
 pub mod Outwards
 pub mod AttemptEnds
 pub mod FirstWalk
 pub mod TurnOrder
 pub mod Staffing
+pub mod Speaking
+pub mod Staffed
+pub mod Beginning

@@ -72,7 +72,7 @@ use Rattle.proof_calm.proofs.Routed.{judged_of}
 use Rattle.proof_calm.proofs.Unmarked.{nothing_asked}
 use Rattle.proof_answered.specs.Few.{IsStretched, Knows}
 use Rattle.proof_answered.specs.Heard.{AllSayHeard, IsHeardThen, KnowHeard}
-use Rattle.proof_answered.specs.Outward.{AllGoTo, AllListen, EachGoesTo, GoesTo, IsFor, IsSentTo, KnowListening, KnowNetwork}
+use Rattle.proof_answered.specs.Outward.{AllGoTo, AllListen, EachGoesTo, GoesTo, IsFor, IsOf, IsSentTo, KnowListening, KnowNetwork}
 use Rattle.proof_answered.proofs.Flying.{chip_counts}
 use Rattle.proof_answered.proofs.Listeners.{all_stay, listener_hears}
 use Rattle.proof_answered.proofs.Walking.{stretched_before}
@@ -199,14 +199,14 @@ asks_to these s frame way marked = item_to these s (Good (Framed frame)) way (by
 
 -- ---- frames more
 
--- after these, each of them for a node of these
-record Adds (these : List Bool) (log : List Mark) (flights : List Flown) (frames : FramesState) : Type 0 where
-  more : List Mark
-  added : List Flown
-  fly : Fly (log ++ more) (flights ++ added) frames
-  are_for : AllByRecursion (IsFor these) added
+-- after these, each of them for or of a node of these
+pub record Adds (these : List Bool) (log : List Mark) (flights : List Flown) (frames : FramesState) : Type 0 where
+  pub more : List Mark
+  pub added : List Flown
+  pub fly : Fly (log ++ more) (flights ++ added) frames
+  pub are_for : AllByRecursion (IsOf these) added
 
-adds_none : (these : List Bool) (log : List Mark) (flights : List Flown) (frames : FramesState) → Fly log flights frames → Adds these log flights frames
+pub adds_none : (these : List Bool) (log : List Mark) (flights : List Flown) (frames : FramesState) → Fly log flights frames → Adds these log flights frames
 adds_none these log flights frames fly = record {
   more = [];
   added = [];
@@ -214,16 +214,16 @@ adds_none these log flights frames fly = record {
   are_for = tt;
 }
 
-adds_both : (these : List Bool) (log : List Mark) (flights : List Flown) (a b : FramesState) (first : Adds these log flights a) → Adds these (log ++ first.more) (flights ++ first.added) b → Adds these log flights b
+pub adds_both : (these : List Bool) (log : List Mark) (flights : List Flown) (a b : FramesState) (first : Adds these log flights a) → Adds these (log ++ first.more) (flights ++ first.added) b → Adds these log flights b
 adds_both these log flights a b first later = record {
   more = first.more ++ later.more;
   added = first.added ++ later.added;
   fly = subst (λ (l : List Mark). Fly l (flights ++ (first.added ++ later.added)) b) (append_assoc log first.more later.more)
       (subst (λ (fs : List Flown). Fly ((log ++ first.more) ++ later.more) fs b) (append_assoc flights first.added later.added) later.fly);
-  are_for = all-append (IsFor these) first.added later.added first.are_for later.are_for;
+  are_for = all-append (IsOf these) first.added later.added first.are_for later.are_for;
 }
 
-marked_within : (marks : List Bool) (n : ℕ) → is_marked marks n ≡ true → n < length marks
+pub marked_within : (marks : List Bool) (n : ℕ) → is_marked marks n ≡ true → n < length marks
 marked_within [] n marked = absurd cc
 marked_within (mark ∷ marks) zero marked = omega arith
 marked_within (mark ∷ marks) (suc n) marked = let less = marked_within marks n marked in omega (arith, less)
@@ -234,7 +234,7 @@ module _ (airs : Airs) (these : List Bool) (many : length these ≡ 233) where
   put_adds log flights o (OnAir to route payload) goes fly =
       let d : Departure = record { node = to; heading = Outward; route = unwrap_or (Some route) no_route; lost = nat_lt 0 o.air.losing || is_none (Some route); payload = payload } in
       let less = marked_within these to goes in
-      record { more = goes_mark d ∷ []; added = flown_now log d ∷ []; fly = airs.goes log flights o.air.frames d (omega (arith, less, many)) fly; are_for = (λ out. goes, tt) }
+      record { more = goes_mark d ∷ []; added = flown_now log d ∷ []; fly = airs.goes log flights o.air.frames d (omega (arith, less, many)) fly; are_for = (goes, tt) }
   put_adds log flights o NoRoute goes fly = adds_none these log flights o.air.frames fly
   put_adds log flights o (AskInfo node) goes fly = adds_none these log flights o.air.frames fly
   put_adds log flights o Full goes fly = adds_none these log flights o.air.frames fly
@@ -250,7 +250,7 @@ module _ (airs : Airs) (these : List Bool) (many : length these ≡ 233) where
   unfolding chip_does
   does_add log flights o event goes fly = all_add log flights (with_chip o (after o.chip.state event)) (outs o.chip.state event) goes fly
 
-  judges_add : (log : List Mark) (flights : List Flown) (o : OuterState) (ways : List (Item × Option Route)) → EachGoesTo these o.chip.state ways → Fly log flights o.air.frames
+  pub judges_add : (log : List Mark) (flights : List Flown) (o : OuterState) (ways : List (Item × Option Route)) → EachGoesTo these o.chip.state ways → Fly log flights o.air.frames
       → Adds these log flights (each chip_does o (judged_all ways)).outer.air.frames
   judges_add log flights o [] goes fly = adds_none these log flights o.air.frames fly
   judges_add log flights o (way ∷ ways) goes fly =
@@ -275,7 +275,7 @@ sent_to_joined m event = tt
 -- ---- each event
 
 -- the frame that arrives next is the first of those on the air
-next_flight : (airs : Airs) (log : List Mark) (flights : List Flown) (frames : FramesState) (frame : Flown) → Fly log flights frames → next_of frames ≡ Some frame → (rest : List Flown) × (flights ≡ frame ∷ rest)
+pub next_flight : (airs : Airs) (log : List Mark) (flights : List Flown) (frames : FramesState) (frame : Flown) → Fly log flights frames → next_of frames ≡ Some frame → (rest : List Flown) × (flights ≡ frame ∷ rest)
 next_flight airs log [] frames frame fly next = by (nat_lt frames.landed frames.sent) refl next
   where
     by : (b : Bool) → nat_lt frames.landed frames.sent ≡ b → (if b then slice_get frames.frames (frames.landed - (frames.sent - length frames.frames)) else None) ≡ Some frame → (rest : List Flown) × ([] ≡ frame ∷ rest)
@@ -340,7 +340,7 @@ module _ (these : List Bool) where
         let p : OuterState = (each chip_does (fed_chip o count rest) (judged_all ways)).outer in
         let adds = judges_add airs these many is.log (on_air o.air.frames) (fed_chip o count rest) ways sent fly in
         subst (AllByRecursion (IsFor these)) (flights_are (is.log ++ adds.more) (on_air o.air.frames ++ adds.added) p.air.frames adds.fly)
-        (all-append (IsFor these) (on_air o.air.frames) adds.added all adds.are_for)
+        (all-append (IsFor these) (on_air o.air.frames) adds.added all (all-weaker (IsOf these) (IsFor these) (λ frame marked out. marked) adds.added adds.are_for))
 
     outside_for : (event : OuterEvent) → IsQuietEvent event → May m (Outside_does event) → IsSentTo these m (Outside_does event) → AreFor (happens_outside m.outside event).outer
     unfolding outcome May MayOutside MayHappen
@@ -405,7 +405,7 @@ heard_then airs m event is live these listen = tt
 
 -- ---- from phase to phase
 
-awaits_of : (here : Phase) (m : Machine) → AwaitsAt here m → Awaits m
+pub awaits_of : (here : Phase) (m : Machine) → AwaitsAt here m → Awaits m
 awaits_of Between m at = at
 awaits_of (Said_line line) m at = at
 awaits_of (Begun line) m at = at

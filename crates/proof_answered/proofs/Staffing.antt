@@ -82,7 +82,7 @@ none_wants false b c d e f g none wants = absurd (let no : false ≡ true = want
 still_wants : (n : NodeState) → IsStill n → wants_no_more n ≡ true → ⊥
 still_wants n still wants = none_wants n.awake (is_false n.listens) (is_some n.classes) (is_unasked n.no_more) (is_false (has_waiting n)) (is_idle n.series) (n.hold == 0) still.rests wants
 
-still_rests : Resting IsStill
+pub still_rests : Resting IsStill
 still_rests = record { ticks = tick_so IsStill still_so; works = λ n still. none_works n still.idle still.none_waits; wants = still_wants }
 
 -- ---- the request, of these nodes
@@ -370,7 +370,7 @@ effect_sent these m (Outside_does (Cuts size)) is = tt
 effect_sent these m (Outside_does event) is = absurd is
 effect_sent these m event is = tt
 
-sent_on : (these : List Bool) (here next : Phase) (m : Machine) (event : Event) → Goes here m event next → May m event → LineAt here m → TieAt here m → KnowsWorkers these m.host.state → IsSentTo these m event
+pub sent_on : (these : List Bool) (here next : Phase) (m : Machine) (event : Event) → Goes here m event next → May m event → LineAt here m → TieAt here m → KnowsWorkers these m.host.state → IsSentTo these m event
 sent_on these (Said_line line) next m event (is, to) may line_at tie knows = sent_as these m event _ is tt
 sent_on these (Doing line (first ∷ left)) next m event (is, to) may line_at tie knows = sent_as these m event first is (effect_sent these m first line_at.0.0)
 sent_on these (To_tick (suc ticks)) next m event (is, to) may line_at tie knows = sent_as these m event _ is tt

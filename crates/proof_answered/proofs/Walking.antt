@@ -111,7 +111,7 @@ module _ (airs : Airs) where
   does_few : (to_wake most : ℕ) (m : Machine) (event : HostEvent) → Awaits m → Awaits (happens m (Host_does event)) → AreFew to_wake most m → AreFew to_wake most (happens m (Host_does event))
   does_few to_wake most m event is later few = calm_few to_wake most m (happens m (Host_does event)) is later (does_calm airs m event) (devices_host-all m (event ∷ [])) few
 
-  takes_still : (m : Machine) (count : ℕ) (rest : Rest) (items : List Item) (events : List HostEvent) → (happens m (Host_takes count rest items events)).outside.devices ≡ m.outside.devices
+  pub takes_still : (m : Machine) (count : ℕ) (rest : Rest) (items : List Item) (events : List HostEvent) → (happens m (Host_takes count rest items events)).outside.devices ≡ m.outside.devices
   unfolding happens devices_after
   takes_still m count rest items events = routed_still (fed m count rest).outside (outs_all m.host.state events)
 

@@ -9,7 +9,6 @@ use Rattle.host_model.specs.Events.{HostEvent, Node_ticks}
 use Rattle.world_model.specs.State.{Machine}
 use Rattle.world_model.specs.Events.{Event, Host_does}
 use Rattle.proof_calm.specs.proof_work.proof_walk.Phases.{Phase}
-use Rattle.proof_answered.specs.Few.{IsStretched}
 
 -- a series of the node that is due or runs is at its first attempt
 abbrev pub IsFirst : NodeState → Type 0
@@ -36,6 +35,6 @@ AndInTime Has m event = Has m event × IsInTime m event
 
 -- ---- at each phase
 
--- beside what else is known
-abbrev pub KnowFirst : (Phase → List Entry → Machine → Type 0) → Phase → List Entry → Machine → Type 0
-KnowFirst Ground here past m = Ground here past m × (IsStretched past → AllFirst m.host.state)
+-- beside what else is known, of such a stretch
+abbrev pub KnowFirst : (List Entry → Type 0) → (Phase → List Entry → Machine → Type 0) → Phase → List Entry → Machine → Type 0
+KnowFirst Is Ground here past m = Ground here past m × (Is past → AllFirst m.host.state)

@@ -25,6 +25,10 @@ use Rattle.proof_answered.specs.Listening.{HasListener}
 abbrev pub IsFor : List Bool → Flown → Type 0
 IsFor these frame = frame.heading ≡ Outward → is_marked these frame.node ≡ true
 
+-- any is for or of one of these
+abbrev pub IsOf : List Bool → Flown → Type 0
+IsOf these frame = is_marked these frame.node ≡ true
+
 -- each that is on the air is for one of these, and the device of each of them listens
 pub record AllListen (these : List Bool) (m : Machine) : Type 0 where
   pub frames : AllByRecursion (IsFor these) (on_air m.outside.outer.air.frames)

@@ -1,22 +1,28 @@
 -- Nodes at work (this project's own rule): the host has to do with these alone, and asks for no others.
 use Rattle.std.specs.Prelude.{◌≡◌, ℕ, ◌&&◌, Bool, false, true, List, []}
-use Rattle.std.specs.List.{AllByRecursion}
+use Rattle.std.specs.List.{AllByRecursion, list_all}
+use Rattle.zw_text.specs.declared.line.Line.{Line}
+use Rattle.zw_text.specs.declared.line.Line.TheVariants as lines
 use Rattle.zw_text.specs.declared.entry.Entry.{Entry}
+use Rattle.zw_text.specs.Transcript.{lines_run}
 use Rattle.serial_frame.specs.Frame.{FrameParts}
 use Rattle.chip_functions.specs.declared.notice.Notice.TheVariants.{ApplicationCommandHandler}
 use Rattle.chip_sim.specs.Answers.{notice_frame}
 use Rattle.chip_sim.specs.Nodes.{is_marked}
+use Rattle.device_sim.specs.State.{State}
 use Rattle.host_node.specs.State.{NodeState, is_false}
 use Rattle.host_node.specs.declared.series.Series.TheVariants.{Idle}
 use Rattle.host_model.specs.Events.{HostEvent, Accepts}
 use Rattle.host_model.specs.State.{HostState}
+use Rattle.outside_model.specs.Events.{OuterEvent, Wakes_device}
 use Rattle.world_model.specs.State.{Machine}
-use Rattle.world_model.specs.Events.{Event, Host_does, Host_takes}
-use Rattle.proof_calm.specs.proof_work.proof_walk.Phases.{Phase}
+use Rattle.world_model.specs.Events.{Event, Outside_does, Host_does, Host_takes}
+use Rattle.proof_calm.specs.proof_traffic.OnAir.{on_air}
+use Rattle.proof_calm.specs.proof_work.proof_walk.Phases.{Phase, Said_line, Begun, Doing}
 use Rattle.proof_calm.specs.Known.{KnowsThese}
 use Rattle.proof_calm.specs.Tied.{unheard}
 use Rattle.proof_answered.specs.Few.{IsStretched}
-use Rattle.proof_answered.specs.Outward.{KnowListening}
+use Rattle.proof_answered.specs.Outward.{IsOf, KnowListening}
 
 -- nothing is to be done for a node: no series of it is due or runs, no command waits for it, and it is not awake or listens
 pub record IsStill (n : NodeState) : Type 0 where
@@ -48,7 +54,55 @@ IsWorkFor these m (Host_does event) = IsOrderFor these event
 IsWorkFor these m (Host_takes count rest items events) = AllFrom these (unheard m.outside.outer)
 IsWorkFor these m event = Unit {0}
 
+-- ---- who speaks on the air
+
+-- a device of another node is not at work
+abbrev pub IsAway : List Bool → State → Type 0
+IsAway these device = is_marked these device.node ≡ false → device.work_left ≡ 0
+
+-- the frames there are for or of these, no other device is at work, and payloads on their way to the host are of these
+pub record OnlySpeak (these : List Bool) (m : Machine) : Type 0 where
+  pub frames : AllByRecursion (IsOf these) (on_air m.outside.outer.air.frames)
+  pub devices : AllByRecursion (IsAway these) m.outside.devices
+  pub pending : AllFrom these (unheard m.outside.outer)
+
+-- ---- what lines ask for
+
+-- an order is for one of these, and the node that is woken is one
+abbrev pub is_line_for : List Bool → Line → Bool
+is_line_for these (lines.Command order) = is_marked these order.node
+is_line_for these (lines.Wake node) = is_marked these node
+is_line_for these line = true
+
+abbrev pub IsCalledFor : List Bool → OuterEvent → Type 0
+IsCalledFor these (Wakes_device node route) = is_marked these node ≡ true
+IsCalledFor these event = Unit {0}
+
+abbrev pub IsLineFor : List Bool → Event → Type 0
+IsLineFor these (Outside_does event) = IsCalledFor these event
+IsLineFor these (Host_does event) = IsOrderFor these event
+IsLineFor these event = Unit {0}
+
+-- so it is of a line that has begun, and of what is to come of it
+abbrev pub LinesAt : List Bool → Phase → Type 0
+LinesAt these (Said_line line) = is_line_for these line ≡ true
+LinesAt these (Begun line) = is_line_for these line ≡ true
+LinesAt these (Doing line left) = AllByRecursion (IsLineFor these) left
+LinesAt these here = Unit {0}
+
+-- a stretch of lines for these
+pub record IsWorkedFor (these : List Bool) (past : List Entry) : Type 0 where
+  pub stretched : IsStretched past
+  pub lines : list_all (is_line_for these) (lines_run past) ≡ true
+
 -- ---- at each phase
 
 abbrev pub KnowWorkers : List Bool → Phase → List Entry → Machine → Type 0
 KnowWorkers these here past m = KnowListening these here past m × (IsStretched past → KnowsWorkers these m.host.state)
+
+pub record Staffed (these : List Bool) (here : Phase) (m : Machine) : Type 0 where
+  pub lines : LinesAt these here
+  pub speak : OnlySpeak these m
+
+abbrev pub KnowStaff : List Bool → Phase → List Entry → Machine → Type 0
+KnowStaff these here past m = IsWorkedFor these past → KnowWorkers these here past m × Staffed these here m

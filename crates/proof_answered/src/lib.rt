@@ -4,11 +4,12 @@
 //! something answers with two payloads at most. So the request of the host stays tied over each stretch, whatever it asks (`requests_stay_tied` of
 //! `proof_calm`, which assumes no more than this). A node whose device is of a kind that listens hears each frame that is sent to it (`listeners_hear`);
 //! and where each is heard, the call for each payload of the host says so (`payloads_are_heard`). So it is where the chip takes payloads for nodes
-//! alone whose devices listen (`nodes_hear`), and in a network whose joined nodes all do (`networks_hear`). Then a series ends no attempt but as the wait of
-//! one runs out (`attempts_stay_first`); and each service of another node brings a node that has work nearer to its turn (`nodes_are_served_in_turn`). There
-//! is no code here.
+//! alone whose devices listen (`nodes_hear`), and in a network whose joined nodes all do (`networks_hear`). Where the lines of a stretch are for some nodes
+//! alone, these alone speak on the air, and the host has to do with no others (`workers_hear`, `workers_alone_speak`): the rest may sleep. Then a series
+//! ends no attempt but as the wait of one runs out (`attempts_stay_first`); and each service of another node brings a node that has work nearer to its turn
+//! (`nodes_are_served_in_turn`). There is no code here.
 //! The definitions are in `specs/`: `Few` (for how long devices are at work, and how many frames are on the air, at each phase), `Listening`, `Heard` (what
-//! calls say), `Outward` (for which nodes frames are), `FirstAttempts`, and `Turns`.
+//! calls say), `Outward` (for which nodes frames are), `Workers` (which nodes lines, host and air have to do with), `FirstAttempts`, and `Turns`.
 #![tactic(auto)]
 
 mod attempts;
@@ -25,4 +26,4 @@ pub use heard::payloads_are_heard;
 pub use hearing::{networks_hear, nodes_hear};
 pub use listening::listeners_hear;
 pub use serving::nodes_are_served_in_turn;
-pub use working::workers_hear;
+pub use working::{workers_alone_speak, workers_hear};

@@ -39,10 +39,10 @@ pub goes_not_over : (told : AttemptsTold) (wait now : ℕ) (badly : Bool) → Go
 goes_not_over told wait now badly goes = or_none (is_late now told) (told.own && badly) (goes_not_late told wait now badly goes) goes.not_badly
 
 -- what is known of one that runs, and of one that is due
-running_goes : (told : AttemptsTold) (node : NodeState) (now : ℕ) (badly : Bool) → AreAttempts told node now badly → node.series ≡ Running → GoesOn told node.attempt_wait now badly
+pub running_goes : (told : AttemptsTold) (node : NodeState) (now : ℕ) (badly : Bool) → AreAttempts told node now badly → node.series ≡ Running → GoesOn told node.attempt_wait now badly
 running_goes told node now badly are is = subst (λ (s : Series). LastIs s node.book.attempts told node.attempt_wait now badly) is are.last
 
-begun_as : (told : AttemptsTold) (node : NodeState) (now : ℕ) (badly : Bool) (s : Series) → AreAttempts told node now badly → node.series ≡ s → told.begun ≡ begun_of s node.book.attempts
+pub begun_as : (told : AttemptsTold) (node : NodeState) (now : ℕ) (badly : Bool) (s : Series) → AreAttempts told node now badly → node.series ≡ s → told.begun ≡ begun_of s node.book.attempts
 begun_as told node now badly s are is = are.begun ∙ ap (λ (s : Series). begun_of s node.book.attempts) is
 
 pub running_not_over : (told : AttemptsTold) (node : NodeState) (now : ℕ) (badly : Bool) → AreAttempts told node now badly → node.series ≡ Running → is_over_by now badly told ≡ false
@@ -189,7 +189,7 @@ late_later : (told : AttemptsTold) (now : ℕ) → is_late now told ≡ true →
 late_later told now =
     or_more told.over (list_any (λ tick. nat_le (tick + 100) now) told.sign) told.over (list_any (λ tick. nat_le (tick + 100) (now + 1)) told.sign) (λ is. is) (sign_later told.sign now)
 
-over_later : (told : AttemptsTold) (now : ℕ) (badly later : Bool) → (badly ≡ true → later ≡ true) → is_over_by now badly told ≡ true → is_over_by (now + 1) later told ≡ true
+pub over_later : (told : AttemptsTold) (now : ℕ) (badly later : Bool) → (badly ≡ true → later ≡ true) → is_over_by now badly told ≡ true → is_over_by (now + 1) later told ≡ true
 over_later told now badly later goes =
     or_more (is_late now told) (told.own && badly) (is_late (now + 1) told) (told.own && later) (late_later told now) (and_more told.own badly later goes)
 
@@ -210,7 +210,7 @@ sign_over : (sign : List ℕ) (now wait : ℕ) → IsSign sign now wait → wait
 sign_over [] now wait is one = absurd (omega (arith, is, one))
 sign_over (tick ∷ more) now wait is one = or_left (nat_le (tick + 100) (now + 1)) _ (let sum = is.2 in le-leb (tick + 100) (now + 1) (omega (arith, sum, one)))
 
-sign_less : (sign : List ℕ) (now wait : ℕ) → IsSign sign now wait → (wait ≡ 1 → ⊥) → IsSign sign (now + 1) (wait - 1)
+pub sign_less : (sign : List ℕ) (now wait : ℕ) → IsSign sign now wait → (wait ≡ 1 → ⊥) → IsSign sign (now + 1) (wait - 1)
 sign_less [] now wait is other = omega (arith, is)
 sign_less (tick ∷ more) now wait is other = (is.0, above wait is.1 other, sums wait is.1 is.2)
   where

@@ -1,19 +1,19 @@
 pub mod Lasting
 pub mod Ahead
-mod Nodes
+pub mod Nodes
 pub mod Releasing
-mod Counting
+pub mod Counting
 pub mod Ticking
-mod Telling
-mod Holding
+pub mod Telling
+pub mod Holding
 mod Working
 pub mod Opening
 mod SeriesSteps
 mod Finishing
 pub mod KeptAwake
-mod Doings
+pub mod Doings
 mod SeriesTold
-mod SeriesGoes
+pub mod SeriesGoes
 mod SeriesTie
 mod Payloads
 mod Carried
@@ -24,7 +24,7 @@ mod Owing
 pub mod Late
 pub mod Sleeping
 mod Asleep
-mod AttemptsGo
+pub mod AttemptsGo
 pub use Rattle.proof_work.proofs.Times
 pub use Rattle.proof_work.proofs.HostNotes
 pub use Rattle.proof_requests.proofs.Carried as proof_requests_Carried
@@ -41,3 +41,18 @@ pub use Rattle.proof_requests.proofs.proof_waking_Apart
 pub use Rattle.proof_requests.proofs.proof_waking_Settling
 pub use Rattle.proof_requests.proofs.Telling as proof_requests_Telling
 pub use Rattle.proof_requests.proofs.Running
+pub use Rattle.proof_requests.proofs.Ended as proof_requests_Ended
+pub use Rattle.proof_requests.proofs.Growing as proof_requests_Growing
+pub use Rattle.proof_requests.proofs.Standing as proof_requests_Standing
+pub use Rattle.proof_requests.proofs.Judging as proof_requests_Judging
+pub use Rattle.proof_requests.proofs.EndsHere as proof_requests_EndsHere
+pub use Rattle.proof_requests.proofs.proof_alone_Apart
+pub use Rattle.proof_requests.proofs.proof_waking_Judging
+pub use Rattle.proof_requests.proofs.Line
+pub use Rattle.proof_requests.proofs.OnLine
+pub use Rattle.proof_work.proofs.Doing as proof_work_Doing
+pub use Rattle.proof_work.proofs.HostOuts
+pub use Rattle.proof_requests.proofs.EndsDone
+pub use Rattle.proof_requests.proofs.Interviews
+pub use Rattle.proof_requests.proofs.EndsLate
+pub use Rattle.proof_requests.proofs.EndsTold

@@ -203,12 +203,12 @@ module _ (told : SeriesTold) (s : NodeState) (now : ℕ) where
 
 -- ---- whose command it is
 
-opened_by : (s : NodeState) → NodeFacts s → is_running s.series ≡ true → ((open_session s.book ≡ None) × (open_command s ≡ None)) ⊎ OpenLast s → ends_by (lasts_of s) (open_command s) ≡ true
+pub opened_by : (s : NodeState) → NodeFacts s → is_running s.series ≡ true → ((open_session s.book ≡ None) × (open_command s ≡ None)) ⊎ OpenLast s → ends_by (lasts_of s) (open_command s) ≡ true
 opened_by s facts runs (inl none) = absurd (let bad : false ≡ true = subst IsSome none.0 (opens s.series s facts.series runs) in cc)
 opened_by s facts runs (inr at) =
     ap (λ (o : Option ℕ). ends_by (lasts_of s) o) at.opened ∙ ap (λ (l : List ℕ). list_any (λ command. command == at.command) l) at.last ∙ ap (λ (b : Bool). b || false) (eq-eqb at.command at.command refl)
 
-others_by : (commands : List Command) (k n : ℕ) (s t : NodeState) → (k ≡ n → ⊥) → All (IsCommandOf commands k) s.book.commands → All (IsCommandOf commands n) t.book.commands
+pub others_by : (commands : List Command) (k n : ℕ) (s t : NodeState) → (k ≡ n → ⊥) → All (IsCommandOf commands k) s.book.commands → All (IsCommandOf commands n) t.book.commands
     → ((open_session s.book ≡ None) × (open_command s ≡ None)) ⊎ OpenLast s → ends_by (lasts_of t) (open_command s) ≡ false
 others_by commands k n s t differs own other (inl none) = ap (λ (o : Option ℕ). ends_by (lasts_of t) o) none.1
 others_by commands k n s t differs own other (inr at) =

@@ -96,7 +96,7 @@ written_new past told m purpose event free tie now (marks, rest, is, all, none) 
     = is ∙ ap (λ (l : List Entry). entry.Written Host unit ∷ (marks ++ l)) none ∙ ap (λ (l : List Entry). entry.Written Host unit ∷ l) (append-nil marks) in
     Anew purpose f marks refl free are (is_fresh past m.clock m.came (doing_of m.state) f free.free_line tie) all now
 
-front_now : (h : HostState) (queue : List Task) → h.requests.queue ≡ queue → (queue ≡ [] → ⊥)
+pub front_now : (h : HostState) (queue : List Task) → h.requests.queue ≡ queue → (queue ≡ [] → ⊥)
     → (after h Submits_front).requests.under_way ≡ Some (record { purpose = task_purpose h.requests.queue; progress = Submitted })
 front_now h [] is some = absurd (some refl)
 front_now h (task ∷ rest) is some =

@@ -30,6 +30,7 @@ mod work;
 pub use attempts::{attempts_go_with_nodes, attempts_tell_what_is_next};
 pub use holds::{hosts_hold_as_asked, lines_hold_as_asked};
 pub use proof_requests as requests;
+pub use proof_work as work_proofs;
 pub use series::{
     hosts_run_series_as_told, hosts_show_open_sessions, series_go_with_nodes, series_go_with_ticks,
     series_grow_by_entries,

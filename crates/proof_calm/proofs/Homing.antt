@@ -220,23 +220,24 @@ module _ (joined : List Bool) where
       let outs_are : List AirEvent = outs_at heard (slice_get at.devices place) number frame.node route (Hears frame.payload drawn) in
       all-append (IsFromOf joined) outs_are (air_event.Done number _ None ∷ []) (all_from outs_are (outs_aside heard (slice_get at.devices place) number frame.node route (Hears frame.payload drawn))) (tt, tt)
 
-  pub arrival_from : (w : Outside) (drawn : List ℕ) (route : Option Route) → Speaks w.outer → AllByRecursion (IsFromOf joined) (mesh_outs (mesh_of w) (mesh.Arrives drawn route))
+  pub next_of_member : (frames : FramesState) → AllByRecursion (IsOfMember joined) frames.frames → (frame : Flown) → next_of frames ≡ Some frame → IsOfMember joined frame
+  next_of_member frames all frame is = by_test (nat_lt frames.landed frames.sent) is
+    where
+      by_test : (b : Bool) → (if b then slice_get frames.frames (frames.landed - (frames.sent - length frames.frames)) else None) ≡ Some frame → IsOfMember joined frame
+      by_test true found = all-get (IsOfMember joined) frames.frames (frames.landed - (frames.sent - length frames.frames)) frame all found
+      by_test false found = absurd cc
+
+  pub arrival_of : (w : Outside) (drawn : List ℕ) (route : Option Route) → ((frame : Flown) → next_of w.outer.air.frames ≡ Some frame → IsOfMember joined frame)
+      → AllByRecursion (IsFromOf joined) (mesh_outs (mesh_of w) (mesh.Arrives drawn route))
   unfolding mesh_outs
-  arrival_from w drawn route speaks = by (next_of w.outer.air.frames) refl
+  arrival_of w drawn route next_is = by (next_of w.outer.air.frames) refl
     where
       at : Mesh
       at = mesh_of w
 
-      frames : FramesState
-      frames = w.outer.air.frames
-
-      next_is : (frame : Flown) → next_of frames ≡ Some frame → IsOfMember joined frame
-      next_is frame is = by_test (nat_lt frames.landed frames.sent) is
-        where
-          by_test : (b : Bool) → (if b then slice_get frames.frames (frames.landed - (frames.sent - length frames.frames)) else None) ≡ Some frame → IsOfMember joined frame
-          by_test true found = all-get (IsOfMember joined) frames.frames (frames.landed - (frames.sent - length frames.frames)) frame speaks.frames found
-          by_test false found = absurd cc
-
-      by : (frame : Option Flown) → next_of frames ≡ frame → AllByRecursion (IsFromOf joined) (arrival_outs at frame drawn route)
+      by : (frame : Option Flown) → next_of w.outer.air.frames ≡ frame → AllByRecursion (IsFromOf joined) (arrival_outs at frame drawn route)
       by None is = tt
       by (Some frame) is = fate_from at (at.air.frames.landed + 1) frame (fate_of at.air.network at.devices frame) drawn route refl (next_is frame is)
+
+  pub arrival_from : (w : Outside) (drawn : List ℕ) (route : Option Route) → Speaks w.outer → AllByRecursion (IsFromOf joined) (mesh_outs (mesh_of w) (mesh.Arrives drawn route))
+  arrival_from w drawn route speaks = arrival_of w drawn route (next_of_member w.outer.air.frames speaks.frames)

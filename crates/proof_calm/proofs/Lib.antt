@@ -44,5 +44,6 @@ pub use Rattle.proof_waking.proofs.Flights
 pub use Rattle.proof_waking.proofs.proof_traffic_Parts
 pub use Rattle.proof_waking.proofs.ChipNotices
 pub use Rattle.proof_work.proofs.Times
+pub use Rattle.proof_work.proofs.Results
 pub use Rattle.proof_work.proofs.Lines
 pub use Rattle.proof_work.proofs.Where

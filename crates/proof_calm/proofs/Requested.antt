@@ -1,7 +1,7 @@
 -- The chip judges the request that is on its way to it, and takes its payload: it sends that, and its answer stands behind what it has for the host.
-use Rattle.std.proofs.Common.{◌≡◌, ◌≤◌, ℕ, Bool, true, false, if◌then◌else◌, inr, List, [], ◌∷◌, ◌++◌, map, length, refl, sym, ap, ◌∙◌, subst, arith}
+use Rattle.std.proofs.Common.{◌≡◌, ◌≤◌, ℕ, Bool, true, false, if◌then◌else◌, inl, inr, List, [], ◌∷◌, ◌++◌, map, length, refl, sym, ap, ◌∙◌, subst, arith}
 use Rattle.std.specs.Option.{is_some}
-use Rattle.std.specs.Prelude.{Option, Some, nat_lt}
+use Rattle.std.specs.Prelude.{◌⊎◌, Option, Some, nat_lt}
 use Rattle.zw_base.proofs.Each.{all-append}
 use Rattle.serial_frame.specs.Frame.{FrameParts}
 use Rattle.serial_frame.specs.Stream.{Rest}
@@ -98,14 +98,16 @@ module _ (k : OfHost) where
   abbrev TiedAt : ChipState → Type 0
   TiedAt s = TieBy true k s (line_of s.port) []
 
-  -- what is so of the chip then: the tie; and where it sends nothing, it sent nothing before, and no more frames wait
-  pub record Judges (s t : ChipState) : Type 0 where
+  -- what is so of the chip then: the tie; the frames that it has for the host are those of before, or its answer is behind them; and where it sends
+  -- nothing, it sent nothing before, and no more frames wait
+  pub record Judges (pending : List FrameParts) (s t : ChipState) : Type 0 where
     pub tied : TiedAt t
+    pub line : (line_of t.port ≡ pending) ⊎ (line_of t.port ≡ pending ++ answer_taken ∷ [])
     pub fewer : is_some t.sending ≡ false → (is_some s.sending ≡ false) × (length t.port.waiting ≤ length s.port.waiting)
 
   -- the host's frame is the request under way, which the chip takes
   sent_tied : (s : ChipState) (frame : FrameParts) (way : Option Route) (u : UnderWay) (pending : List FrameParts) → s.port.side.collisions ≡ 0 → IsServed s.port → HasRoom s → line_of s.port ≡ pending → k.2 ≡ false
-      → IsOf u (ends_by k s) → IsFresh u.progress → IsOnWay u (ends_by k s) pending (frame ∷ []) → IsTakenBy s frame × Judges s (after s (Judged (Good (Framed frame)) way))
+      → IsOf u (ends_by k s) → IsFresh u.progress → IsOnWay u (ends_by k s) pending (frame ∷ []) → IsTakenBy s frame × Judges pending s (after s (Judged (Good (Framed frame)) way))
   sent_tied s frame way u pending none free room line paid of fresh is =
       let asks : AsksToSend s.joined u.purpose k.3 = is.asks in
       let one : frame ∷ [] ≡ frame_of u.purpose k.3 ∷ [] = is.asked in
@@ -114,7 +116,7 @@ module _ (k : OfHost) where
       ap asked (frame_is ∙ ap request_frame asks.is) ∙ asked_send asks.node asks.payload k.3 asks.is_node asks.some is.from is.to in
       let takes_it : takes s asks.node asks.payload ≡ true = takes_payload s asks.node asks.payload asks.some asks.few is.idle asks.is_joined in (
         record { node = asks.node; payload = asks.payload; options = TRANSMIT_OPTIONS; id = k.3; is = read; taken = takes_it },
-        subst (Judges s) (sym (judges_request s frame way asks.node asks.payload k.3 none read takes_it))
+        subst (Judges pending s) (sym (judges_request s frame way asks.node asks.payload k.3 none read takes_it))
             (record {
               tied = record {
                 paid = paid;
@@ -127,6 +129,7 @@ module _ (k : OfHost) where
                       nothing = refl;
                     }));
               };
+              line = inr more;
               fewer = λ no. absurd cc;
             }),
       )
@@ -142,23 +145,23 @@ module _ (k : OfHost) where
   -- ---- a list of what it judges
 
   asked_tied : (s : ChipState) (frame : FrameParts) (pending : List FrameParts) (ways : List (Item × Option Route)) → map (λ (w : Item × Option Route). w.0) ways ≡ Good (Framed frame) ∷ [] → s.port.side.collisions ≡ 0
-      → IsServed s.port → HasRoom s → line_of s.port ≡ pending → TieBy true k s pending (frame ∷ []) → TakesEach s ways × Judges s (after_all s (judged_all ways))
+      → IsServed s.port → HasRoom s → line_of s.port ≡ pending → TieBy true k s pending (frame ∷ []) → TakesEach s ways × Judges pending s (after_all s (judged_all ways))
   asked_tied s frame pending ways are none free room line tie = by tie.tied
     where
       one : (way : Option Route) × (ways ≡ (Good (Framed frame), way) ∷ [])
       one = one_way ways (Good (Framed frame)) are
 
-      by : Tied true (ends_by k s) pending (frame ∷ []) → TakesEach s ways × Judges s (after_all s (judged_all ways))
+      by : Tied true (ends_by k s) pending (frame ∷ []) → TakesEach s ways × Judges pending s (after_all s (judged_all ways))
       by (Nowhere is) = absurd (let no : frame ∷ [] ≡ [] = is.nothing in cc)
       by (At_chip u of fresh is) = absurd (let no : frame ∷ [] ≡ [] = is.nothing in cc)
       by (Called u of fresh is) = absurd (let no : frame ∷ [] ≡ [] = is.nothing in cc)
       by (On_way u of fresh is) =
           let both = sent_tied s frame one.0 u pending none free room line tie.paid of fresh is in
-          subst (λ (l : List (Item × Option Route)). TakesEach s l × Judges s (after_all s (judged_all l))) (sym one.1) ((both.0, tt), both.1)
+          subst (λ (l : List (Item × Option Route)). TakesEach s l × Judges pending s (after_all s (judged_all l))) (sym one.1) ((both.0, tt), both.1)
 
   -- an acknowledgement before it
   ack_asked_tied : (s : ChipState) (frame : FrameParts) (ways : List (Item × Option Route)) → map (λ (w : Item × Option Route). w.0) ways ≡ Good Ack ∷ Good (Framed frame) ∷ [] → s.port.side.collisions ≡ 0
-      → HasRoom s → TieBy true k s s.port.waiting (frame ∷ []) → TakesEach s ways × Judges s (after_all s (judged_all ways))
+      → HasRoom s → TieBy true k s s.port.waiting (frame ∷ []) → TakesEach s ways × Judges s.port.waiting s (after_all s (judged_all ways))
   ack_asked_tied s frame ways are none room tie =
       let two = two_ways ways (Good Ack) (Good (Framed frame)) are in
       let t : ChipState = record s { port = acked_port s.port s.port.waiting } in
@@ -166,25 +169,26 @@ module _ (k : OfHost) where
       let few = acked_few s.port s.port.waiting in
       let both = asked_tied t frame s.port.waiting ((Good (Framed frame), two.1) ∷ []) refl (acked_collisions s.port s.port.waiting ∙ none) (acked_served s.port s.port.waiting)
       (λ idle. let most = room idle in omega (arith, most, few)) (acked_line s.port s.port.waiting) tie in
-      let judges : Judges s (after_all t (judged_all ((Good (Framed frame), two.1) ∷ []))) =
-      record { tied = both.1.tied; fewer = λ idle. let less = both.1.fewer idle in (less.0, let most = less.1 in omega (arith, most, few)) } in
-      subst (λ (l : List (Item × Option Route)). TakesEach s l × Judges s (after_all s (judged_all l))) (sym two.2)
-      (subst (λ (r : ChipState). (Unit {0} × TakesEach r ((Good (Framed frame), two.1) ∷ [])) × Judges s (after_all r (judged_all ((Good (Framed frame), two.1) ∷ [])))) (sym same) ((tt, both.0), judges))
+      let judges : Judges s.port.waiting s (after_all t (judged_all ((Good (Framed frame), two.1) ∷ []))) =
+      record { tied = both.1.tied; line = both.1.line; fewer = λ idle. let less = both.1.fewer idle in (less.0, let most = less.1 in omega (arith, most, few)) } in
+      subst (λ (l : List (Item × Option Route)). TakesEach s l × Judges s.port.waiting s (after_all s (judged_all l))) (sym two.2)
+      (subst (λ (r : ChipState). (Unit {0} × TakesEach r ((Good (Framed frame), two.1) ∷ [])) × Judges s.port.waiting s (after_all r (judged_all ((Good (Framed frame), two.1) ∷ [])))) (sym same) ((tt, both.0), judges))
 
   ack_tied : (s : ChipState) (ways : List (Item × Option Route)) → map (λ (w : Item × Option Route). w.0) ways ≡ Good Ack ∷ [] → TieBy true k s s.port.waiting []
-      → TakesEach s ways × Judges s (after_all s (judged_all ways))
+      → TakesEach s ways × Judges s.port.waiting s (after_all s (judged_all ways))
   ack_tied s ways are tie =
       let one = one_way ways (Good Ack) are in
       let t : ChipState = record s { port = acked_port s.port s.port.waiting } in
-      let judges : Judges s t = record {
+      let judges : Judges s.port.waiting s t = record {
+        line = inl (acked_line s.port s.port.waiting);
         tied = subst (λ (fs : List FrameParts). TieBy true k t fs []) (sym (acked_line s.port s.port.waiting)) tie;
         fewer = λ idle. (idle, acked_few s.port s.port.waiting);
       } in
-      subst (λ (l : List (Item × Option Route)). TakesEach s l × Judges s (after_all s (judged_all l))) (sym one.1) ((tt, tt), subst (Judges s) (sym (judges_ack s one.0)) judges)
+      subst (λ (l : List (Item × Option Route)). TakesEach s l × Judges s.port.waiting s (after_all s (judged_all l))) (sym one.1) ((tt, tt), subst (Judges s.port.waiting s) (sym (judges_ack s one.0)) judges)
 
-  pub none_tied : (s : ChipState) (ways : List (Item × Option Route)) → map (λ (w : Item × Option Route). w.0) ways ≡ [] → TiedAt s → TakesEach s ways × Judges s (after_all s (judged_all ways))
+  pub none_tied : (s : ChipState) (ways : List (Item × Option Route)) → map (λ (w : Item × Option Route). w.0) ways ≡ [] → TiedAt s → TakesEach s ways × Judges (line_of s.port) s (after_all s (judged_all ways))
   none_tied s ways are tie =
-      subst (λ (l : List (Item × Option Route)). TakesEach s l × Judges s (after_all s (judged_all l))) (sym (no_ways ways are)) (tt, record { tied = tie; fewer = λ idle. (idle, omega arith) })
+      subst (λ (l : List (Item × Option Route)). TakesEach s l × Judges (line_of s.port) s (after_all s (judged_all l))) (sym (no_ways ways are)) (tt, record { tied = tie; line = inl refl; fewer = λ idle. (idle, omega arith) })
 
 -- ---- the machine
 
@@ -201,7 +205,8 @@ taken_state m rest ways may = entered_state _ _ ∙ (does_each (taken m.outside.
 
 -- what the chip's part of a pass makes of it
 pub part_tied : (m : Machine) (line : Line m) (rest : Rest) (ways : List (Item × Option Route)) → Moves line → ChipMayTake m rest ways → HasRoom m.outside.outer.chip.state
-    → TieOf true m (on_line m.host.state.side.turn) → TakesEach m.outside.outer.chip.state ways × Judges (kept m.host.state) m.outside.outer.chip.state (after_all m.outside.outer.chip.state (judged_all ways))
+    → TieOf true m (on_line m.host.state.side.turn) → TakesEach m.outside.outer.chip.state ways
+    × Judges (kept m.host.state) (unheard m.outside.outer) m.outside.outer.chip.state (after_all m.outside.outer.chip.state (judged_all ways))
 unfolding May MayOutside
 part_tied m line rest ways moves may room tie = by line moves
   where
@@ -224,25 +229,31 @@ part_tied m line rest ways moves may room tie = by line moves
     with_bytes : (bytes : List ℕ) (asked : List FrameParts) → o.to_host.bytes ≡ bytes → TieBy true k s (unheard o) asked → TieBy true k s (unheard_by bytes s.port) asked
     with_bytes bytes asked is there = subst (λ (bs : List ℕ). TieBy true k s (unheard_by bs s.port) asked) is there
 
-    by : (at : Line m) → Moves at → TakesEach s ways × Judges k s (after_all s (judged_all ways))
+    of_bytes : (bytes : List ℕ) → o.to_host.bytes ≡ bytes → TakesEach s ways × Judges k (unheard_by bytes s.port) s (after_all s (judged_all ways))
+        → TakesEach s ways × Judges k (unheard o) s (after_all s (judged_all ways))
+    of_bytes bytes is there = subst (λ (bs : List ℕ). TakesEach s ways × Judges k (unheard_by bs s.port) s (after_all s (judged_all ways))) (sym is) there
+
+    by : (at : Line m) → Moves at → TakesEach s ways × Judges k (unheard o) s (after_all s (judged_all ways))
     by (Free at) moves = absurd moves
     by (Asks frame fits at) moves =
         let fed = fed_units (Framed frame) [] o.to_chip.bytes o.chip.decoder rest items (fits, tt) at.at_chip.decoder at.at_chip.up_bytes may.1.feeds in
-        asked_tied k s frame s.port.waiting ways fed.0 at.unmarked.link (λ idle. at.at_chip.waiting) room (ap (λ (t : Turn). on_line t ++ s.port.waiting) at.at_chip.turn_is)
-        (with_bytes [] (frame ∷ []) at.at_chip.down_bytes (asking (Copied frame 1 0) at.at_host.turn_is))
+        of_bytes [] at.at_chip.down_bytes
+        (asked_tied k s frame s.port.waiting ways fed.0 at.unmarked.link (λ idle. at.at_chip.waiting) room (ap (λ (t : Turn). on_line t ++ s.port.waiting) at.at_chip.turn_is)
+        (with_bytes [] (frame ∷ []) at.at_chip.down_bytes (asking (Copied frame 1 0) at.at_host.turn_is)))
     by (Heard first ticks frames at) moves =
         let fed = fed_units Ack [] o.to_chip.bytes o.chip.decoder rest items (tt, tt) at.at_chip.decoder at.at_chip.up_bytes may.1.feeds in
-        ack_tied k s ways fed.0 (with_bytes [] [] at.at_chip.down_bytes (asking Idle at.at_host.turn_is))
+        of_bytes [] at.at_chip.down_bytes (ack_tied k s ways fed.0 (with_bytes [] [] at.at_chip.down_bytes (asking Idle at.at_host.turn_is)))
     by (Heard_asks frame first ticks frames fits at) moves =
         let fed = fed_units Ack (Framed frame ∷ []) o.to_chip.bytes o.chip.decoder rest items (tt, (fits, tt)) at.at_chip.decoder at.at_chip.up_bytes may.1.feeds in
-        ack_asked_tied k s frame ways fed.0 at.unmarked.link room (with_bytes [] (frame ∷ []) at.at_chip.down_bytes (asking (Copied frame 1 0) at.at_host.turn_is))
+        of_bytes [] at.at_chip.down_bytes (ack_asked_tied k s frame ways fed.0 at.unmarked.link room (with_bytes [] (frame ∷ []) at.at_chip.down_bytes (asking (Copied frame 1 0) at.at_host.turn_is)))
     by (Sent first ticks frames at) moves =
         let fed = fed_none o.to_chip.bytes o.chip.decoder rest items at.at_chip.decoder at.at_chip.up_bytes may.1.feeds in
-        none_tied k s ways fed.0 (with_bytes (texts (Framed first ∷ [])) [] at.at_chip.down_bytes (asking Idle at.at_host.turn_is))
+        of_bytes (texts (Framed first ∷ [])) at.at_chip.down_bytes (none_tied k s ways fed.0 (with_bytes (texts (Framed first ∷ [])) [] at.at_chip.down_bytes (asking Idle at.at_host.turn_is)))
     by (Sent_asks frame first ticks frames fits at) moves =
         let fed = fed_units (Framed frame) [] o.to_chip.bytes o.chip.decoder rest items (fits, tt) at.at_chip.decoder at.at_chip.up_bytes may.1.feeds in
-        asked_tied k s frame (line_of s.port) ways fed.0 at.unmarked.link (λ idle. absurd (let no : Copied first 1 ticks ≡ Idle = sym at.at_chip.turn_is ∙ idle in cc)) room refl
-        (with_bytes (texts (Framed first ∷ [])) (frame ∷ []) at.at_chip.down_bytes (asking (Copied frame 1 0) at.at_host.turn_is))
+        of_bytes (texts (Framed first ∷ [])) at.at_chip.down_bytes
+        (asked_tied k s frame (line_of s.port) ways fed.0 at.unmarked.link (λ idle. absurd (let no : Copied first 1 ticks ≡ Idle = sym at.at_chip.turn_is ∙ idle in cc)) room refl
+        (with_bytes (texts (Framed first ∷ [])) (frame ∷ []) at.at_chip.down_bytes (asking (Copied frame 1 0) at.at_host.turn_is)))
 
 -- where something moved, the frame of the chip on the line is on its way, if there is one
 pub moved_line : (b : Bool) (passes : ℕ) (m : Machine) → HasMoved b passes m → unheard m.outside.outer ≡ line_of m.outside.outer.chip.state.port

@@ -377,9 +377,9 @@ rests_tied m line tie =
 
 -- ---- the chip's part of a pass
 
-part_served : (passes : ℕ) (m : Machine) (rest : Rest) (ways : List (Item × Option Route)) → May m (Outside_does (Chip_takes (length m.outside.outer.to_chip.bytes) rest ways)) → IsDone m ⊎ CanMove passes m
+pub part_served : (passes : ℕ) (m : Machine) (rest : Rest) (ways : List (Item × Option Route)) → May m (Outside_does (Chip_takes (length m.outside.outer.to_chip.bytes) rest ways)) → IsDone m ⊎ CanMove passes m
     → HasRoom m.outside.outer.chip.state → TieOf true m (on_line m.host.state.side.turn)
-    → TakesEach m.outside.outer.chip.state ways × Judges (kept m.host.state) m.outside.outer.chip.state (after_chip m.outside.outer.chip.state (judged_all ways))
+    → TakesEach m.outside.outer.chip.state ways × Judges (kept m.host.state) (unheard m.outside.outer) m.outside.outer.chip.state (after_chip m.outside.outer.chip.state (judged_all ways))
 unfolding May MayOutside
 part_served passes m rest ways may (inr can) room tie = part_tied m can.live.line rest ways can.moves may room tie
 part_served passes m rest ways may (inl done) room tie =
@@ -389,7 +389,8 @@ part_served passes m rest ways may (inl done) room tie =
     let fed = fed_none o.to_chip.bytes o.chip.decoder rest (map (λ (w : Item × Option Route). w.0) ways) at.decoder at.up_bytes may.1.feeds in
     let lines : unheard o ≡ line_of o.chip.state.port =
     ap (λ (bs : List ℕ). unheard_by bs o.chip.state.port) at.down_bytes ∙ sym (ap (λ (t : Turn). on_line t ++ o.chip.state.port.waiting) at.turn_is) in
-    none_tied (kept m.host.state) o.chip.state ways fed.0 (subst (λ (fs : List FrameParts). TieBy true (kept m.host.state) o.chip.state fs []) lines there)
+    subst (λ (fs : List FrameParts). TakesEach o.chip.state ways × Judges (kept m.host.state) fs o.chip.state (after_chip o.chip.state (judged_all ways))) (sym lines)
+    (none_tied (kept m.host.state) o.chip.state ways fed.0 (subst (λ (fs : List FrameParts). TieBy true (kept m.host.state) o.chip.state fs []) lines there))
 
 part_unmarked : (passes : ℕ) (m : Machine) → IsDone m ⊎ CanMove passes m → IsUnmarked m
 part_unmarked passes m (inl done) = done.line.unmarked
@@ -406,7 +407,7 @@ part_unmarked passes m (inr can) = by can.live.line
 rests_line : (m : Machine) → LineRests m → unheard m.outside.outer ≡ line_of m.outside.outer.chip.state.port
 rests_line m line = rests_unheard m line ∙ sym (ap (λ (t : Turn). on_line t ++ m.outside.outer.chip.state.port.waiting) line.at_chip.turn_is ∙ line.at_chip.waiting)
 
-moved_lines : (b : Bool) (passes : ℕ) (m : Machine) → IsDone m ⊎ HasMoved b passes m → unheard m.outside.outer ≡ line_of m.outside.outer.chip.state.port
+pub moved_lines : (b : Bool) (passes : ℕ) (m : Machine) → IsDone m ⊎ HasMoved b passes m → unheard m.outside.outer ≡ line_of m.outside.outer.chip.state.port
 moved_lines b passes m (inl done) = rests_line m done.line
 moved_lines b passes m (inr has) = moved_line b passes m has
 

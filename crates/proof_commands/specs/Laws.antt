@@ -402,7 +402,7 @@ abbrev pub NotesEnds : List ℕ → Around → Around → Type 0
 NotesEnds key old new = AlwaysOf key old new
     (λ story. TellsAtRestarts old story → (whole : Bool) → (whole ≡ true → AreSchedules (first key old) story) → NotesOfEnds whole (transcript key old story))
 
--- each message that the host seals is for a nonce that its node told since it was asked, and none serves twice; the nonces that it gives have numbers, in order, which rise with what opens
+-- each message that the host seals is for a nonce that its node told since it was asked, each question serving once; the nonces that it gives, and those for which it opens, have numbers in order
 abbrev pub SealsEachOnce : List ℕ → Around → Around → Type 0
 SealsEachOnce key old new = AlwaysOf key old new (λ story. TellsAtRestarts old story → SealsOnce (keys_of key) (transcript key old story))
 

@@ -278,7 +278,7 @@ fn stories_are_legal_on_line()
     stories_air_what_is_taken();
 }
 
-/// What hosts send has its reason in lines that were said, and in what nodes told; what they seal is for a nonce that serves once, and what they open is numbered.
+/// What hosts send has its reason in lines that were said, and in what nodes told; each message is sealed for a nonce that answers a question of its own.
 fn stories_send_what_is_due()
     ensures sends { (key : List ℕ) (old new : Around) → SendsAsDue key old new }
     ensures seals { (key : List ℕ) (old new : Around) → SealsEachOnce key old new }

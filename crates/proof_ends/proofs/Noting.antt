@@ -1,10 +1,15 @@
 -- What a host notes where its request ends, and where a node has had its third attempt, is what the transcript has for that end.
 use Rattle.std.proofs.Common.{◌≡◌, ◌⊎◌, ℕ, ◌&&◌, ◌||◌, not, Bool, true, false, if◌then◌else◌, inl, inr, List, [], ◌∷◌, ◌++◌, Option, Some, None, refl, sym, ap, ap₂, ◌∙◌, subst}
-use Rattle.std.specs.Prelude.{IsSome, Result, Ok, Err}
-use Rattle.std.specs.List.{flat_map, list_any}
-use Rattle.std.proofs.lemmas.Bool.{and_left, and_right, or_left, or_right}
+use Rattle.std.specs.Prelude.{◌==◌, IsSome, Result, Ok, Err, filter, slice_index}
+use Rattle.std.specs.List.{flat_map, list_all, list_any}
+use Rattle.std.proofs.lemmas.Bool.{and_left, and_right, eqb-true, or_left, or_right}
 use Rattle.supervision.specs.Host.{open_session}
 use Rattle.chip_functions.specs.Field.{IsNode}
+use Rattle.chip_functions.specs.Notice.{notice_of, status_code}
+use Rattle.chip_functions.specs.Response.{response_of}
+use Rattle.chip_functions.specs.declared.notice.Notice.{Notice}
+use Rattle.chip_functions.specs.declared.notice.TransmitStatus.{TransmitStatus}
+use Rattle.chip_functions.specs.declared.notice.TransmitStatus.TheVariants.{CompleteOk, NoAck, Fail, NotIdle, NoRoute}
 use Rattle.chip_functions.specs.declared.notice.Update.TheVariants.{Received}
 use Rattle.chip_functions.specs.declared.fault.BodyFault.{BodyFault}
 use Rattle.chip_functions.specs.declared.request.Request.{Request}
@@ -17,12 +22,13 @@ use Rattle.zw_text.specs.declared.entry.Entry.{Entry}
 use Rattle.zw_text.specs.declared.entry.Entry.TheVariants as entry
 use Rattle.zw_text.specs.Transcript.{sessions}
 use Rattle.law_transcript.specs.Lists.{EachAfter}
-use Rattle.law_transcript.specs.Units.{Carried, body_in, function_in, is_frame, read_well, sending_of}
-use Rattle.law_time.specs.Ends.{is_abort, is_answered_here, is_ending_here, is_given_up, is_silent}
+use Rattle.law_transcript.specs.Units.{Carried, body_in, function_in, is_frame, notice_in, read_well, sending_of}
+use Rattle.law_time.specs.Ends.{calls_back, ending, is_abort, is_answered_here, is_called_back, is_ending_here, is_given_up, is_silent, silence, wait_of, waits_before_failing}
 use Rattle.law_time.specs.Interviews.{node_interviewed}
-use Rattle.law_time.specs.Judged.{is_directly_after, last_of, responses_here}
+use Rattle.law_time.specs.Judged.{acknowledged, is_data, is_directly_after, is_following, judged, judged_here, last_of, notices_here, response_in, responses_here}
+use Rattle.law_time.specs.Moments.{clock}
 use Rattle.law_time.specs.Questions.{is_question}
-use Rattle.law_time.specs.Requests.{are_none, asked, request_last}
+use Rattle.law_time.specs.Requests.{Judging, are_none, asked, failing, is_response_to, request_last}
 use Rattle.law_time.specs.Sessions.{is_open}
 use Rattle.law_time.specs.Waking.{is_awake_sleeper, nodes_told}
 use Rattle.host_requests.specs.Frames.{request_of}
@@ -39,16 +45,16 @@ use Rattle.host_node.specs.declared.attempt.AttemptEnd.TheVariants.{NoneRan, Aga
 use Rattle.host_model.specs.State.{HostState, node_of}
 use Rattle.host_model.specs.Sessions.{open_command}
 use Rattle.host_model.specs.Ends.{PartEnd, Good, Passed_over, Bad, asleep_entry, attempt_entries, done_of, end_entries, failed_entry, neighbours_entry, out_entry, part_end, part_entries}
-use Rattle.proof_requests.specs.law_host.Ends.{answer_to, sleep_note, sleep_notes}
-use Rattle.proof_requests.specs.Carrying.{CarriesSo}
-use Rattle.proof_requests.specs.Ends.{EndsHere, IsUntold as Untold_purpose, OwesNoEnd, TellsEnd}
-use Rattle.proof_requests.specs.Ends.OwesNoEnd.{Aborted, Apart, Unended, Untold}
-use Rattle.proof_requests.proofs.EndsDone.{ends_as_done}
-use Rattle.proof_requests.proofs.Interviews.{interviews_may}
-use Rattle.proof_attempts.specs.Carried.{CarriesWell, nodes_of}
-use Rattle.proof_attempts.proofs.Opening.{OpenLast, open_last}
-use Rattle.proof_attempts.proofs.Releasing.{opens}
-use Rattle.proof_attempts.proofs.Sleeping.{EndSo, attempt_so, tick_so}
+use Rattle.proof_rests.specs.proof_requests.law_host.Ends.{answer_to, sleep_note, sleep_notes}
+use Rattle.proof_rests.specs.proof_requests.Carrying.{CarriesSo}
+use Rattle.proof_rests.specs.proof_requests.Ends.{EndsHere, IsUntold as Untold_purpose, OwesNoEnd, TellsEnd}
+use Rattle.proof_rests.specs.proof_requests.Ends.OwesNoEnd.{Aborted, Apart, Unended, Untold}
+use Rattle.proof_rests.proofs.EndsDone.{ends_as_done}
+use Rattle.proof_rests.proofs.Interviews.{interviews_may}
+use Rattle.proof_rests.specs.proof_attempts.Carried.{CarriesWell, nodes_of}
+use Rattle.proof_rests.proofs.Opening.{OpenLast, last_is, open_last}
+use Rattle.proof_rests.proofs.Releasing.{opens}
+use Rattle.proof_rests.proofs.Sleeping.{EndSo, attempt_so, tick_so}
 use Rattle.proof_ends.specs.Ends.{AnswerNotes, DoneNotes, EndNotes, GivesUp, NotesNothing, node_asked, nodes_asked, owes_end, tells_end}
 
 -- ---- what a request is, by its purpose
@@ -159,6 +165,126 @@ pub late_so : (past : List Entry) (id : ℕ) (p : Purpose) (how : How) → IsLat
 late_so past id p Silent late e = or_left (is_silent past) (is_given_up past) e.so
 late_so past id p LinkFailed late e = or_right (is_silent past) (is_given_up past) e.so
 late_so past id p how late e = absurd late
+
+-- ---- it has not ended well
+
+none_list : {A : Type 0} (l : List A) → are_none l ≡ true → l ≡ []
+none_list [] is = refl
+none_list (x ∷ l) is = absurd (let bad : false ≡ true = is in cc)
+
+none_any : (past : List Entry) → ending (asked past) ≡ [] → is_called_back 0 past ≡ false
+none_any past none =
+    and_right (calls_back 0 (request_last past) (notices_here past)) (is_ending_here past)
+    (and_right (is_following past) (list_any (λ one. one.place == acknowledged past) (ending (asked past))) (ap (λ (l : List Judging). list_any (λ one. one.place == acknowledged past) l) none))
+
+silent_none : (past : List Entry) → is_silent past ≡ true → ending (asked past) ≡ []
+silent_none past is = by (are_none (ending (asked past))) refl is
+  where
+    waits : List ℕ
+    waits = filter (λ wait. list_all (waits_before_failing wait) (failing (asked past))) (wait_of (asked past))
+
+    by : (b : Bool) → are_none (ending (asked past)) ≡ b → list_any (λ tick. tick == clock past) (if b then waits else []) ≡ true → ending (asked past) ≡ []
+    by true none is = none_list (ending (asked past)) none
+    by false none is = absurd (let bad : false ≡ true = is in cc)
+
+given_none : (past : List Entry) → is_given_up past ≡ true → ending (asked past) ≡ []
+given_none past is = by (are_none (ending (asked past))) refl is
+  where
+    gone : Bool → List ℕ
+    gone b = if b && are_none (silence (asked past)) then flat_map (λ fails. fails.tick ∷ []) (failing (asked past)) else []
+
+    by : (b : Bool) → are_none (ending (asked past)) ≡ b
+        → list_any (λ tick. tick == clock past) (if b && are_none (silence (asked past)) then flat_map (λ fails. fails.tick ∷ []) (failing (asked past)) else []) ≡ true → ending (asked past) ≡ []
+    by true none is = none_list (ending (asked past)) none
+    by false none is = absurd (let bad : false ≡ true = is in cc)
+
+-- what is a response is no notice
+response_none : (unit : List ℕ) → is_frame unit 1 ≡ true → notice_in unit ≡ []
+response_none unit is =
+    let kind : slice_index unit 2 ≡ 1 = eqb-true (slice_index unit 2) 1 (second_of (is_data unit) (slice_index unit 2 == 1) is) in
+    let other : is_frame unit 0 ≡ false = and_right (is_data unit) (slice_index unit 2 == 0) (ap (λ (k : ℕ). k == 0) kind) in
+    ap (λ (b : Bool). if b then read_well (notice_of (function_in unit) (body_in unit)) else []) other
+
+is_response : (frame unit : List ℕ) → is_response_to frame unit ≡ true → is_frame unit 1 ≡ true
+is_response frame unit is = by (is_frame unit 1) refl (second_of (function_in unit == function_in frame) (not (are_none (response_in unit))) is)
+  where
+    by : (b : Bool) → is_frame unit 1 ≡ b → not (are_none (if b then read_well (response_of (function_in unit) (body_in unit)) else [])) ≡ true → is_frame unit 1 ≡ true
+    by true same some = same
+    by false same some = absurd (let bad : false ≡ true = some in cc)
+
+-- of one unit at most
+abbrev AtMostOne : List (List ℕ) → Type 0
+AtMostOne l = (l ≡ []) ⊎ ((unit : List ℕ) × (l ≡ unit ∷ []))
+
+abbrev pub View : {A : Type 0} → List A → Type 0
+View {A = A} l = (l ≡ []) ⊎ ((front : List A) × (last : A) × (l ≡ front ++ last ∷ []))
+
+pub view : {A : Type 0} (l : List A) → View l
+view [] = inl refl
+view {A = A} (x ∷ l) = by (view l)
+  where
+    by : View l → View (x ∷ l)
+    by (inl none) = inr ([], x, ap (λ (m : List A). x ∷ m) none)
+    by (inr (front, last, is)) = inr (x ∷ front, last, ap (λ (m : List A). x ∷ m) is)
+
+last_short : (l : List (List ℕ)) → AtMostOne (last_of l)
+last_short l = by (view l)
+  where
+    by : View l → AtMostOne (last_of l)
+    by (inl none) = inl (ap (λ (k : List (List ℕ)). last_of k) none)
+    by (inr (front, last, is)) = inr (last, ap (λ (k : List (List ℕ)). last_of k) is ∙ last_is front last)
+
+here_short : (past : List Entry) → AtMostOne (judged_here past)
+here_short past = by (is_following past)
+  where
+    by : (b : Bool) → AtMostOne (if b then last_of (judged past) else [])
+    by true = last_short (judged past)
+    by false = inl refl
+
+answered_none : (past : List Entry) → is_answered_here past ≡ true → notices_here past ≡ []
+answered_none past is = by (judged_here past) (here_short past) (first_of (list_any (is_response_to (asked past).frame) (judged_here past)) (is_ending_here past) is)
+  where
+    first_of : (a b : Bool) → (a && b) ≡ true → a ≡ true
+    first_of true b is = refl
+    first_of false b is = is
+
+    either_none : (b : Bool) → (b || false) ≡ true → b ≡ true
+    either_none true is = refl
+    either_none false is = is
+
+    by : (l : List (List ℕ)) → AtMostOne l → list_any (is_response_to (asked past).frame) l ≡ true → flat_map notice_in l ≡ []
+    by l (inl none) is = absurd (let bad : false ≡ true = sym (ap (λ (k : List (List ℕ)). list_any (is_response_to (asked past).frame) k) none) ∙ is in cc)
+    by l (inr (unit, one)) is =
+        let responds : is_response_to (asked past).frame unit ≡ true =
+        either_none (is_response_to (asked past).frame unit) (sym (ap (λ (k : List (List ℕ)). list_any (is_response_to (asked past).frame) k) one) ∙ is) in
+        ap (λ (k : List (List ℕ)). flat_map notice_in k) one ∙ ap (λ (k : List Notice). k ++ []) (response_none unit (is_response (asked past).frame unit responds))
+
+no_notice : (past : List Entry) (request : Request) → request_last past ≡ request ∷ [] → notices_here past ≡ [] → is_called_back 0 past ≡ false
+no_notice past request is none =
+    and_left (calls_back 0 (request_last past) (notices_here past)) (is_ending_here past)
+    (ap₂ (λ (q : List Request) (l : List Notice). calls_back 0 q l) is none ∙ by request)
+  where
+    by : (request : Request) → calls_back 0 (request ∷ []) [] ≡ false
+    by (requests.SendData node payload options id) = refl
+    by request = refl
+
+badly : (past : List Entry) (id n : ℕ) (more : Bool) (payload : List ℕ) (how : How) → part_end more how ≡ Bad → EndsHere past id (Attempt n more payload) how → is_called_back 0 past ≡ false
+badly past id n more payload (AtCallback status) bad e =
+    and_left (calls_back 0 (request_last past) (notices_here past)) (is_ending_here past)
+    (ap₂ (λ (q : List Request) (l : List Notice). calls_back 0 q l) e.request e.so.1 ∙ and_right (id == id) (status_code status == 0) (by status bad))
+  where
+    by : (s : TransmitStatus) → part_end more (AtCallback s) ≡ Bad → (status_code s == 0) ≡ false
+    by CompleteOk bad = absurd (let wrong = bad in cc)
+    by NoAck bad = refl
+    by Fail bad = refl
+    by NotIdle bad = refl
+    by NoRoute bad = refl
+badly past id n more payload (AtResponse response) bad e = no_notice past _ e.request (answered_none past e.so.3)
+badly past id n more payload (AtUpdate update first) bad e = absurd (let wrong : false ≡ true = e.so.0 in cc)
+badly past id n more payload Refused bad e = no_notice past _ e.request (answered_none past (second_of _ (is_answered_here past) e.so.1))
+badly past id n more payload Silent bad e = none_any past (silent_none past e.so)
+badly past id n more payload LinkFailed bad e = none_any past (given_none past e.so)
+badly past id n more payload AbortSent bad e = absurd (let wrong = e.so in cc)
 
 -- ---- the nodes of a host and its transcript
 
@@ -334,14 +460,15 @@ module _ (past : List Entry) (g : HostState) (nodes : NodesSo past g) where
     failed_end n how end are = quiet_end (Housekeeping (IsFailed n)) how end refl refl refl are
 
     -- a part of an attempt
-    attempt_by : (n : ℕ) (more : Bool) (payload : List ℕ) (how : How) (over : AttemptEnd) → EndOf past told id (Attempt n more payload) how → EndSo (node_of g n) over
+    attempt_by : (n : ℕ) (more : Bool) (payload : List ℕ) (how : How) (over : AttemptEnd) → part_end more how ≡ Bad → EndOf past told id (Attempt n more payload) how → EndSo (node_of g n) over
         → told ≡ attempt_entries n over (open_command (node_of g n)) → Noted past told id (Attempt n more payload) how
-    attempt_by n more payload how NoneRan end so are = quiet_end (Attempt n more payload) how end refl refl refl are
-    attempt_by n more payload how Again end so are = quiet_end (Attempt n more payload) how end refl refl refl are
-    attempt_by n more payload how (Unanswered fell) end so are =
+    attempt_by n more payload how NoneRan bad end so are = quiet_end (Attempt n more payload) how end refl refl refl are
+    attempt_by n more payload how Again bad end so are = quiet_end (Attempt n more payload) how end refl refl refl are
+    attempt_by n more payload how (Unanswered fell) bad end so are =
         let p : Purpose = Attempt n more payload in
         let gives : GivesUp past n told = gives_up_so told n fell end.well.0 so are in
         let carried : Carried = record { node = n; payload = payload } in
+        let e : EndsHere past id p how = end.ends (entry.Out gives.1 ended.Unanswered) (sleep_note past n) gives.3 in
         inl (
           record {
             done = [];
@@ -350,20 +477,20 @@ module _ (past : List Entry) (g : HostState) (nodes : NodesSo past g) where
             are = ap (λ (l : List Entry). l ++ told) (sym (no_sleep p how end refl));
             done_so = none_asked p how end refl;
             answer_so = no_answer p how end refl refl;
-            outcome_so = inr (carried, ap (λ (q : List Request). flat_map sending_of q) end.request, gives);
+            outcome_so = inr (carried, ap (λ (q : List Request). flat_map sending_of q) end.request, badly past id n more payload how bad e, gives);
           },
           not_none told (sleep_note past n) (entry.Out gives.1 ended.Unanswered) gives.3,
           (λ (is : p ≡ Abort). let bad = is in cc),
           end.ends (entry.Out gives.1 ended.Unanswered) (sleep_note past n) gives.3,
         )
 
-    part_by : (n : ℕ) (more : Bool) (payload : List ℕ) (how : How) (part : PartEnd) → EndOf past told id (Attempt n more payload) how → told ≡ part_entries g n part → Noted past told id (Attempt n more payload) how
-    part_by n more payload how Good end are = quiet_end (Attempt n more payload) how end refl refl refl are
-    part_by n more payload how Passed_over end are = quiet_end (Attempt n more payload) how end refl refl refl are
-    part_by n more payload how Bad end are = attempt_by n more payload how (attempt_end (node_of g n)) end (attempt_so (node_of g n)) are
+    part_by : (n : ℕ) (more : Bool) (payload : List ℕ) (how : How) (part : PartEnd) → part_end more how ≡ part → EndOf past told id (Attempt n more payload) how → told ≡ part_entries g n part → Noted past told id (Attempt n more payload) how
+    part_by n more payload how Good is end are = quiet_end (Attempt n more payload) how end refl refl refl are
+    part_by n more payload how Passed_over is end are = quiet_end (Attempt n more payload) how end refl refl refl are
+    part_by n more payload how Bad is end are = attempt_by n more payload how (attempt_end (node_of g n)) is end (attempt_so (node_of g n)) are
 
     pub end_noted : (p : Purpose) (how : How) → EndOf past told id p how → told ≡ end_entries g (record { purpose = p; how = how }) → Noted past told id p how
-    end_noted (Attempt n more payload) how end are = part_by n more payload how (part_end more how) end are
+    end_noted (Attempt n more payload) how end are = part_by n more payload how (part_end more how) refl end are
     end_noted (Housekeeping (Plain n payload)) how end are = plain_end n payload how end are
     end_noted (Housekeeping (NoMore n)) how end are = told_by n how (falls_asleep (node_of g n)) end refl are
     end_noted (Housekeeping (Second n)) how end are = second_end n how end are

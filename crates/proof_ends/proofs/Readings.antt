@@ -1,5 +1,5 @@
 -- How a transcript is read on over entries that stand beside, and what a reading says of how a Set or Get ended that is said last.
-use Rattle.std.proofs.Common.{◌≡◌, ◌⊎◌, ℕ, ◌&&◌, Bool, true, false, if◌then◌else◌, inl, inr, List, [], ◌∷◌, ◌++◌, refl, sym, ap, ◌∙◌, subst, append-nil, append_assoc}
+use Rattle.std.proofs.Common.{◌≡◌, ℕ, ◌&&◌, Bool, true, false, if◌then◌else◌, inl, inr, List, [], ◌∷◌, ◌++◌, refl, sym, ap, ◌∙◌, subst, append-nil, append_assoc}
 use Rattle.std.specs.List.{AllByRecursion, flat_map}
 use Rattle.std.proofs.lemmas.List.{append_cancel_right}
 use Rattle.zw_base.proofs.Each.{all-append, all-right}
@@ -15,11 +15,12 @@ use Rattle.law_time.specs.Ends.{ends_here}
 use Rattle.law_time.specs.Judged.{last_of}
 use Rattle.law_time.specs.Waking.{is_awake_sleeper, nodes_told}
 use Rattle.law_time.specs.Requests.{asked}
-use Rattle.proof_requests.specs.law_host.Ends.{answer_to, sleep_note, sleep_notes}
-use Rattle.proof_attempts.proofs.Opening.{last_is}
+use Rattle.proof_rests.specs.proof_requests.law_host.Ends.{answer_to, sleep_note, sleep_notes}
+use Rattle.proof_rests.proofs.Opening.{last_is}
 use Rattle.proof_ends.specs.Ends.{AnswerNotes, DoneNotes, EndNotes, GiveUps, GivesUp, InterviewNotes, OutcomeNotes, Reads, may_stand}
 use Rattle.proof_ends.specs.Ends.GiveUps.{None_yet, One_more}
 use Rattle.proof_ends.specs.Ends.Reads.{Starts, Stands, Asks, Ends, Passes, Ticks, Ticks_late, Restarts, Refuses}
+use Rattle.proof_ends.proofs.Noting.{View, view}
 use Rattle.proof_ends.proofs.Standing.{nothing_read}
 
 -- ---- entries that stand beside
@@ -39,17 +40,6 @@ read_on over past (e ∷ told) all reads =
     subst (Reads over) (append_assoc past (e ∷ []) told) (read_on over (past ++ e ∷ []) told rest (Stands e refl one reads))
 
 -- ---- the last entry
-
-abbrev View : List Entry → Type 0
-View l = (l ≡ []) ⊎ ((front : List Entry) × (last : Entry) × (l ≡ front ++ last ∷ []))
-
-view : (l : List Entry) → View l
-view [] = inl refl
-view (e ∷ l) = by (view l)
-  where
-    by : View l → View (e ∷ l)
-    by (inl none) = inr ([], e, ap (λ (m : List Entry). e ∷ m) none)
-    by (inr (front, last, is)) = inr (e ∷ front, last, ap (λ (m : List Entry). e ∷ m) is)
 
 one_same : (x y : Entry) → x ∷ [] ≡ y ∷ [] → x ≡ y
 one_same x y is = cc
@@ -109,7 +99,7 @@ gives_none past some node (opened, command, last, is) = as_none some (entry.Out 
 
 outcome_none : (past some : List Entry) → OutcomeNotes past some → AllByRecursion NoDone some
 outcome_none past some (inl none) = as_none some [] none tt
-outcome_none past some (inr (carried, is, gives)) = gives_none past some carried.node gives
+outcome_none past some (inr (carried, is, badly, gives)) = gives_none past some carried.node gives
 
 chain_none : {past : List Entry} {last : ℕ} {notes : List Entry} → GiveUps past last notes → AllByRecursion NoDone notes
 chain_none None_yet = tt

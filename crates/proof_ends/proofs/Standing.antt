@@ -19,12 +19,12 @@ use Rattle.host_model.specs.After.{is_full, is_held}
 use Rattle.host_model.specs.Events.{HostEvent, Accepts, Cancels, Queues, Hears, Requests_do, Interviews, Interview_unkept, Unreads, Is_unkept, Reports_old, Finishes, Offers, Gives, Spends_unread, Notifies, Resends, Hears_value, Has_no_room, Line_ticks, Node_ticks, Drops_no_more, Submits_abort, Submits_front, Starts as starts_attempt, Gives_text, Gives_segment, Begins, Begin_unkept}
 use Rattle.host_model.specs.declared.out.HostOut.{HostOut}
 use Rattle.host_model.specs.Outs.{answers, dropped_if, ended_of, held_entries, noted, outs, stored_entries}
-use Rattle.proof_requests.specs.Ends.{TellsNoEnd}
-use Rattle.proof_requests.specs.proof_alone.Steps.{AreTold, DidNotCome, IsOfOthers, IsOfUnit}
-use Rattle.proof_requests.proofs.Doing.{IsBeside as LeavesRequest}
-use Rattle.proof_attempts.specs.Since.{IsOfItem}
-use Rattle.proof_attempts.proofs.KeptAwake.{noted_told}
-use Rattle.proof_attempts.proofs.Requested.{Unsubmitted}
+use Rattle.proof_rests.specs.proof_requests.Ends.{TellsNoEnd}
+use Rattle.proof_rests.specs.proof_requests.proof_alone.Steps.{AreTold, DidNotCome, IsOfOthers, IsOfUnit}
+use Rattle.proof_rests.proofs.Doing.{IsBeside as LeavesRequest}
+use Rattle.proof_rests.specs.proof_attempts.Since.{IsOfItem}
+use Rattle.proof_rests.proofs.KeptAwake.{noted_told}
+use Rattle.proof_rests.proofs.Requested.{Unsubmitted}
 use Rattle.proof_ends.specs.Ends.{Reads, is_late, is_of_end, is_turn, may_stand, owes_end, owes_none, tells_end}
 use Rattle.proof_ends.specs.Ends.Reads.{Stands}
 

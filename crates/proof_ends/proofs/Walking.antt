@@ -70,37 +70,37 @@ use Rattle.host_model.specs.Taking.{InterviewEvents, told_requests}
 use Rattle.host_model.proofs.Submitted.{SleepersAre, next_is, no_more_is}
 use Rattle.world_model.specs.Events.{shown_values}
 use Rattle.proof_host.specs.Facts.{Facts}
-use Rattle.proof_requests.specs.Asking.{Doing, TieAsked, TieUnderWay, doing_after, doing_from, doing_next, doing_of}
-use Rattle.proof_requests.specs.Carrying.{CarriesSo}
-use Rattle.proof_requests.specs.Ends.{AreToldOf, EndsBy, EndsFrom, EndsHere, GivenUp, KnowsEnds, LineEnds, OwesNoEnd, TellsEnd, TellsNoEnd, next_at}
-use Rattle.proof_requests.specs.Standing.{standing_of}
-use Rattle.proof_requests.specs.Walking.{BeforeTick, HalfTick, Ground as RequestsGround, IsNodeTick, KnowsAsked, KnowsTick}
-use Rattle.proof_requests.specs.proof_alone.State.{HostMachine, done}
-use Rattle.proof_requests.specs.proof_alone.Steps.{AreFrames, AreTold, DidNotCome, IsOfOthers, IsOfUnit, Step, Tells, Comes, Misses, Says, Says_nothing, Asks as asks_line, Refuses as refuses_line, Shows, Restarts as starts_again, Begins_tick, Numbers, Judges, Does, entries, happens}
-use Rattle.proof_requests.specs.proof_alone.Phases.{Phase, Resting, Asked, Risen, Ticking, Open, Behind, Sleeping, Submitting, IsBetween, IsNumbered, May, Turns}
-use Rattle.proof_requests.specs.proof_alone.Runs.{Knowledge, Walk, both_know}
-use Rattle.proof_requests.proofs.Doing.{IsBeside as LeavesRequest, beside_same, end_if_asks}
-use Rattle.proof_requests.proofs.EndsHere.{answers_it, cannot_end, ends_if, ends_same}
-use Rattle.proof_requests.proofs.EndsLate.{silent_so}
-use Rattle.proof_requests.proofs.EndsTold.{given_up_at, silent_at}
-use Rattle.proof_requests.proofs.Judging.{or_false}
-use Rattle.proof_requests.proofs.Queueing.{opened_asks}
-use Rattle.proof_requests.proofs.Stepping.{IsSubmission, left_same, asked_beside, submissions, time_told}
-use Rattle.proof_requests.proofs.Walking.{line_outs}
-use Rattle.proof_requests.proofs.proof_waking_Judging.{asked_on, nothing_on}
-use Rattle.proof_attempts.specs.Asleep.{KnowsSleep, TicksNode}
-use Rattle.proof_attempts.specs.Carried.{CarriesOthers, UnderWayWell}
-use Rattle.proof_attempts.specs.Since.{IsElse, IsOfItem, WalkBoth}
-use Rattle.proof_attempts.specs.Slept.{KnowsTelling, SleepsIfTold, TieSlept}
-use Rattle.proof_attempts.specs.Waking.{CountsAwake, KnowsWork}
-use Rattle.proof_attempts.proofs.KeptAwake.{noted_told}
-use Rattle.proof_attempts.proofs.Lasting.{numbered_else, rest_of}
-use Rattle.proof_attempts.proofs.Late.{unended_at}
-use Rattle.proof_attempts.proofs.Releasing.{not_is}
-use Rattle.proof_attempts.proofs.Requested.{Unsubmitted}
-use Rattle.proof_attempts.proofs.Slept.{frame_tells}
-use Rattle.proof_attempts.proofs.Wrote.{Wrote, first_same, paused_old, writes}
-use Rattle.proof_attempts.proofs.Wrote.Wrote.{Quietly, Again, Anew}
+use Rattle.proof_rests.specs.proof_requests.Asking.{Doing, TieAsked, TieUnderWay, doing_after, doing_from, doing_next, doing_of}
+use Rattle.proof_rests.specs.proof_requests.Carrying.{CarriesSo}
+use Rattle.proof_rests.specs.proof_requests.Ends.{AreToldOf, EndsBy, EndsFrom, EndsHere, GivenUp, KnowsEnds, LineEnds, OwesNoEnd, TellsEnd, TellsNoEnd, next_at}
+use Rattle.proof_rests.specs.proof_requests.Standing.{standing_of}
+use Rattle.proof_rests.specs.proof_requests.Walking.{BeforeTick, HalfTick, Ground as RequestsGround, IsNodeTick, KnowsAsked, KnowsTick}
+use Rattle.proof_rests.specs.proof_requests.proof_alone.State.{HostMachine, done}
+use Rattle.proof_rests.specs.proof_requests.proof_alone.Steps.{AreFrames, AreTold, DidNotCome, IsOfOthers, IsOfUnit, Step, Tells, Comes, Misses, Says, Says_nothing, Asks as asks_line, Refuses as refuses_line, Shows, Restarts as starts_again, Begins_tick, Numbers, Judges, Does, entries, happens}
+use Rattle.proof_rests.specs.proof_requests.proof_alone.Phases.{Phase, Resting, Asked, Risen, Ticking, Open, Behind, Sleeping, Submitting, IsBetween, IsNumbered, May, Turns}
+use Rattle.proof_rests.specs.proof_requests.proof_alone.Runs.{Knowledge, Walk, both_know}
+use Rattle.proof_rests.proofs.Doing.{IsBeside as LeavesRequest, beside_same, end_if_asks}
+use Rattle.proof_rests.proofs.EndsHere.{answers_it, cannot_end, ends_if, ends_same}
+use Rattle.proof_rests.proofs.EndsLate.{silent_so}
+use Rattle.proof_rests.proofs.EndsTold.{given_up_at, silent_at}
+use Rattle.proof_rests.proofs.Judging.{or_false}
+use Rattle.proof_rests.proofs.Queueing.{opened_asks}
+use Rattle.proof_rests.proofs.Stepping.{IsSubmission, left_same, asked_beside, submissions, time_told}
+use Rattle.proof_rests.proofs.proof_requests_Walking.{line_outs}
+use Rattle.proof_rests.proofs.proof_waking_Judging.{asked_on, nothing_on}
+use Rattle.proof_rests.specs.proof_attempts.Asleep.{KnowsSleep, TicksNode}
+use Rattle.proof_rests.specs.proof_attempts.Carried.{CarriesOthers, UnderWayWell}
+use Rattle.proof_rests.specs.proof_attempts.Since.{IsElse, IsOfItem, WalkBoth}
+use Rattle.proof_rests.specs.proof_attempts.Slept.{KnowsTelling, SleepsIfTold, TieSlept}
+use Rattle.proof_rests.specs.proof_attempts.Waking.{CountsAwake, KnowsWork}
+use Rattle.proof_rests.proofs.KeptAwake.{noted_told}
+use Rattle.proof_rests.proofs.Lasting.{numbered_else, rest_of}
+use Rattle.proof_rests.proofs.Late.{unended_at}
+use Rattle.proof_rests.proofs.Releasing.{not_is}
+use Rattle.proof_rests.proofs.Requested.{Unsubmitted}
+use Rattle.proof_rests.proofs.Slept.{frame_tells}
+use Rattle.proof_rests.proofs.Wrote.{Wrote, first_same, paused_old, writes}
+use Rattle.proof_rests.proofs.Wrote.Wrote.{Quietly, Again, Anew}
 use Rattle.proof_ends.specs.Ends.{EndNotes, GiveUps, GivesUp, Reads, is_late, is_ticking, owes_end, owes_none, ticking_from, ticking_step}
 use Rattle.proof_ends.specs.Ends.GiveUps.{None_yet, One_more}
 use Rattle.proof_ends.specs.Ends.Reads.{Stands, Asks, Ends, Passes, Restarts, Refuses, Ticks, Ticks_late}

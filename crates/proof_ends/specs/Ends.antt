@@ -15,13 +15,13 @@ use Rattle.law_transcript.specs.Units.{Carried, sending_in, sending_of}
 use Rattle.law_time.specs.Moments.{now_at}
 use Rattle.law_time.specs.Judged.{is_data, is_directly_after, is_mark, responses_here}
 use Rattle.law_time.specs.Requests.{are_none, asked, is_new, request_last}
-use Rattle.law_time.specs.Ends.{ends_here, has_ended, is_ending_here, is_given_up, is_silent}
+use Rattle.law_time.specs.Ends.{ends_here, has_ended, is_called_back, is_ending_here, is_given_up, is_silent}
 use Rattle.law_time.specs.Interviews.{fails, node_interviewed, succeeds}
 use Rattle.law_time.specs.Questions.{is_question}
 use Rattle.law_time.specs.Sessions.{is_open, last_command}
-use Rattle.proof_requests.specs.law_host.Ends.{answer_to, given_up_notes, sleep_notes}
-use Rattle.proof_requests.specs.law_host.Heard.{is_of_outside}
-use Rattle.proof_requests.specs.Carrying.{is_errand}
+use Rattle.proof_rests.specs.proof_requests.law_host.Ends.{answer_to, given_up_notes, sleep_notes}
+use Rattle.proof_rests.specs.proof_requests.law_host.Heard.{is_of_outside}
+use Rattle.proof_rests.specs.proof_requests.Carrying.{is_errand}
 
 -- ---- what an end has noted
 
@@ -54,9 +54,10 @@ AnswerNotes past some =
 abbrev pub GivesUp : List Entry → ℕ → List Entry → Type 0
 GivesUp past node some = (is_open node past ≡ true) × (command : ℕ) × (last_command node past ≡ command ∷ []) × (some ≡ given_up_notes past node command)
 
--- so it may be where what was sent to the node was of an attempt
+-- so it may be where what was sent to the node has not ended well
 abbrev pub OutcomeNotes : List Entry → List Entry → Type 0
-OutcomeNotes past some = (some ≡ []) ⊎ ((carried : Carried) × (sending_in (asked past).frame ≡ carried ∷ []) × GivesUp past carried.node some)
+OutcomeNotes past some =
+    (some ≡ []) ⊎ ((carried : Carried) × (sending_in (asked past).frame ≡ carried ∷ []) × (is_called_back 0 past ≡ false) × GivesUp past carried.node some)
 
 -- all that this has noted, in order
 pub record EndNotes (past notes : List Entry) : Type 0 where

@@ -1,3 +1,6 @@
 pub mod Ends
-pub use Rattle.proof_requests.specs as proof_requests
-pub use Rattle.proof_attempts.specs as proof_attempts
+pub use Rattle.proof_rests.specs.proof_requests as proof_requests
+pub use Rattle.proof_rests.specs.proof_attempts as proof_attempts
+pub use Rattle.proof_rests.specs.proof_nonces as proof_nonces
+pub use Rattle.proof_rests.specs.proof_notes as proof_notes
+pub use Rattle.proof_rests.specs as proof_rests

@@ -12,4 +12,6 @@ mod ends;
 mod worked;
 
 pub use ends::{hosts_note_ends, lines_note_ends};
+pub use proof_rests as rests;
+pub use proof_rests::{nonces, notes};
 pub use worked::{rejected_ends, worked_ends};

@@ -44,27 +44,27 @@ use Rattle.host_model.specs.declared.out.HostOut.TheVariants.{Write}
 use Rattle.host_model.proofs.Own.{IsOwn, sleepers_own, submitted_own}
 use Rattle.host_model.proofs.Submitted.{next_is, no_more_is}
 use Rattle.proof_messages.proofs.SealedTexts.{TextsLeft}
-use Rattle.proof_attempts.specs.Since.{WalkBoth}
-use Rattle.proof_attempts.specs.proof_requests.Walking.{ReadsAs}
-use Rattle.proof_attempts.specs.proof_requests.Asking.{doing_of}
-use Rattle.proof_attempts.proofs.Walking.{is_fresh}
-use Rattle.proof_attempts.proofs.Queued.{PayloadsBring, served_is_node}
-use Rattle.proof_attempts.proofs.Queueing.{opened_asks}
-use Rattle.proof_attempts.proofs.Requested.{Unsubmitted}
-use Rattle.proof_attempts.proofs.Stepping.{IsSubmission, event_is_read, submissions}
-use Rattle.proof_attempts.proofs.Wrote.{Wrote, writes}
-use Rattle.proof_attempts.proofs.Wrote.Wrote.{Quietly, Again, Anew}
-use Rattle.proof_known.specs.proof_alone.State.{HostMachine}
-use Rattle.proof_known.specs.proof_alone.Steps.{AreTold, IsAskedBy, IsOfOthers, IsOfUnit, Step, Tells, Comes, Misses, Says, Says_nothing, Asks, Refuses, Shows, Restarts, Begins_tick, Numbers, Judges, Does, entries, happens}
-use Rattle.proof_known.specs.proof_alone.Phases.{Phase, Resting, Asked, Risen, Ticking, Open, Behind, Sleeping, Submitting, IsBetween, IsJudgedNow, May as MayStep, Turns}
-use Rattle.proof_known.specs.proof_alone.Tables.{TieTables}
-use Rattle.proof_known.specs.proof_waking.Judged.{IsBehindFrame, IsOfRequest, KnowsJudged, TieFrames, frames_of}
-use Rattle.proof_known.proofs.Apart.{acknowledged_frames}
-use Rattle.proof_known.proofs.Events.{answers_are}
-use Rattle.proof_known.proofs.Followed.{MayFollow, frame_all}
-use Rattle.proof_known.proofs.Parts.{IsNoted, follow_told}
-use Rattle.proof_known.proofs.Settling.{behind_brought}
-use Rattle.proof_known.proofs.proof_alone_Apart.{missed_are}
+use Rattle.proof_notes.specs.proof_attempts.Since.{WalkBoth}
+use Rattle.proof_notes.specs.proof_attempts.proof_requests.Walking.{ReadsAs}
+use Rattle.proof_notes.specs.proof_attempts.proof_requests.Asking.{doing_of}
+use Rattle.proof_notes.proofs.proof_attempts_Walking.{is_fresh}
+use Rattle.proof_notes.proofs.Queued.{PayloadsBring, served_is_node}
+use Rattle.proof_notes.proofs.Queueing.{opened_asks}
+use Rattle.proof_notes.proofs.Requested.{Unsubmitted}
+use Rattle.proof_notes.proofs.Stepping.{IsSubmission, event_is_read, submissions}
+use Rattle.proof_notes.proofs.Wrote.{Wrote, writes}
+use Rattle.proof_notes.proofs.Wrote.Wrote.{Quietly, Again, Anew}
+use Rattle.proof_notes.specs.proof_known.proof_alone.State.{HostMachine}
+use Rattle.proof_notes.specs.proof_known.proof_alone.Steps.{AreTold, IsAskedBy, IsOfOthers, IsOfUnit, Step, Tells, Comes, Misses, Says, Says_nothing, Asks, Refuses, Shows, Restarts, Begins_tick, Numbers, Judges, Does, entries, happens}
+use Rattle.proof_notes.specs.proof_known.proof_alone.Phases.{Phase, Resting, Asked, Risen, Ticking, Open, Behind, Sleeping, Submitting, IsBetween, IsJudgedNow, May as MayStep, Turns}
+use Rattle.proof_notes.specs.proof_known.proof_alone.Tables.{TieTables}
+use Rattle.proof_notes.specs.proof_known.proof_waking.Judged.{IsBehindFrame, IsOfRequest, KnowsJudged, TieFrames, frames_of}
+use Rattle.proof_notes.proofs.Apart.{acknowledged_frames}
+use Rattle.proof_notes.proofs.Events.{answers_are}
+use Rattle.proof_notes.proofs.Followed.{MayFollow, frame_all}
+use Rattle.proof_notes.proofs.Parts.{IsNoted, follow_told}
+use Rattle.proof_notes.proofs.Settling.{behind_brought}
+use Rattle.proof_notes.proofs.proof_alone_Apart.{missed_are}
 use Rattle.proof_nonces.specs.Giving.{AllOpen, IsOpenedOnce, MayTell, Opened, OpensOnce, before_judged, reports_at}
 use Rattle.proof_nonces.specs.Known.{AreOther, offered_by, offered_in}
 use Rattle.proof_nonces.specs.Counted.{AtPhase, BehindSo, CountingGround, GivenSo, IsLast, KnowsNonces, LiveSo, NoncesSo, OpenedSo, TellsNothing, spent_by, spent_of}

@@ -4,14 +4,14 @@ use Rattle.std.specs.Prelude.{Some}
 use Rattle.s0_crypto.specs.declared.key_pair.Keys.{Keys}
 use Rattle.law_time.specs.Moments.{Allows}
 use Rattle.law_time.specs.Waking.{may_wake}
-use Rattle.proof_attempts.specs.Since.{AlongRuns}
-use Rattle.proof_attempts.specs.proof_requests.Walking.{Ground as RequestsGround, KnowsAsked}
-use Rattle.proof_known.specs.Known.{KnowsKeys, KnowsWhole}
-use Rattle.proof_known.specs.proof_alone.Phases.{Resting}
-use Rattle.proof_known.specs.proof_alone.Runs.{Walk, both_know}
-use Rattle.proof_known.specs.proof_alone.State.{first_alone}
-use Rattle.proof_known.proofs.KeptKeys.{Anything, keys_walk}
-use Rattle.proof_known.proofs.Running.{over, run_keeps}
+use Rattle.proof_notes.specs.proof_attempts.Since.{AlongRuns}
+use Rattle.proof_notes.specs.proof_attempts.proof_requests.Walking.{Ground as RequestsGround, KnowsAsked}
+use Rattle.proof_notes.specs.proof_known.Known.{KnowsKeys, KnowsWhole}
+use Rattle.proof_notes.specs.proof_known.proof_alone.Phases.{Resting}
+use Rattle.proof_notes.specs.proof_known.proof_alone.Runs.{Walk, both_know}
+use Rattle.proof_notes.specs.proof_known.proof_alone.State.{first_alone}
+use Rattle.proof_notes.proofs.KeptKeys.{Anything, keys_walk}
+use Rattle.proof_notes.proofs.Running.{over, run_keeps}
 use Rattle.proof_nonces.specs.Known.{Ground}
 
 pub ground_along : (keys : Keys) → AlongRuns keys (both_know RequestsGround KnowsAsked) → Walk (Allows may_wake) KnowsWhole → KnowsWhole Resting [] (first_alone keys (Some [])) → AlongRuns keys (Ground keys)

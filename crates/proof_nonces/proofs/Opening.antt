@@ -37,17 +37,17 @@ use Rattle.host_model.specs.After.{after, is_held}
 use Rattle.host_model.specs.Events.{HostEvent, Accepts, Finishes, Hears_value, Has_no_room, Is_unkept, Reports_old, Spends, Spends_unread, Unreads}
 use Rattle.host_model.specs.Outs.{ended_of, held_entries, outs, stored_entries}
 use Rattle.host_model.specs.Taking.{FrameEvents, NoticeEvents, PayloadEvents, SealedEvents, ends_from, named_by}
-use Rattle.proof_known.specs.law_host.Nonces.{nonce_with}
-use Rattle.proof_known.specs.proof_alone.Phases.{Phase}
-use Rattle.proof_known.specs.proof_alone.Steps.{AreTold, IsOfUnit}
-use Rattle.proof_known.proofs.Apart.{IsApart, apart_judged}
-use Rattle.proof_known.proofs.Bodies.{body_is}
-use Rattle.proof_known.proofs.Events.{outs_told}
-use Rattle.proof_known.proofs.Lists.{each-append, each-weaker}
-use Rattle.proof_known.proofs.Noting.{noted_told}
-use Rattle.proof_known.proofs.Parts.{IsNoted}
-use Rattle.proof_known.proofs.proof_alone_Apart.{AreOfLine}
-use Rattle.proof_known.proofs.proof_device_HostOuts.{OwnIs, SharedAre, outs_are}
+use Rattle.proof_notes.specs.proof_known.law_host.Nonces.{nonce_with}
+use Rattle.proof_notes.specs.proof_known.proof_alone.Phases.{Phase}
+use Rattle.proof_notes.specs.proof_known.proof_alone.Steps.{AreTold, IsOfUnit}
+use Rattle.proof_notes.proofs.Apart.{IsApart, apart_judged}
+use Rattle.proof_notes.proofs.Bodies.{body_is}
+use Rattle.proof_notes.proofs.Events.{outs_told}
+use Rattle.proof_notes.proofs.Lists.{each-append, each-weaker}
+use Rattle.proof_notes.proofs.Noting.{noted_told}
+use Rattle.proof_notes.proofs.Parts.{IsNoted}
+use Rattle.proof_notes.proofs.proof_alone_Apart.{AreOfLine}
+use Rattle.proof_notes.proofs.proof_device_HostOuts.{OwnIs, SharedAre, outs_are}
 use Rattle.proof_nonces.specs.Giving.{Acknowledged, AllOpen, IsBefore, IsOpenedOnce, MayTell, Opened, OpensFor, OpensOnce, acknowledged_step, before_judged}
 use Rattle.proof_nonces.specs.Counted.{AreBehind, AtPhase, BehindSo, IsLast, LiveSo, OpenedSo, TellsNothing, spent_by, spent_of}
 use Rattle.proof_nonces.proofs.Accounts.{Grown, spent_given}

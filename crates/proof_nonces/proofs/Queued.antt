@@ -28,16 +28,16 @@ use Rattle.host_model.specs.Events.{HostEvent, Accepts, Cancels, Joins, Queues, 
 use Rattle.host_model.specs.May.{May, known_of}
 use Rattle.host_model.proofs.Own.{IsOwn, sleepers_own, submitted_own}
 use Rattle.host_model.proofs.Submitted.{next_is, no_more_is}
-use Rattle.proof_attempts.specs.proof_requests.Walking.{AddsWell, Ground as RequestsGround, IsOfChip}
-use Rattle.proof_attempts.proofs.Doing.{asks_of, attempt_asks, end_if_asks, holds_asks}
-use Rattle.proof_attempts.proofs.Queued.{told_queue}
-use Rattle.proof_attempts.proofs.Queueing.{opened_asks}
-use Rattle.proof_known.specs.proof_transcript.world_model.Events.{OpensFrom}
-use Rattle.proof_known.specs.proof_alone.State.{HostMachine}
-use Rattle.proof_known.specs.proof_alone.Steps.{Does, IsAskedBy}
-use Rattle.proof_known.specs.proof_alone.Phases.{Phase, Resting, Asked, Risen, Ticking, Open, Behind, Sleeping, Submitting, May as MayStep}
-use Rattle.proof_known.specs.proof_waking.Judged.{IsOfRequest, KnowsJudged}
-use Rattle.proof_known.proofs.Followed.{MayFollow, frame_all}
+use Rattle.proof_notes.specs.proof_attempts.proof_requests.Walking.{AddsWell, Ground as RequestsGround, IsOfChip}
+use Rattle.proof_notes.proofs.Doing.{asks_of, attempt_asks, end_if_asks, holds_asks}
+use Rattle.proof_notes.proofs.Queued.{told_queue}
+use Rattle.proof_notes.proofs.Queueing.{opened_asks}
+use Rattle.proof_notes.specs.proof_known.proof_transcript.world_model.Events.{OpensFrom}
+use Rattle.proof_notes.specs.proof_known.proof_alone.State.{HostMachine}
+use Rattle.proof_notes.specs.proof_known.proof_alone.Steps.{Does, IsAskedBy}
+use Rattle.proof_notes.specs.proof_known.proof_alone.Phases.{Phase, Resting, Asked, Risen, Ticking, Open, Behind, Sleeping, Submitting, May as MayStep}
+use Rattle.proof_notes.specs.proof_known.proof_waking.Judged.{IsOfRequest, KnowsJudged}
+use Rattle.proof_notes.proofs.Followed.{MayFollow, frame_all}
 use Rattle.proof_nonces.specs.Known.{AreOther, AsksOther, offered_by}
 use Rattle.proof_nonces.proofs.Payloads.{gets_other, open_other, sends_other}
 

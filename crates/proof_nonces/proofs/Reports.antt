@@ -28,11 +28,11 @@ use Rattle.host_model.specs.State.{HostState, node_of}
 use Rattle.host_model.specs.Sessions.{open_command}
 use Rattle.host_model.specs.After.{after, failing_if, finishing, gives_up, giving, is_full, is_held, line_ticked, node_does, offering, queues_if_room, request_does, requests_do}
 use Rattle.host_model.specs.Events.{HostEvent, Accepts, Cancels, Joins, Queues, Queues_interview, Queues_probe, Hears, Requests_do, Interviews, Interview_unkept, Unreads, Is_unkept, Reports_old, Works, Finishes, Offers, Gives, Spends, Spends_unread, Takes_nonce, Notifies, Resends, Hears_value, Has_no_room, Line_ticks, Node_ticks, Queues_no_more, Drops_no_more, Submits_abort, Submits_front, Starts, Gives_text, Gives_segment, Begins, Begin_unkept}
-use Rattle.proof_attempts.specs.proof_requests.Walking.{IsOfChip}
-use Rattle.proof_attempts.proofs.Doing.{asks_of, attempt_asks, end_if_asks, holds_asks}
-use Rattle.proof_attempts.proofs.Queued.{told_queue}
-use Rattle.proof_known.specs.law_host.Course.{Offer}
-use Rattle.proof_known.specs.law_host.Nonces.{IsOffer}
+use Rattle.proof_notes.specs.proof_attempts.proof_requests.Walking.{IsOfChip}
+use Rattle.proof_notes.proofs.Doing.{asks_of, attempt_asks, end_if_asks, holds_asks}
+use Rattle.proof_notes.proofs.Queued.{told_queue}
+use Rattle.proof_notes.specs.proof_known.law_host.Course.{Offer}
+use Rattle.proof_notes.specs.proof_known.law_host.Nonces.{IsOffer}
 use Rattle.proof_nonces.specs.Giving.{NotBelow, Ordered, is_report, report_of, reports_at}
 use Rattle.proof_nonces.specs.Known.{AsksOther, IsOther, offered_by, offered_in}
 use Rattle.proof_nonces.specs.Counted.{GivenSo, IsLast, LiveSo}

@@ -22,10 +22,10 @@ use Rattle.host_model.specs.Events.{HostEvent}
 use Rattle.host_model.specs.State.{HostState}
 use Rattle.host_model.specs.Outs.{answer_to, answers}
 use Rattle.host_model.specs.declared.out.HostOut.TheVariants.{Write}
-use Rattle.proof_attempts.proofs.proof_requests_Telling.{IsQuiet}
-use Rattle.proof_known.specs.proof_alone.Steps.{AreTold, DidNotCome, IsOfOthers, IsOfUnit}
-use Rattle.proof_known.proofs.Events.{answers_are}
-use Rattle.proof_known.proofs.Lists.{each-append}
+use Rattle.proof_notes.proofs.proof_requests_Telling.{IsQuiet}
+use Rattle.proof_notes.specs.proof_known.proof_alone.Steps.{AreTold, DidNotCome, IsOfOthers, IsOfUnit}
+use Rattle.proof_notes.proofs.Events.{answers_are}
+use Rattle.proof_notes.proofs.Lists.{each-append}
 use Rattle.proof_nonces.specs.Sealing.{HasAsked, IsSealedSo, IsToldSince, MaySeal, SealsNothing, is_sealed}
 
 -- ---- further entries

@@ -44,10 +44,10 @@ use Rattle.host_model.specs.After.{after}
 use Rattle.host_model.specs.Did.{after_all}
 use Rattle.host_model.specs.Events.{HostEvent, Unreads, Is_unkept, Reports_old, Works, Finishes, Offers, Gives, Spends, Spends_unread, Takes_nonce, Notifies, Resends, Hears_value, Has_no_room}
 use Rattle.host_model.specs.Taking.{AreTaken, FinalEvents, FrameEvents, InterviewEvents, IsOpened, IsTaken, NonceGetEvents, NonceReportEvents, NoticeEvents, PayloadEvents, ReportEvents, ResponseEvents, SealedEvents, ends_from, is_secure, named_by, resent, value_events}
-use Rattle.proof_known.specs.Noted.{IsOpenedIf}
-use Rattle.proof_known.proofs.Always.{either, none, one}
-use Rattle.proof_known.proofs.Bodies.{body_is}
-use Rattle.proof_known.proofs.Followers.{bytes_same}
+use Rattle.proof_notes.specs.proof_known.Noted.{IsOpenedIf}
+use Rattle.proof_notes.proofs.Always.{either, none, one}
+use Rattle.proof_notes.proofs.Bodies.{body_is}
+use Rattle.proof_notes.proofs.Followers.{bytes_same}
 use Rattle.proof_nonces.specs.Sealing.{IsTold, tells_nonce}
 
 -- ---- along events

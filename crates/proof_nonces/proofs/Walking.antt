@@ -53,23 +53,23 @@ use Rattle.host_model.proofs.Submitted.{next_is}
 use Rattle.proof_messages.specs.Hosts.{HasTexts}
 use Rattle.proof_messages.proofs.SealedByNumber.{sealed_length}
 use Rattle.proof_messages.proofs.SealedTexts.{BringsText, TextsLeft, bare_texts, first_bare, has_place, restarting_bare, texts_go}
-use Rattle.proof_attempts.specs.proof_requests.Walking.{ReadsAs}
-use Rattle.proof_attempts.proofs.Queued.{PayloadsBring, served_is_node}
-use Rattle.proof_attempts.proofs.Requested.{Unsubmitted}
-use Rattle.proof_attempts.proofs.Stepping.{IsSubmission, event_is_read, submissions}
-use Rattle.proof_attempts.proofs.Walking.{is_fresh}
-use Rattle.proof_attempts.proofs.Wrote.{Wrote, writes}
-use Rattle.proof_attempts.proofs.Wrote.Wrote.{Quietly, Again, Anew}
-use Rattle.proof_attempts.specs.proof_requests.Asking.{doing_of}
-use Rattle.proof_known.specs.proof_transcript.world_model.Events.{OpensFrom}
-use Rattle.proof_known.specs.proof_alone.State.{HostMachine}
-use Rattle.proof_known.specs.proof_alone.Steps.{AreTold, IsAskedBy, Step, Tells, Comes, Misses, Says, Says_nothing, Asks, Refuses, Shows, Restarts, Begins_tick, Numbers, Judges, Does, entries, happens}
-use Rattle.proof_known.specs.proof_alone.Phases.{Phase, Submitting, May as MayStep}
-use Rattle.proof_known.specs.proof_alone.Runs.{WalkOver}
-use Rattle.proof_known.specs.proof_waking.Judged.{IsBehindFrame, IsOfRequest}
-use Rattle.proof_known.proofs.Events.{event_at}
-use Rattle.proof_known.proofs.KeptKeys.{all_keys}
-use Rattle.proof_known.proofs.Settling.{behind_brought}
+use Rattle.proof_notes.specs.proof_attempts.proof_requests.Walking.{ReadsAs}
+use Rattle.proof_notes.proofs.Queued.{PayloadsBring, served_is_node}
+use Rattle.proof_notes.proofs.Requested.{Unsubmitted}
+use Rattle.proof_notes.proofs.Stepping.{IsSubmission, event_is_read, submissions}
+use Rattle.proof_notes.proofs.proof_attempts_Walking.{is_fresh}
+use Rattle.proof_notes.proofs.Wrote.{Wrote, writes}
+use Rattle.proof_notes.proofs.Wrote.Wrote.{Quietly, Again, Anew}
+use Rattle.proof_notes.specs.proof_attempts.proof_requests.Asking.{doing_of}
+use Rattle.proof_notes.specs.proof_known.proof_transcript.world_model.Events.{OpensFrom}
+use Rattle.proof_notes.specs.proof_known.proof_alone.State.{HostMachine}
+use Rattle.proof_notes.specs.proof_known.proof_alone.Steps.{AreTold, IsAskedBy, Step, Tells, Comes, Misses, Says, Says_nothing, Asks, Refuses, Shows, Restarts, Begins_tick, Numbers, Judges, Does, entries, happens}
+use Rattle.proof_notes.specs.proof_known.proof_alone.Phases.{Phase, Submitting, May as MayStep}
+use Rattle.proof_notes.specs.proof_known.proof_alone.Runs.{WalkOver}
+use Rattle.proof_notes.specs.proof_known.proof_waking.Judged.{IsBehindFrame, IsOfRequest}
+use Rattle.proof_notes.proofs.Events.{event_at}
+use Rattle.proof_notes.proofs.KeptKeys.{all_keys}
+use Rattle.proof_notes.proofs.Settling.{behind_brought}
 use Rattle.proof_nonces.specs.Sealing.{HasAsked, IsSealedSo, MaySeal, SealsNothing, is_sealed}
 use Rattle.proof_nonces.specs.Known.{AreOther, AsksOther, Ground, IsUnsealed, KnowsSealing, PlainSo, TextSo, TieSealing}
 use Rattle.proof_nonces.proofs.Payloads.{either_unsealed, open_other, other_unsealed, report_unsealed, start_is}

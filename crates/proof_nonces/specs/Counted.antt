@@ -16,10 +16,10 @@ use Rattle.host_requests.specs.declared.task.Task.{Task}
 use Rattle.host_model.specs.State.{HostState}
 use Rattle.host_model.specs.Events.{HostEvent, Finishes, Hears_value, Has_no_room, Reports_old}
 use Rattle.host_model.specs.Taking.{SealedEvents, named_by}
-use Rattle.proof_known.specs.law_host.Course.{Offer}
-use Rattle.proof_known.specs.law_host.Nonces.{IsOffer, nonce_with}
-use Rattle.proof_known.specs.proof_alone.Phases.{Phase, Behind}
-use Rattle.proof_known.specs.proof_alone.Runs.{Knowledge, both_know}
+use Rattle.proof_notes.specs.proof_known.law_host.Course.{Offer}
+use Rattle.proof_notes.specs.proof_known.law_host.Nonces.{IsOffer, nonce_with}
+use Rattle.proof_notes.specs.proof_known.proof_alone.Phases.{Phase, Behind}
+use Rattle.proof_notes.specs.proof_known.proof_alone.Runs.{Knowledge, both_know}
 use Rattle.proof_nonces.specs.Giving.{IsBefore, IsOpenedOnce, MayTell, NotBelow, Opened, Ordered, before_judged, report_of, reports_at}
 use Rattle.proof_nonces.specs.Known.{Ground, KnowsSealing, offered_in}
 

@@ -19,8 +19,8 @@ use Rattle.law_transcript.specs.Payloads.{nonce_report}
 use Rattle.law_transcript.specs.Units.{Carried, sending_in}
 use Rattle.law_time.specs.Judged.{brought_here, is_acknowledgement}
 use Rattle.law_time.specs.Requests.{asked, is_new}
-use Rattle.proof_known.specs.law_host.Course.{Offer}
-use Rattle.proof_known.specs.law_host.Nonces.{IsOffer, nonce_with}
+use Rattle.proof_notes.specs.proof_known.law_host.Course.{Offer}
+use Rattle.proof_notes.specs.proof_known.law_host.Nonces.{IsOffer, nonce_with}
 
 -- each of some items stands in this relation to all that follow it
 abbrev pub Ordered : {A : Type 0} → (A → A → Type 0) → List A → Type 0

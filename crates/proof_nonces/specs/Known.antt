@@ -11,9 +11,9 @@ use Rattle.host_requests.specs.declared.task.Task.{Task}
 use Rattle.host_requests.specs.declared.task.Task.TheVariants.{Plain, Offer, Segment}
 use Rattle.host_model.specs.State.{HostState, node_of}
 use Rattle.proof_messages.specs.Hosts.{HasTexts}
-use Rattle.proof_attempts.specs.proof_requests.Walking.{Ground as RequestsGround, KnowsAsked}
-use Rattle.proof_known.specs.proof_alone.Runs.{Knowledge, both_know}
-use Rattle.proof_known.specs.Known.{KnowsKeys}
+use Rattle.proof_notes.specs.proof_attempts.proof_requests.Walking.{Ground as RequestsGround, KnowsAsked}
+use Rattle.proof_notes.specs.proof_known.proof_alone.Runs.{Knowledge, both_know}
+use Rattle.proof_notes.specs.proof_known.Known.{KnowsKeys}
 use Rattle.proof_nonces.specs.Sealing.{HasAsked, IsSealedSo, is_sealed}
 
 abbrev pub IsUnsealed : List ℕ → Type 0

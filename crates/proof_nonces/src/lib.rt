@@ -15,5 +15,7 @@ mod sealing;
 mod worked;
 
 pub use giving::{hosts_count_nonces, lines_count_nonces};
+pub use proof_notes as notes;
+pub use proof_notes::{attempts, requests, work};
 pub use sealing::{hosts_seal_once, lines_seal_once};
 pub use worked::{rejected_counts, rejected_seals, worked_seals};

@@ -3,7 +3,7 @@
 ghost use Rattle.s0_crypto.specs.Sealing.{keys_of};
 ghost use Rattle.s0_crypto.specs.declared.key_pair.Keys.{Keys};
 ghost use Rattle.law_transcript.specs.Worked.{network_key, sealed_exchange};
-ghost use Rattle.proof_known.specs.law_host.Worked.{nonce_again};
+ghost use Rattle.proof_notes.specs.proof_known.law_host.Worked.{nonce_again};
 ghost use Rattle.proof_nonces.specs.Giving.{CountsNonces};
 ghost use Rattle.proof_nonces.specs.Sealing.{SealsOnce};
 ghost use Rattle.proof_nonces.specs.Worked.{believed_unopened};

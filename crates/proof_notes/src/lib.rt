@@ -15,5 +15,7 @@ mod worked;
 
 pub use notes::{hosts_note_in_full, lines_note_in_full};
 pub use proof_attempts as attempts;
+pub use proof_attempts::{requests, work_proofs as work};
+pub use proof_known as known;
 pub use unkept::{hosts_say_what_is_not_kept, lines_say_what_is_not_kept};
 pub use worked::{rejected_notes, worked_notes};

@@ -63,7 +63,7 @@ module _ (taken : List Entry → Carried → List Told) where
             else record seen { wants = seen.wants ++ flat_map (wants_of heeds.listing past) (line_of (entry.Said words)) });
       }
 
-  same_step : (past : List Entry) (r : Requests) (e : Entry) (rest other : List Entry) → begins_refused rest ≡ begins_refused other → requests_after heeds past r e rest ≡ requests_after heeds past r e other
+  pub same_step : (past : List Entry) (r : Requests) (e : Entry) (rest other : List Entry) → begins_refused rest ≡ begins_refused other → requests_after heeds past r e rest ≡ requests_after heeds past r e other
   same_step past r (entry.Said words) rest other is = ap (said_after past r words) is
   same_step past r (entry.Written Host unit) rest other is = refl
   same_step past r (entry.Written Chip unit) rest other is = refl

@@ -36,21 +36,21 @@ use Rattle.proof_queue.proofs.Undropped.{Undropped, noted_none}
 
 -- ---- one node
 
-record BookKept (old now : HostBook) : Type 0 where
-  commands : now.commands ≡ old.commands
-  opens : (s : ℕ) → open_session now ≡ Some s → open_session old ≡ Some s
+pub record BookKept (old now : HostBook) : Type 0 where
+  pub commands : now.commands ≡ old.commands
+  pub opens : (s : ℕ) → open_session now ≡ Some s → open_session old ≡ Some s
 
-book_same : (old now : HostBook) → now ≡ old → BookKept old now
+pub book_same : (old now : HostBook) → now ≡ old → BookKept old now
 book_same old now is = record { commands = ap (λ (b : HostBook). b.commands) is; opens = λ s opened. ap (λ (b : HostBook). open_session b) (sym is) ∙ opened }
 
-sign_kept : (n : NodeState) → (if is_running n.series then with_wait n wait_ticks else n).book ≡ n.book
+pub sign_kept : (n : NodeState) → (if is_running n.series then with_wait n wait_ticks else n).book ≡ n.book
 sign_kept n = by (is_running n.series)
   where
     by : (b : Bool) → (if b then with_wait n wait_ticks else n).book ≡ n.book
     by true = refl
     by false = refl
 
-told_kept : (n : NodeState) (status : ℕ) (it : TheTold) → BookKept n.book (after_told n status it).book
+pub told_kept : (n : NodeState) (status : ℕ) (it : TheTold) → BookKept n.book (after_told n status it).book
 told_kept n status (told.Final session) = record { commands = refl; opens = λ s opened. absurd (let bad : ◌≡◌ {A = Option ℕ} None (Some s) = opened in cc) }
 told_kept n status told.Working = book_same n.book (after_told n status told.Working).book (sign_kept n)
 told_kept n status told.Old = book_same n.book n.book refl
@@ -61,7 +61,7 @@ attempts_open (Some status) commands attempts more s opened = opened
 attempts_open None [] attempts more s opened = opened
 attempts_open None (first ∷ rest) attempts more s opened = opened
 
-occasion_kept : (n : NodeState) → BookKept n.book (after_occasion n).book
+pub occasion_kept : (n : NodeState) → BookKept n.book (after_occasion n).book
 occasion_kept n = by (is_open n) (is_up n) (is_idle n.series)
   where
     by : (a b c : Bool) → BookKept n.book (if a && b && c then new_series n else n).book

@@ -32,7 +32,7 @@ last_at : (first : ℕ) (more : List ℕ) (number : ℕ) → slice_get (first �
 last_at first [] number at = ap (λ (k : ℕ). k ∷ []) (let same : first ≡ number = cc in same)
 last_at first (next ∷ more) number at = last_at next more number at
 
-session_last : (commands : List ℕ) (number : ℕ) → command_of_session commands (length commands) ≡ Some number → last_of commands ≡ number ∷ []
+pub session_last : (commands : List ℕ) (number : ℕ) → command_of_session commands (length commands) ≡ Some number → last_of commands ≡ number ∷ []
 session_last [] number at = absurd (let bad : ◌≡◌ {A = Option ℕ} None (Some number) = at in cc)
 session_last (first ∷ more) number at =
     let before : length (first ∷ more) - 1 ≡ length more = omega arith in
@@ -43,7 +43,7 @@ open_last (Some status) commands attempts s is = absurd (let bad : ◌≡◌ {A 
 open_last None [] attempts s is = absurd (let bad : ◌≡◌ {A = Option ℕ} None (Some s) = is in cc)
 open_last None (first ∷ more) attempts s is = let same : length (first ∷ more) ≡ s = cc in sym same
 
-open_is_last : (book : HostBook) (s : ℕ) → open_session book ≡ Some s → s ≡ length book.commands
+pub open_is_last : (book : HostBook) (s : ℕ) → open_session book ≡ Some s → s ≡ length book.commands
 open_is_last book s is = open_last book.outcome book.commands book.attempts s is
 
 -- ---- what is known

@@ -20,11 +20,11 @@ use Rattle.proof_attempts.proofs.Queued.{wanting_is_node}
 use Rattle.proof_attempts.specs.Waking.{TieAwake}
 use Rattle.proof_queue.specs.Waiting.{NoneWoken}
 
-abbrev Unwoken : Entry → Type 0
+abbrev pub Unwoken : Entry → Type 0
 Unwoken (entry.Awake n) = ⊥
 Unwoken e = Unit {0}
 
-abbrev Are : List Entry → Type 0
+abbrev pub Are : List Entry → Type 0
 Are told = AllByRecursion Unwoken told
 
 all_unwoken : (told : List Entry) → NoneWoken told → Are told
@@ -52,7 +52,7 @@ asleep_last n (entry.Asleep node ∷ told) all = by (node == n) (asleep_last n t
     by false is = is
 asleep_last n (e ∷ told) all = asleep_last n told all.1
 
-none_awake : (past : List Entry) (n : ℕ) → NoneWoken past → counts_awake n past ≡ false
+pub none_awake : (past : List Entry) (n : ℕ) → NoneWoken past → counts_awake n past ≡ false
 none_awake past n none = asleep_last n (since_restart past) (since_unwoken [] past tt (all_unwoken past none))
 
 not_wanting : (n : NodeState) → n.awake ≡ false → wants_no_more n ≡ false

@@ -1,3 +1,6 @@
 pub mod Waiting
 pub mod Heeding
 pub mod Turn
+pub mod Sleeping
+pub use Rattle.proof_attempts.specs as proof_attempts
+pub use Rattle.proof_sending.specs as proof_sending

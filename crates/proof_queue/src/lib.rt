@@ -4,17 +4,24 @@
 //! host alone (`proof_alone`), by messages of each payload that the host took up (`hosts_go_by_messages`), that is what waits in the host, in the same order,
 //! as long as no node has woken: there is no No More Information then (`hosts_queue_as_told`). So lines are refused for places, and messages dropped, just
 //! where 64 wait, and requests go by the queue (`hosts_fit_their_queue`).
-//! The definitions are in `specs/`: `Waiting` (what waits, at each phase), `Heeding` (by which messages the host goes) and `Turn` (that requests go by it).
+//! A node that has woken may be due its No More Information: a look then finds just those nodes that the host's next pump lets sleep, in the same order
+//! (`hosts_let_sleep_as_told`), over any run.
+//! The definitions are in `specs/`: `Waiting` (what waits, at each phase), `Heeding` (by which messages the host goes), `Turn` (that requests go by it) and
+//! `Sleeping` (which nodes a pump lets sleep).
 //! `proofs/Books` has what waits after more entries, `Leaving` the entries that leave it and the host's notes, `Refused` and `Asking` lines, `Undropped` and
 //! `Stills` events that leave what waits, `Sleepers` nodes that have not woken, `Walking` the walk and `Along` what it makes of a run. `Puts` has messages
 //! that are put into the queue, `Segments` the segment that is asked for again, `Kept` what follows a payload, `Messages` and `Payloads` what a node wants by
-//! it, and `Choosing` what is chosen along a run.
+//! it, and `Choosing` what is chosen along a run. Of nodes that have woken `Orders` has the order of those that are due, `Looks` what a look adds, `Tells` who is
+//! told, `Joined` which nodes joined, `Pumped`, `Sleeps` and `Seeing` that a look finds those that a pump lets sleep, and `Dropping`, `Ending` and `Ties` what goes
+//! on with events and entries.
 #![tactic(auto)]
 
 mod fits;
 mod going;
 mod queued;
+mod sleeping;
 
 pub use fits::{hosts_fit_their_queue, hosts_go_by_messages};
 pub use going::{rejected_going, worked_going};
 pub use queued::hosts_queue_as_told;
+pub use sleeping::hosts_let_sleep_as_told;

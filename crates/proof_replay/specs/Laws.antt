@@ -29,19 +29,19 @@ use Rattle.law_time.specs.Waking.{FallsAsleep, WakesAsTold}
 use Rattle.run_lines.specs.Lines.{TextLine}
 use Rattle.run_replay.specs.Machine.{Lone}
 use Rattle.proof_host.specs.Laws.{HostLaws}
-use Rattle.proof_notes.specs.proof_attempts.proof_walk.Time.{MayCount}
+use Rattle.proof_ends.specs.proof_notes.proof_attempts.proof_walk.Time.{MayCount}
 use Rattle.proof_asking.specs.proof_requests.proof_alone.State.{HostMachine, first_alone}
 use Rattle.proof_asking.specs.proof_requests.proof_alone.Phases.{Resting}
 use Rattle.proof_asking.specs.proof_requests.proof_alone.Runs.{Run}
 use Rattle.proof_asking.specs.proof_requests.proof_alone.Careful.{Careful}
 use Rattle.proof_asking.specs.proof_known.Known.{AreForHost, KeepsWhatIsSaid}
 use Rattle.proof_asking.specs.proof_known.Noted.{NotesWhatOpens, NotesWhatWasTold}
-use Rattle.proof_notes.specs.Full.{NotesInFull}
+use Rattle.proof_ends.specs.proof_notes.Full.{NotesInFull}
 use Rattle.proof_ends.specs.Ends.{NotesOfEnds}
-use Rattle.proof_nonces.specs.Giving.{CountsNonces}
-use Rattle.proof_nonces.specs.Sealing.{SealsOnce}
-use Rattle.proof_rests.specs.Undone.{LeavesNothing}
-use Rattle.proof_notes.specs.Unkept.{UnkeptWhereAsked}
+use Rattle.proof_ends.specs.proof_nonces.Giving.{CountsNonces}
+use Rattle.proof_ends.specs.proof_nonces.Sealing.{SealsOnce}
+use Rattle.proof_ends.specs.proof_rests.Undone.{LeavesNothing}
+use Rattle.proof_ends.specs.proof_notes.Unkept.{UnkeptWhereAsked}
 use Rattle.proof_queue.specs.Turn.{GoesByQueue}
 use Rattle.proof_queue.specs.Waiting.{NoneWoken}
 use Rattle.proof_replay.specs.Heard.{AreReplayed, AreSaid, Replayed, heard_of, told_of}
@@ -67,7 +67,7 @@ QueuesByMessages heard = (taken : List Entry → Carried → List Told) × FitsQ
 -- The number of a tick is above those before it, and lines have asked for so many ticks.
 -- Each payload that it asks its chip to send is a message of the last session of its node, by what the node listed, a nonce or a question for one, lets the node sleep, or was
 -- asked for by a line; where its keys are those of a network key, by what nodes told openly or sealed with that key.
--- Each message that it seals is for a nonce that its node told since it was asked, and none serves twice; and the nonces that it gives have numbers, in order, which rise with what opens.
+-- Each message that it seals is for a nonce that its node told since it was asked, each question serving once; and the nonces that it gives, and those for which it opens, have numbers in order.
 -- Its link kept the rules of the serial line, a new one from each start on.
 pub record HostsKeepLaws (keys : Keys) (whole : Bool) (heard : List Entry) (records : Option (List (List ℕ))) : Type 0 where
   pub orders : HostLaws heard

@@ -160,7 +160,7 @@ given_up_answered s answer now count tick_is (four, inl denied) = (
 given_up_answered s answer now count tick_is (four, inr ignored) =
     (four, inr (record { none = given_up_counted s answer now count tick_is (four, inr ignored) ∙ ignored.none; by_now = ignored.by_now }))
 
-line_answered : (s : Standing) (answer : Answer) (now count : ℕ) (leaving : Leaving) → answer.tick ≡ now → EndedByLine s now count leaving → EndedByLine (with_answer s answer) now count leaving
+pub line_answered : (s : Standing) (answer : Answer) (now count : ℕ) (leaving : Leaving) → answer.tick ≡ now → EndedByLine s now count leaving → EndedByLine (with_answer s answer) now count leaving
 line_answered s answer now count leaving tick_is e =
     let same = same_counted s answer (given_up_counted s answer now count tick_is e.given_up) in record {
       paid = e.paid;
@@ -311,7 +311,7 @@ line_judged s one now count leaving tick_is place e = record { paid = e.paid; no
 pub wait_judged : (s : Standing) (one : Judging) → wait_in (with_judging s one) ≡ waiting (is_abort_frame s.frame) (sent_in s) (responses_in s ++ (if is_response_to s.frame one.unit then one ∷ [] else []))
 wait_judged s one = ap (λ (l : List Judging). waiting (is_abort_frame s.frame) (sent_in s) l) (responses_judged s one)
 
-frame_judged : (s : Standing) (one : Judging) (now count : ℕ) (leaving : Leaving) → one.tick ≡ now → EndedByFrame s now count leaving → EndedByFrame (with_judging s one) now (count + 1) leaving
+pub frame_judged : (s : Standing) (one : Judging) (now count : ℕ) (leaving : Leaving) → one.tick ≡ now → EndedByFrame s now count leaving → EndedByFrame (with_judging s one) now (count + 1) leaving
 frame_judged s one now count leaving tick_is e =
     let by_now = e.by_now in
     let place = e.judged in record {
@@ -395,7 +395,7 @@ copy_fails s now = by (s.copies + 1 == 4)
     by true = inr refl
     by false = inl refl
 
-copy_stands : (s : Standing) (now : ℕ) (test : Failing → Bool) → test (fails_in_time now) ≡ true → list_all test (failing_in (with_copy s now)) ≡ true
+pub copy_stands : (s : Standing) (now : ℕ) (test : Failing → Bool) → test (fails_in_time now) ≡ true → list_all test (failing_in (with_copy s now)) ≡ true
 copy_stands s now test is = by (copy_fails s now)
   where
     by : (failing_in (with_copy s now) ≡ []) ⊎ (failing_in (with_copy s now) ≡ fails_in_time now ∷ []) → list_all test (failing_in (with_copy s now)) ≡ true

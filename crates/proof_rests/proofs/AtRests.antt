@@ -7,18 +7,18 @@ use Rattle.zw_text.specs.declared.entry.Entry.{Entry}
 use Rattle.zw_text.specs.declared.entry.Entry.TheVariants as entry
 use Rattle.zw_text.specs.Transcript.{lines_run}
 use Rattle.host_model.specs.Outs.{answers, outs}
-use Rattle.proof_work.specs.law_transcript.Lists.{EachAfter}
-use Rattle.proof_work.specs.law_transcript.Restarts.{ticks_asked}
-use Rattle.proof_work.specs.law_time.Moments.{Allows}
-use Rattle.proof_work.specs.law_time.Rests.{is_rest}
-use Rattle.proof_work.specs.world_model.Events.{shown_values}
-use Rattle.proof_attempts.specs.proof_requests.proof_alone.State.{HostMachine}
-use Rattle.proof_attempts.specs.proof_requests.proof_alone.Steps.{Step, Tells, Comes, Misses, Says, Says_nothing, Asks, Refuses, Shows, Restarts, Begins_tick, Numbers, Judges, Does, entries, happens}
-use Rattle.proof_attempts.specs.proof_requests.proof_alone.Phases.{Phase, Resting, May}
-use Rattle.proof_attempts.specs.proof_requests.proof_alone.Runs.{Knowledge, WalkOver}
-use Rattle.proof_attempts.specs.proof_requests.proof_alone.Time.{TieClock}
-use Rattle.proof_known.proofs.Events.{answers_are, event_notes}
-use Rattle.proof_requests.proofs.proof_alone_Apart.{missed_are, told_are}
+use Rattle.proof_nonces.specs.proof_work.law_transcript.Lists.{EachAfter}
+use Rattle.proof_nonces.specs.proof_work.law_transcript.Restarts.{ticks_asked}
+use Rattle.proof_nonces.specs.proof_work.law_time.Moments.{Allows}
+use Rattle.proof_nonces.specs.proof_work.law_time.Rests.{is_rest}
+use Rattle.proof_nonces.specs.proof_work.world_model.Events.{shown_values}
+use Rattle.proof_nonces.specs.proof_attempts.proof_requests.proof_alone.State.{HostMachine}
+use Rattle.proof_nonces.specs.proof_attempts.proof_requests.proof_alone.Steps.{Step, Tells, Comes, Misses, Says, Says_nothing, Asks, Refuses, Shows, Restarts, Begins_tick, Numbers, Judges, Does, entries, happens}
+use Rattle.proof_nonces.specs.proof_attempts.proof_requests.proof_alone.Phases.{Phase, Resting, May}
+use Rattle.proof_nonces.specs.proof_attempts.proof_requests.proof_alone.Runs.{Knowledge, WalkOver}
+use Rattle.proof_nonces.specs.proof_attempts.proof_requests.proof_alone.Time.{TieClock}
+use Rattle.proof_nonces.proofs.Events.{answers_are, event_notes}
+use Rattle.proof_nonces.proofs.proof_alone_Apart.{missed_are, told_are}
 use Rattle.proof_rests.specs.Undone.{may_begin, rests_so}
 use Rattle.proof_rests.specs.Known.{WasSo}
 use Rattle.proof_rests.proofs.Entries.{IsAside, IsLater, aside_later, answers_aside, item_aside, line_aside, line_later, note_later, others_aside}

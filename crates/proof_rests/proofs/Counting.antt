@@ -16,15 +16,15 @@ use Rattle.host_model.specs.May.{May}
 use Rattle.host_model.specs.After.{after}
 use Rattle.host_model.specs.Events.{HostEvent, Queues, Queues_interview}
 use Rattle.host_model.specs.Outs.{answers, outs}
-use Rattle.proof_work.specs.Doing.{IsDone}
-use Rattle.proof_work.specs.Tasks.{added, ended, tasks_of}
-use Rattle.proof_work.specs.law_transcript.Restarts.{is_restart, since_restart}
-use Rattle.proof_work.specs.proof_host.Entries.{entries_at, notes_of}
-use Rattle.proof_attempts.specs.proof_requests.proof_alone.Steps.{AreTold, AsksNothing, IsAskedBy}
-use Rattle.proof_known.proofs.Events.{told_shown}
-use Rattle.proof_known.proofs.Telling.{done_more}
-use Rattle.proof_requests.proofs.proof_alone_Apart.{AreOfLine}
-use Rattle.proof_requests.proofs.proof_waking_Apart.{IsWordless, said_anew, said_in_vain, said_on, wordless_more}
+use Rattle.proof_nonces.specs.proof_work.Doing.{IsDone}
+use Rattle.proof_nonces.specs.proof_work.Tasks.{added, ended, tasks_of}
+use Rattle.proof_nonces.specs.proof_work.law_transcript.Restarts.{is_restart, since_restart}
+use Rattle.proof_nonces.specs.proof_work.proof_host.Entries.{entries_at, notes_of}
+use Rattle.proof_nonces.specs.proof_attempts.proof_requests.proof_alone.Steps.{AreTold, AsksNothing, IsAskedBy}
+use Rattle.proof_nonces.proofs.Events.{told_shown}
+use Rattle.proof_nonces.proofs.Telling.{done_more}
+use Rattle.proof_nonces.proofs.proof_alone_Apart.{AreOfLine}
+use Rattle.proof_nonces.proofs.Apart.{IsWordless, said_anew, said_in_vain, said_on, wordless_more}
 use Rattle.proof_rests.specs.Known.{AreCounted, Wanted, asked_since, ended_since, left_among}
 use Rattle.proof_rests.proofs.Entries.{IsAside, aside_later, later_wordless}
 

@@ -7,17 +7,17 @@ use Rattle.zw_text.specs.Transcript.{joined, lines_done, requests_done, shown}
 use Rattle.host_requests.specs.declared.task.Task.{Task}
 use Rattle.host_model.specs.State.{HostState}
 use Rattle.host_model.specs.May.{IsFree}
-use Rattle.proof_work.specs.Rests.{Rests}
-use Rattle.proof_work.specs.Tasks.{tasks_of}
-use Rattle.proof_work.specs.law_transcript.Restarts.{since_restart}
-use Rattle.proof_work.specs.law_transcript.Units.{request_in}
-use Rattle.proof_work.specs.law_time.Requests.{asked}
-use Rattle.proof_work.specs.law_time.Ends.{is_sending, owes_abort}
-use Rattle.proof_work.specs.law_time.Rests.{errand_of, has_come, interview_end, interview_of, is_rest, is_unkept}
-use Rattle.proof_attempts.specs.proof_requests.Asking.{TieAsked, doing_of}
-use Rattle.proof_attempts.specs.proof_requests.proof_alone.State.{HostMachine}
-use Rattle.proof_attempts.specs.proof_requests.proof_alone.Phases.{Resting}
-use Rattle.proof_requests.proofs.Ending.{told_of_host}
+use Rattle.proof_nonces.specs.proof_work.Rests.{Rests}
+use Rattle.proof_nonces.specs.proof_work.Tasks.{tasks_of}
+use Rattle.proof_nonces.specs.proof_work.law_transcript.Restarts.{since_restart}
+use Rattle.proof_nonces.specs.proof_work.law_transcript.Units.{request_in}
+use Rattle.proof_nonces.specs.proof_work.law_time.Requests.{asked}
+use Rattle.proof_nonces.specs.proof_work.law_time.Ends.{is_sending, owes_abort}
+use Rattle.proof_nonces.specs.proof_work.law_time.Rests.{errand_of, has_come, interview_end, interview_of, is_rest, is_unkept}
+use Rattle.proof_nonces.specs.proof_attempts.proof_requests.Asking.{TieAsked, doing_of}
+use Rattle.proof_nonces.specs.proof_attempts.proof_requests.proof_alone.State.{HostMachine}
+use Rattle.proof_nonces.specs.proof_attempts.proof_requests.proof_alone.Phases.{Resting}
+use Rattle.proof_nonces.proofs.Ending.{told_of_host}
 use Rattle.proof_rests.specs.Undone.{is_done}
 use Rattle.proof_rests.specs.Known.{AreCountedOr, KnowsAll, Wanted, an_errand, an_interview, left_among, no_excuse}
 use Rattle.proof_rests.proofs.Freeing.{frees}

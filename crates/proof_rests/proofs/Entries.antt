@@ -8,12 +8,12 @@ use Rattle.serial_frame.specs.declared.unit.Unit.TheVariants.{Ack, Nak, Can, Fra
 use Rattle.zw_text.specs.declared.entry.Entry.{Entry}
 use Rattle.zw_text.specs.declared.entry.Entry.TheVariants as entry
 use Rattle.host_model.specs.Outs.{answer_to}
-use Rattle.proof_work.proofs.HostOuts.{OutsAre}
-use Rattle.proof_attempts.specs.proof_walk.Outside.{IsHostNote}
-use Rattle.proof_attempts.specs.proof_requests.proof_alone.Steps.{AreTold, IsOfOthers}
-use Rattle.proof_known.proofs.Events.{AreAnswers}
-use Rattle.proof_requests.proofs.proof_alone_Apart.{AreOfLine, puts_are}
-use Rattle.proof_requests.proofs.proof_waking_Apart.{IsWordless}
+use Rattle.proof_nonces.proofs.proof_device_HostOuts.{OutsAre}
+use Rattle.proof_nonces.specs.proof_attempts.proof_walk.Outside.{IsHostNote}
+use Rattle.proof_nonces.specs.proof_attempts.proof_requests.proof_alone.Steps.{AreTold, IsOfOthers}
+use Rattle.proof_nonces.proofs.Events.{AreAnswers}
+use Rattle.proof_nonces.proofs.proof_alone_Apart.{AreOfLine, puts_are}
+use Rattle.proof_nonces.proofs.Apart.{IsWordless}
 
 -- neither of a line nor the number of a tick
 abbrev pub IsLater : Entry → Type 0

@@ -12,15 +12,15 @@ use Rattle.host_requests.specs.declared.under_way.UnderWay.{UnderWay}
 use Rattle.host_model.specs.State.{HostState}
 use Rattle.host_model.specs.After.{is_busy}
 use Rattle.host_model.specs.May.{IsFree}
-use Rattle.proof_work.specs.law_time.Judged.{acknowledged, is_data}
-use Rattle.proof_work.specs.law_time.Requests.{Answer, Failing, are_none, asked, failing_by}
-use Rattle.proof_work.specs.law_time.Ends.{has_ended, is_line_free, is_over}
-use Rattle.proof_attempts.specs.proof_requests.proof_alone.Steps.{AreFrames}
-use Rattle.proof_attempts.specs.proof_requests.Standing.{Standing, counted, failing_in, sent_in, standing_of, ticks_sent}
-use Rattle.proof_attempts.specs.proof_requests.Asking.{IsCopied, IsPaused, TieAsked, TieLine, doing_of}
-use Rattle.proof_requests.proofs.Ending.{told_of_host}
-use Rattle.proof_requests.proofs.Line.{counted_copied, counted_few, failing_few, failing_four, few_is, less_than_due, none_to_come}
-use Rattle.proof_requests.proofs.OnLine.{paused_unsent}
+use Rattle.proof_nonces.specs.proof_work.law_time.Judged.{acknowledged, is_data}
+use Rattle.proof_nonces.specs.proof_work.law_time.Requests.{Answer, Failing, are_none, asked, failing_by}
+use Rattle.proof_nonces.specs.proof_work.law_time.Ends.{has_ended, is_line_free, is_over}
+use Rattle.proof_nonces.specs.proof_attempts.proof_requests.proof_alone.Steps.{AreFrames}
+use Rattle.proof_nonces.specs.proof_attempts.proof_requests.Standing.{Standing, counted, failing_in, sent_in, standing_of, ticks_sent}
+use Rattle.proof_nonces.specs.proof_attempts.proof_requests.Asking.{IsCopied, IsPaused, TieAsked, TieLine, doing_of}
+use Rattle.proof_nonces.proofs.Ending.{told_of_host}
+use Rattle.proof_nonces.proofs.Line.{counted_copied, counted_few, failing_few, failing_four, few_is, less_than_due, none_to_come}
+use Rattle.proof_nonces.proofs.OnLine.{paused_unsent}
 
 -- ---- the line
 

@@ -17,15 +17,15 @@ use Rattle.host_model.specs.Outs.{outs}
 use Rattle.host_model.specs.Taking.{InterviewEvents, told_requests}
 use Rattle.host_model.proofs.Own.{IsOwn, sleepers_own, submitted_own}
 use Rattle.host_model.proofs.Submitted.{next_is, no_more_is}
-use Rattle.proof_work.specs.Tasks.{KeepsInterview, ended, interviews}
-use Rattle.proof_work.specs.law_time.Requests.{are_none}
-use Rattle.proof_work.specs.law_time.Rests.{interview_end, is_unkept, unkept_at}
-use Rattle.proof_work.specs.proof_host.Entries.{entries_at}
-use Rattle.proof_attempts.specs.proof_requests.Ends.{AreToldOf, KnowsEnds}
-use Rattle.proof_attempts.specs.proof_requests.proof_alone.State.{HostMachine}
-use Rattle.proof_attempts.specs.proof_requests.proof_alone.Steps.{AreTold, Does}
-use Rattle.proof_attempts.specs.proof_requests.proof_alone.Phases.{Phase, Resting, Asked, Risen, Ticking, Open, Behind, Sleeping, Submitting, May}
-use Rattle.proof_known.proofs.Noting.{noted_told}
+use Rattle.proof_nonces.specs.proof_work.Tasks.{KeepsInterview, ended, interviews}
+use Rattle.proof_nonces.specs.proof_work.law_time.Requests.{are_none}
+use Rattle.proof_nonces.specs.proof_work.law_time.Rests.{interview_end, is_unkept, unkept_at}
+use Rattle.proof_nonces.specs.proof_work.proof_host.Entries.{entries_at}
+use Rattle.proof_nonces.specs.proof_attempts.proof_requests.Ends.{AreToldOf, KnowsEnds}
+use Rattle.proof_nonces.specs.proof_attempts.proof_requests.proof_alone.State.{HostMachine}
+use Rattle.proof_nonces.specs.proof_attempts.proof_requests.proof_alone.Steps.{AreTold, Does}
+use Rattle.proof_nonces.specs.proof_attempts.proof_requests.proof_alone.Phases.{Phase, Resting, Asked, Risen, Ticking, Open, Behind, Sleeping, Submitting, May}
+use Rattle.proof_nonces.proofs.Noting.{noted_told}
 use Rattle.proof_rests.specs.Known.{KnowsDoing, an_interview}
 use Rattle.proof_rests.proofs.Walking.{EndsTold}
 

@@ -6,3 +6,25 @@ mod Walking
 mod Interviewing
 mod AtRests
 mod Done
+pub use Rattle.proof_nonces.proofs.proof_attempts_Opening as Opening
+pub use Rattle.proof_nonces.proofs.Releasing
+pub use Rattle.proof_nonces.proofs.Sleeping
+pub use Rattle.proof_nonces.proofs.KeptAwake
+pub use Rattle.proof_nonces.proofs.Lasting
+pub use Rattle.proof_nonces.proofs.Late
+pub use Rattle.proof_nonces.proofs.Requested
+pub use Rattle.proof_nonces.proofs.Slept
+pub use Rattle.proof_nonces.proofs.Wrote
+pub use Rattle.proof_nonces.proofs.EndsDone
+pub use Rattle.proof_nonces.proofs.Interviews
+pub use Rattle.proof_nonces.proofs.proof_requests_Doing as Doing
+pub use Rattle.proof_nonces.proofs.EndsHere
+pub use Rattle.proof_nonces.proofs.EndsLate
+pub use Rattle.proof_nonces.proofs.EndsTold
+pub use Rattle.proof_nonces.proofs.Judging
+pub use Rattle.proof_nonces.proofs.Queueing
+pub use Rattle.proof_nonces.proofs.Stepping
+pub use Rattle.proof_nonces.proofs.proof_requests_Walking
+pub use Rattle.proof_nonces.proofs.proof_waking_Judging
+pub use Rattle.proof_nonces.proofs.Times
+pub use Rattle.proof_nonces.proofs.HostNotes

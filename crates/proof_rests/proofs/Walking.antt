@@ -18,24 +18,24 @@ use Rattle.host_model.specs.Events.{HostEvent, Queues, Queues_interview}
 use Rattle.host_model.specs.Outs.{answers, outs}
 use Rattle.host_model.proofs.Own.{IsOwn, sleepers_own, submitted_own}
 use Rattle.host_model.proofs.Submitted.{next_is, no_more_is}
-use Rattle.proof_work.specs.Doing.{IsDone}
-use Rattle.proof_work.specs.Tasks.{ended, tasks_of}
-use Rattle.proof_work.specs.law_transcript.Restarts.{is_restart, since_restart}
-use Rattle.proof_work.specs.proof_host.Entries.{entries_at}
-use Rattle.proof_work.specs.world_model.Events.{shown_values}
-use Rattle.proof_work.proofs.Doing.{own_done}
-use Rattle.proof_attempts.specs.Since.{IsElse, WalkBoth}
-use Rattle.proof_attempts.specs.proof_requests.proof_alone.State.{HostMachine, done}
-use Rattle.proof_attempts.specs.proof_requests.proof_alone.Steps.{Step, Tells, Comes, Misses, Says, Says_nothing, Asks, Refuses, Shows, Restarts, Begins_tick, Numbers, Judges, Does, entries, happens}
-use Rattle.proof_attempts.specs.proof_requests.proof_alone.Phases.{Phase, Resting, Asked, Risen, Ticking, Open, Behind, Sleeping, Submitting, IsBetween, May, Turns}
-use Rattle.proof_attempts.specs.proof_requests.proof_waking.Judged.{IsOfRequest, KnowsJudged}
-use Rattle.proof_attempts.proofs.Lasting.{by_else}
-use Rattle.proof_attempts.proofs.Queueing.{opened_asks}
-use Rattle.proof_known.proofs.Events.{answers_are, event_notes}
-use Rattle.proof_requests.proofs.proof_alone_Apart.{missed_are, told_are}
-use Rattle.proof_requests.proofs.proof_waking_Apart.{IsWordless, said_in_vain, said_on, wordless_more}
-use Rattle.proof_requests.proofs.proof_waking_Followed.{MayFollow, frame_all}
-use Rattle.proof_requests.proofs.proof_waking_Judging.{asked_on, nothing_on}
+use Rattle.proof_nonces.specs.proof_work.Doing.{IsDone}
+use Rattle.proof_nonces.specs.proof_work.Tasks.{ended, tasks_of}
+use Rattle.proof_nonces.specs.proof_work.law_transcript.Restarts.{is_restart, since_restart}
+use Rattle.proof_nonces.specs.proof_work.proof_host.Entries.{entries_at}
+use Rattle.proof_nonces.specs.proof_work.world_model.Events.{shown_values}
+use Rattle.proof_nonces.proofs.Doing.{own_done}
+use Rattle.proof_nonces.specs.proof_attempts.Since.{IsElse, WalkBoth}
+use Rattle.proof_nonces.specs.proof_attempts.proof_requests.proof_alone.State.{HostMachine, done}
+use Rattle.proof_nonces.specs.proof_attempts.proof_requests.proof_alone.Steps.{Step, Tells, Comes, Misses, Says, Says_nothing, Asks, Refuses, Shows, Restarts, Begins_tick, Numbers, Judges, Does, entries, happens}
+use Rattle.proof_nonces.specs.proof_attempts.proof_requests.proof_alone.Phases.{Phase, Resting, Asked, Risen, Ticking, Open, Behind, Sleeping, Submitting, IsBetween, May, Turns}
+use Rattle.proof_nonces.specs.proof_attempts.proof_requests.proof_waking.Judged.{IsOfRequest, KnowsJudged}
+use Rattle.proof_nonces.proofs.Lasting.{by_else}
+use Rattle.proof_nonces.proofs.Queueing.{opened_asks}
+use Rattle.proof_nonces.proofs.Events.{answers_are, event_notes}
+use Rattle.proof_nonces.proofs.proof_alone_Apart.{missed_are, told_are}
+use Rattle.proof_nonces.proofs.Apart.{IsWordless, said_in_vain, said_on, wordless_more}
+use Rattle.proof_nonces.proofs.Followed.{MayFollow, frame_all}
+use Rattle.proof_nonces.proofs.proof_waking_Judging.{asked_on, nothing_on}
 use Rattle.proof_rests.specs.Known.{AreCounted, AreCountedOr, CountedBefore, KnowsCounts, KnowsDoing, Wanted, left_among}
 use Rattle.proof_rests.proofs.Entries.{IsAside, IsLater, aside_later, answers_aside, item_aside, later_wordless, line_aside, line_later, note_later, others_aside}
 use Rattle.proof_rests.proofs.Counting.{IsUnqueued, IsWanted, TasksGo, after_words, anew, event_counts, goes, in_vain, said, steady}

@@ -17,10 +17,10 @@ use Rattle.host_model.specs.May.{May, known_of}
 use Rattle.host_model.specs.After.{after, giving, is_full}
 use Rattle.host_model.specs.Events.{HostEvent, Accepts, Cancels, Gives, Offers, Queues, Queues_interview, Resends}
 use Rattle.host_model.specs.Outs.{answers}
-use Rattle.proof_work.specs.Doing.{IsDone}
-use Rattle.proof_work.specs.Tasks.{added, added_offer, ended}
-use Rattle.proof_attempts.specs.proof_requests.proof_alone.Steps.{AsksNothing, IsAskedBy}
-use Rattle.proof_requests.proofs.proof_alone_Apart.{AreOfLine}
+use Rattle.proof_nonces.specs.proof_work.Doing.{IsDone}
+use Rattle.proof_nonces.specs.proof_work.Tasks.{added, added_offer, ended}
+use Rattle.proof_nonces.specs.proof_attempts.proof_requests.proof_alone.Steps.{AsksNothing, IsAskedBy}
+use Rattle.proof_nonces.proofs.proof_alone_Apart.{AreOfLine}
 use Rattle.proof_rests.specs.Known.{Wanted, an_errand, an_interview, left_among}
 use Rattle.proof_rests.proofs.Entries.{IsAside}
 use Rattle.proof_rests.proofs.Counting.{IsUnqueued, IsWanted, TasksGo, event_left}

@@ -8,14 +8,14 @@ use Rattle.zw_text.specs.declared.entry.Entry.TheVariants as entry
 use Rattle.zw_text.specs.Transcript.{done_at, line_of, lines_done, shown}
 use Rattle.host_requests.specs.declared.task.Task.{Task}
 use Rattle.host_model.specs.State.{HostState}
-use Rattle.proof_work.specs.Tasks.{errand_of as errand_in, interview_of as interview_in, tasks_of}
-use Rattle.proof_work.specs.law_transcript.Restarts.{since_restart}
-use Rattle.proof_work.specs.law_time.Rests.{errand_of, interview_end, interview_of, is_unkept}
-use Rattle.proof_attempts.specs.Waking.{KnowsWork}
-use Rattle.proof_attempts.specs.proof_requests.Ends.{KnowsEnds}
-use Rattle.proof_attempts.specs.proof_requests.Walking.{Ground as RequestsGround, KnowsAsked}
-use Rattle.proof_attempts.specs.proof_requests.proof_alone.Phases.{Asked}
-use Rattle.proof_attempts.specs.proof_requests.proof_alone.Runs.{Knowledge, both_know}
+use Rattle.proof_nonces.specs.proof_work.Tasks.{errand_of as errand_in, interview_of as interview_in, tasks_of}
+use Rattle.proof_nonces.specs.proof_work.law_transcript.Restarts.{since_restart}
+use Rattle.proof_nonces.specs.proof_work.law_time.Rests.{errand_of, interview_end, interview_of, is_unkept}
+use Rattle.proof_nonces.specs.proof_attempts.Waking.{KnowsWork}
+use Rattle.proof_nonces.specs.proof_attempts.proof_requests.Ends.{KnowsEnds}
+use Rattle.proof_nonces.specs.proof_attempts.proof_requests.Walking.{Ground as RequestsGround, KnowsAsked}
+use Rattle.proof_nonces.specs.proof_attempts.proof_requests.proof_alone.Phases.{Asked}
+use Rattle.proof_nonces.specs.proof_attempts.proof_requests.proof_alone.Runs.{Knowledge, both_know}
 use Rattle.proof_rests.specs.Undone.{rests_so}
 
 -- ---- errands and interviews

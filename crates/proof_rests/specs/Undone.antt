@@ -4,11 +4,11 @@ use Rattle.std.specs.List.{list_all}
 use Rattle.zw_text.specs.declared.entry.Entry.{Entry}
 use Rattle.zw_text.specs.declared.entry.Entry.TheVariants.{Said, Time}
 use Rattle.zw_text.specs.Transcript.{joined}
-use Rattle.proof_work.specs.law_transcript.Restarts.{since_restart}
-use Rattle.proof_work.specs.law_time.Moments.{Keeps, now_at}
-use Rattle.proof_work.specs.law_time.Requests.{asked}
-use Rattle.proof_work.specs.law_time.Ends.{owes_abort}
-use Rattle.proof_work.specs.law_time.Rests.{has_come, is_rest}
+use Rattle.proof_nonces.specs.proof_work.law_transcript.Restarts.{since_restart}
+use Rattle.proof_nonces.specs.proof_work.law_time.Moments.{Keeps, now_at}
+use Rattle.proof_nonces.specs.proof_work.law_time.Requests.{asked}
+use Rattle.proof_nonces.specs.proof_work.law_time.Ends.{owes_abort}
+use Rattle.proof_nonces.specs.proof_work.law_time.Rests.{has_come, is_rest}
 
 -- ---- where a host rests
 

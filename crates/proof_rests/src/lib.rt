@@ -12,5 +12,7 @@
 mod rests;
 mod worked;
 
+pub use proof_nonces as nonces;
+pub use proof_nonces::{attempts, notes, requests};
 pub use rests::{hosts_leave_nothing, lines_leave_nothing};
 pub use worked::{rejected_rests, worked_rests};

@@ -4,20 +4,20 @@ ghost use Rattle.std.specs.Prelude.{◌≡◌, Some, List, [], false, true};
 ghost use Rattle.s0_crypto.specs.declared.key_pair.Keys.{Keys};
 ghost use Rattle.device_sim.specs.State.{State};
 ghost use Rattle.zw_text.specs.declared.entry.Entry.{Entry};
-ghost use Rattle.proof_work.specs.world_model.State.{first_machine};
-ghost use Rattle.proof_work.specs.world_lines.Spoken.{Spoken, transcript_of};
-ghost use Rattle.proof_work.specs.world_lines.Done.{AreDone};
-ghost use Rattle.proof_work.specs.world_lines.Whole.{AreWhole};
-ghost use Rattle.proof_attempts.specs.proof_requests.law_host.Heard.{heard_by_host};
-ghost use Rattle.proof_attempts.specs.proof_requests.proof_alone.State.{HostMachine, first_alone};
-ghost use Rattle.proof_attempts.specs.proof_requests.proof_alone.Phases.{Resting};
-ghost use Rattle.proof_attempts.specs.proof_requests.proof_alone.Runs.{Run, Told};
+ghost use Rattle.proof_nonces.specs.proof_work.world_model.State.{first_machine};
+ghost use Rattle.proof_nonces.specs.proof_work.world_lines.Spoken.{Spoken, transcript_of};
+ghost use Rattle.proof_nonces.specs.proof_work.world_lines.Done.{AreDone};
+ghost use Rattle.proof_nonces.specs.proof_work.world_lines.Whole.{AreWhole};
+ghost use Rattle.proof_nonces.specs.proof_attempts.proof_requests.law_host.Heard.{heard_by_host};
+ghost use Rattle.proof_nonces.specs.proof_attempts.proof_requests.proof_alone.State.{HostMachine, first_alone};
+ghost use Rattle.proof_nonces.specs.proof_attempts.proof_requests.proof_alone.Phases.{Resting};
+ghost use Rattle.proof_nonces.specs.proof_attempts.proof_requests.proof_alone.Runs.{Run, Told};
 ghost use Rattle.proof_rests.specs.Undone.{LeavesNothing};
 
-use proof_attempts::hosts_know_their_work;
-use proof_attempts::requests::alone::{lines_are_a_hosts, what_is_heard_is_a_hosts};
-use proof_attempts::requests::{hosts_ask_as_told, hosts_tell_of_ends};
-use proof_work::{ends_of_tasks_are_told, tasks_end_in_order};
+use proof_nonces::attempts::hosts_know_their_work;
+use proof_nonces::attempts::requests::alone::{lines_are_a_hosts, what_is_heard_is_a_hosts};
+use proof_nonces::attempts::requests::{hosts_ask_as_told, hosts_tell_of_ends};
+use proof_nonces::work::{ends_of_tasks_are_told, tasks_end_in_order};
 
 /// In any run of a host alone, over a keeper that tells its records and has none at first: at each line and each tick before which the last request was over,
 /// no abort is owed, and each Set, Get and interview that lines asked for since the host started has ended; of a node for which the keeper has failed since

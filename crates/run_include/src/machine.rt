@@ -5,7 +5,7 @@ ghost use Rattle.run_include.specs.Run.{entry_line, pieces_of, AnswersLine, Stop
 
 use include_text::{IncludeEntry, IncludeLine, print_include, read_include};
 use include_world::IncludeWorld;
-use run_lines::Machine;
+use run_lines::{Answer, Machine};
 use std::alloc::Global;
 use std::marker::Model;
 use zw_base::{Bytes, Draw, List, NoMemory};
@@ -52,7 +52,7 @@ impl<D: Draw> Machine<D, ()> for IncludeMachine {
         first: &mut D,
         _second: &mut (),
         text: &[u8],
-        out: &mut List<Bytes>,
+        out: &mut Answer,
     ) -> Result<(), ReadLineFault> {
         match read_include(self.alloc, text) {
             Ok(Some(line)) => {
@@ -64,7 +64,7 @@ impl<D: Draw> Machine<D, ()> for IncludeMachine {
         }
     }
 
-    fn end(&self, _first: &D, _second: &(), out: &mut List<Bytes>) -> Result<(), NoMemory> {
+    fn end(&self, _first: &D, _second: &(), out: &mut Answer) -> Result<(), NoMemory> {
         let mut entries = List::new(self.alloc);
         self.world.table(&mut entries)?;
         add_entries(self.alloc, entries.as_slice(), out)
@@ -78,7 +78,7 @@ impl IncludeMachine {
         text: &[u8],
         line: &IncludeLine,
         draw: &mut D,
-        out: &mut List<Bytes>,
+        out: &mut Answer,
     ) -> Result<(), NoMemory>
         requires { out.old.items ≡ [] }
         ensures ok { OnOk result (AnswersLine text.now line.now self.old self.new out.new.items) }
@@ -93,16 +93,12 @@ impl IncludeMachine {
 }
 
 /// Adds the line of each entry.
-fn add_entries(
-    alloc: Global,
-    entries: &[IncludeEntry],
-    out: &mut List<Bytes>,
-) -> Result<(), NoMemory>
+fn add_entries(alloc: Global, entries: &[IncludeEntry], out: &mut Answer) -> Result<(), NoMemory>
     ensures ok { OnOk result (out.new.items ≡ out.old.items ++ pieces_of entries.now) }
     ensures prefix { OnErr result ((rest : Items (Items ℕ)) × (out.old.items ++ pieces_of entries.now ≡ out.new.items ++ rest)) }
 {
     for entry in entries {
-        out.push(entry_line(alloc, entry)?)?;
+        out.push(entry_line(alloc, entry)?.as_slice())?;
     }
     Ok(())
 }

@@ -1,9 +1,7 @@
 -- Bytes that are written one piece after another.
-use Rattle.std.proofs.Common.{◌≡◌, ℕ, ◌+◌, ◌-◌, ◌<◌, ◌≤◌, suc, true, List, [], ◌++◌, length, take, drop, get_or, Option, Some, None, Result, Ok, Err, is_err, OnErr, refl, ap, subst, sym, ◌∙◌, append_assoc, append-nil, take-append-drop, length-drop, arith}
-use Rattle.std.specs.List.{flat_map}
+use Rattle.std.proofs.Common.{ℕ, ◌+◌, ◌-◌, ◌≤◌, List, [], ◌++◌, length, take, drop, Option, Some, None, Result, Ok, Err, OnErr, refl, ap, subst, sym, ◌∙◌, append_assoc, append-nil, take-append-drop, length-drop, arith}
 use Rattle.std.proofs.lemmas.List.{take_rest}
-use Rattle.std.proofs.lemmas.Grind.{flat_map-append}
-use Rattle.std.proofs.Math.Seq.{take-add, drop-cons}
+use Rattle.std.proofs.Math.Seq.{take-add}
 use Rattle.std.specs.Io.KnownBytes.{Appends, Keeps}
 use Rattle.run_lines.specs.Writing.{AppendsPrefix}
 
@@ -46,25 +44,6 @@ written_prefix a b c done piece p q = (
   (drop done piece, sym (take-append-drop done piece)),
   subst (λ (bytes : List ℕ). Appends a c bytes) (append-nil (take done piece)) (Appends-append a b c (take done piece) [] p (Appends-none b c q)),
 )
-
--- after a line of which a prefix was written
-pub lines_prefix : (a b c : Option (List ℕ)) (lines : List (List ℕ)) (i : ℕ) (line : List ℕ) → i < length lines → line ≡ get_or lines i line
-    → Appends a b (flat_map (λ l. l) (take i lines)) → AppendsPrefix b c line → AppendsPrefix a c (flat_map (λ l. l) lines)
-lines_prefix a b c lines i line within at p q =
-    let before : List ℕ = flat_map (λ (l : List ℕ). l) (take i lines) in
-    let after : List ℕ = flat_map (λ (l : List ℕ). l) (drop (suc i) lines) in
-    let whole : flat_map (λ (l : List ℕ). l) lines ≡ (before ++ line) ++ after =
-    ap (λ (ls : List (List ℕ)). flat_map (λ (l : List ℕ). l) ls) (sym (take-append-drop i lines))
-    ∙ flat_map-append (λ (l : List ℕ). l) (take i lines) (drop i lines)
-    ∙ ap (λ (ls : List (List ℕ)). before ++ flat_map (λ (l : List ℕ). l) ls) (drop-cons lines i line within)
-    ∙ ap (λ (first : List ℕ). before ++ (first ++ after)) (sym at)
-    ∙ sym (append_assoc before line after) in
-    subst (λ (bytes : List ℕ). AppendsPrefix a c bytes) (sym whole)
-    (AppendsPrefix-more a c (before ++ line) after (AppendsPrefix-append a b c before line p q))
-
-pub OnErr-is : {T E : Type 0} (r : Result T E) (P : Type 0) → is_err r ≡ true → OnErr r P → P
-OnErr-is (Ok x) P e p = absurd (grind arith)
-OnErr-is (Err e) P is p = p
 
 -- what is left of a piece bounds what a write takes
 pub written_within : (done n : ℕ) (piece : List ℕ) → done ≤ length piece → n ≤ length (take (length piece - done) (drop done piece)) → done + n ≤ length piece

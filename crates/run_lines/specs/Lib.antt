@@ -9,3 +9,4 @@ pub mod Text
 pub mod Complete
 pub mod Pieces
 pub mod Lines
+pub mod Answer

@@ -1,12 +1,13 @@
 //! The lines of entries.
 
-ghost use Rattle.std.specs.Prelude.{◌≡◌, ◌++◌, List as Items, ℕ, OnOk, OnErr};
+ghost use Rattle.std.specs.Prelude.{◌≡◌, ◌∷◌, ◌++◌, [], List as Items, ℕ, OnOk, OnErr};
 ghost use Rattle.zw_text.specs.Entry.{is_loud};
-ghost use Rattle.run_lines.specs.Pieces.{piece_of, pieces_of};
+ghost use Rattle.run_lines.specs.Pieces.{entry_line, piece_of, pieces_of};
 
+use crate::Answer;
 use std::alloc::Global;
-use zw_base::{Bytes, List, NoMemory};
-use zw_print::print_line;
+use zw_base::NoMemory;
+use zw_print::{print_line, write_line};
 use zw_text::Entry;
 
 /// The room for the text of an entry, which is enough for nearly all.
@@ -17,7 +18,7 @@ pub fn add_entries(
     alloc: Global,
     quiet: bool,
     entries: &[Entry],
-    out: &mut List<Bytes>,
+    out: &mut Answer,
 ) -> Result<(), NoMemory>
     ensures ok { OnOk result (out.new.items ≡ out.old.items ++ pieces_of quiet entries.now) }
     ensures prefix { OnErr result ((rest : Items (Items ℕ)) × (out.old.items ++ pieces_of quiet entries.now ≡ out.new.items ++ rest)) }
@@ -35,7 +36,7 @@ fn add_entry(
     quiet: bool,
     entry: &Entry,
     scratch: &mut String,
-    out: &mut List<Bytes>,
+    out: &mut Answer,
 ) -> Result<(), NoMemory>
     ensures ok { OnOk result (out.new.items ≡ out.old.items ++ piece_of quiet entry.now) }
     ensures err { OnErr result (out.new.items ≡ out.old.items) }
@@ -43,7 +44,28 @@ fn add_entry(
     if quiet && is_loud(entry) {
         return Ok(());
     }
-    out.push(print_line(alloc, entry, scratch)?)
+    add_line(alloc, entry, scratch, out)
+}
+
+/// Adds the line of an entry. It is made in `scratch`.
+fn add_line(
+    alloc: Global,
+    entry: &Entry,
+    scratch: &mut String,
+    out: &mut Answer,
+) -> Result<(), NoMemory>
+    ensures ok { OnOk result (out.new.items ≡ out.old.items ++ entry_line entry.now ∷ []) }
+    ensures err { OnErr result (out.new.items ≡ out.old.items) }
+{
+    match entry {
+        Entry::Said { .. } | Entry::Json { .. } => {
+            out.push(print_line(alloc, entry, scratch)?.as_slice())
+        }
+        entry => {
+            write_line(alloc, entry, scratch)?;
+            out.push(scratch.as_bytes())
+        }
+    }
 }
 
 /// Whether a quiet transcript leaves an entry out.

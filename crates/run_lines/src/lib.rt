@@ -7,9 +7,10 @@
 //! line is its words, which are read as the same line.
 //! The definitions are in `specs/`: `SourceLines` (the lines of a source), `Machine` (what a machine is), `Input` (the
 //! lines of an input), `Writing` (what was written), `Run` (how a run ends), `Complete` (which inputs are run to their
-//! end), `Pieces` (entries and words) and `Lines` (lines that are read, run and told by entries).
+//! end), `Answer` and `Pieces` (pieces, entries and words) and `Lines` (lines that are read, run and told by entries).
 #![tactic(auto)]
 
+mod answer;
 mod entries;
 mod machine;
 mod reader;
@@ -19,6 +20,7 @@ mod scenario;
 mod status;
 mod writing;
 
+pub use answer::Answer;
 pub use entries::add_entries;
 pub use machine::Machine;
 pub use reader::{LineReader, MAX_INPUT, MAX_LINE, Next, PIECE};

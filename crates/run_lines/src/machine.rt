@@ -4,7 +4,8 @@ ghost use Rattle.std.specs.Prelude.{◌≡◌, ℕ, List as Items, [], ◌≤◌
 ghost use Rattle.run_lines.specs.Machine.{Borrowed, borrowed, RefusesBy};
 ghost use Rattle.zw_words.specs.declared.fault.LineFault.{LineFault as Fault};
 
-use zw_base::{Bytes, List, NoMemory};
+use crate::Answer;
+use zw_base::NoMemory;
 use zw_words::ReadLineFault;
 
 /// A machine that runs the lines of a scenario, with two things that it is borrowed for each line (as a source of drawn bytes
@@ -28,7 +29,7 @@ pub trait Machine<A, B> {
         first: &mut A,
         second: &mut B,
         text: &[u8],
-        out: &mut List<Bytes>,
+        out: &mut Answer,
     ) -> Result<(), ReadLineFault>
         requires short { length text.now ≤ 1024 }
         requires empty { out.old.items ≡ [] }
@@ -39,7 +40,7 @@ pub trait Machine<A, B> {
             (borrowed self.new first.new second.new) out.new.items) };
 
     /// Adds the last pieces.
-    fn end(&self, first: &A, second: &B, out: &mut List<Bytes>) -> Result<(), NoMemory>
+    fn end(&self, first: &A, second: &B, out: &mut Answer) -> Result<(), NoMemory>
         requires empty { out.old.items ≡ [] }
         ensures ok { OnOk result (ends (borrowed self.now first.now second.now) out.new.items) };
 }

@@ -9,9 +9,9 @@ ghost use Rattle.run_lines.specs.Text.{TextRan, TextFails, end_of, end_at};
 ghost use Rattle.run_lines.specs.Writing.{text_of};
 
 use crate::writing::write_pieces;
-use crate::{LineReader, Machine, Next};
+use crate::{Answer, LineReader, Machine, Next};
 use std::alloc::Global;
-use zw_base::{Bytes, List, Sink, Source};
+use zw_base::{Sink, Source};
 use zw_words::{LineFault, ReadLineFault};
 
 /// Why no further line is run.
@@ -59,7 +59,7 @@ pub(crate) fn run_lines<A, B, M: Machine<A, B>, S: Source, K: Sink>(
     ensures write_fault { result ≡ LinesEnd.WriteFailed → Rose (K.faults sink.old) (K.faults sink.new) }
 {
     let mut reader = LineReader::new();
-    let mut pieces = List::new(alloc);
+    let mut pieces = Answer::new(alloc);
     for number in 1..u32::MAX {
         match reader.next(source) {
             Next::Line => pieces.clear(),
@@ -109,7 +109,7 @@ fn run_text<A, B, M: Machine<A, B>, K: Sink>(
     first: &mut A,
     second: &mut B,
     text: &[u8],
-    pieces: &mut List<Bytes>,
+    pieces: &mut Answer,
 ) -> Result<(), TextFault>
     requires short { length text.now ≤ 1024 }
     requires empty { pieces.old.items ≡ [] }
@@ -124,13 +124,13 @@ fn run_text<A, B, M: Machine<A, B>, K: Sink>(
         ⊎ Appends (K.written sink.old) (K.written sink.new) (text_of pieces.new.items) }
 {
     match machine.run_line(first, second, text, pieces) {
-        Ok(()) => match write_pieces(sink, pieces.as_slice()) {
+        Ok(()) => match write_pieces(sink, pieces) {
             Ok(()) => Ok(()),
             Err(_) => Err(TextFault::Write),
         },
         Err(ReadLineFault::Bad(fault)) => Err(TextFault::Bad(fault)),
         Err(ReadLineFault::NoMemory) => {
-            let _ = write_pieces(sink, pieces.as_slice());
+            let _ = write_pieces(sink, pieces);
             Err(TextFault::NoMemory)
         }
     }

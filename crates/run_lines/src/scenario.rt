@@ -8,9 +8,9 @@ ghost use Rattle.run_lines.specs.Run.{HasRun, ClosesWell, ClosesBadly, bad_line_
 
 use crate::running::{LinesEnd, run_lines};
 use crate::writing::{write_piece, write_pieces};
-use crate::{Machine, Status};
+use crate::{Answer, Machine, Status};
 use std::alloc::Global;
-use zw_base::{Bytes, List, NoMemory, Sink, Source};
+use zw_base::{Bytes, NoMemory, Sink, Source};
 use zw_print::print_entry;
 use zw_text::Entry;
 use zw_words::LineFault;
@@ -75,11 +75,11 @@ fn end_well<A, B, M: Machine<A, B>, K: Sink>(
     ensures failed { result ≡ Status.WriteFault → Rose (K.faults sink.old) (K.faults sink.new) }
     ensures no_read { result ≡ Status.ReadFault → ⊥ }
 {
-    let mut pieces = List::new(alloc);
+    let mut pieces = Answer::new(alloc);
     if machine.end(first, second, &mut pieces).is_err() {
         return Status::NoMemory;
     }
-    match write_pieces(sink, pieces.as_slice()) {
+    match write_pieces(sink, &pieces) {
         Ok(()) => Status::Ok,
         Err(_) => Status::WriteFault,
     }

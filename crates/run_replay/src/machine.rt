@@ -6,10 +6,10 @@ ghost use Rattle.run_replay.specs.Replay.{point_of, AnswersLine, StopsLine};
 
 use crate::replay::Replay;
 use host_keep::Keeper;
-use run_lines::{Machine, add_entries, said_entry};
+use run_lines::{Answer, Machine, add_entries, said_entry};
 use std::alloc::Global;
 use std::marker::Model;
-use zw_base::{Bytes, Draw, List, NoMemory};
+use zw_base::{Draw, List, NoMemory};
 use zw_text::{ReplayLine, read_replay};
 use zw_words::ReadLineFault;
 
@@ -60,7 +60,7 @@ impl<D: Draw, P: Keeper> Machine<D, P> for ReplayMachine {
         first: &mut D,
         second: &mut P,
         text: &[u8],
-        out: &mut List<Bytes>,
+        out: &mut Answer,
     ) -> Result<(), ReadLineFault> {
         match read_replay(self.alloc, text) {
             Ok(Some(line)) => {
@@ -72,7 +72,7 @@ impl<D: Draw, P: Keeper> Machine<D, P> for ReplayMachine {
         }
     }
 
-    fn end(&self, _first: &D, _second: &P, out: &mut List<Bytes>) -> Result<(), NoMemory> {
+    fn end(&self, _first: &D, _second: &P, out: &mut Answer) -> Result<(), NoMemory> {
         let mut entries = List::new(self.alloc);
         self.replay.table(&mut entries)?;
         add_entries(self.alloc, false, entries.as_slice(), out)
@@ -87,7 +87,7 @@ impl ReplayMachine {
         line: &ReplayLine,
         draw: &mut D,
         keeper: &mut P,
-        out: &mut List<Bytes>,
+        out: &mut Answer,
     ) -> Result<(), NoMemory>
         requires replayed { IsReplayed line.now }
         requires empty { out.old.items ≡ [] }

@@ -133,12 +133,12 @@ OnOk-is (Ok x) P e p = p
 OnOk-is (Err e) P is p = absurd (grind (arith, is))
 
 -- the table is written, whole or in part
-module _ (point : Point) (pieces shown : List (List ℕ)) (sink sink' : Option (List ℕ)) (table : IsTable point pieces) (same : shown ≡ pieces) where
-  pub closed_well : Appends sink sink' (text_of shown) → ClosesWell IsTable all_well point sink sink'
-  closed_well a = (pieces, table, subst (λ (ps : List (List ℕ)). Appends sink sink' (text_of ps)) same a)
+module _ (point : Point) (pieces : List (List ℕ)) (sink sink' : Option (List ℕ)) (table : IsTable point pieces) where
+  pub closed_well : Appends sink sink' (text_of pieces) → ClosesWell IsTable all_well point sink sink'
+  closed_well a = (pieces, table, a)
 
-  pub closed_in_part : AppendsPrefix sink sink' (text_of shown) → ClosesWell IsTable no_write point sink sink'
-  closed_in_part a = (pieces, table, subst (λ (ps : List (List ℕ)). AppendsPrefix sink sink' (text_of ps)) same a)
+  pub closed_in_part : AppendsPrefix sink sink' (text_of pieces) → ClosesWell IsTable no_write point sink sink'
+  closed_in_part a = (pieces, table, a)
 
 -- ---- the run
 

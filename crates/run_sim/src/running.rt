@@ -16,8 +16,8 @@ ghost use Rattle.run_sim.specs.Sim.{point_of, SimRuns, SimStops};
 use crate::simulation::Simulation;
 use device_sim::Device;
 use host_keep::Keeper;
-use run_lines::{LineReader, LinesEnd, Next, TextFault, end_at, end_of, write_pieces};
-use zw_base::{Bytes, Draw, List, Sink, Source};
+use run_lines::{Answer, LineReader, LinesEnd, Next, TextFault, end_at, end_of, write_pieces};
+use zw_base::{Draw, Sink, Source};
 use zw_words::ReadLineFault;
 
 /// Runs the lines of a source one after another, each as soon as it was read, and writes each answer before it goes on.
@@ -43,7 +43,7 @@ pub(crate) fn run_lines<S: Source, K: Sink, D: Draw, P: Keeper>(
     ensures write_fault { result ≡ LinesEnd.WriteFailed → Rose (K.faults sink.old) (K.faults sink.new) }
 {
     let mut reader = LineReader::new();
-    let mut pieces = List::new(simulation.alloc);
+    let mut pieces = Answer::new(simulation.alloc);
     for number in 1..u32::MAX {
         match reader.next(source) {
             Next::Line => pieces.clear(),
@@ -73,7 +73,7 @@ fn run_text<K: Sink, D: Draw, P: Keeper>(
     draw: &mut D,
     keeper: &mut P,
     text: &[u8],
-    pieces: &mut List<Bytes>,
+    pieces: &mut Answer,
 ) -> Result<(), TextFault>
     requires few { length devices.old.items < 2 ^ 64 }
     requires empty { pieces.old.items ≡ [] }
@@ -98,13 +98,13 @@ fn run_text<K: Sink, D: Draw, P: Keeper>(
         ⊎ Appends (K.written sink.old) (K.written sink.new) (text_of pieces.new.items) }
 {
     match simulation.run_line(devices, draw, keeper, text, pieces) {
-        Ok(()) => match write_pieces(sink, pieces.as_slice()) {
+        Ok(()) => match write_pieces(sink, pieces) {
             Ok(()) => Ok(()),
             Err(_) => Err(TextFault::Write),
         },
         Err(ReadLineFault::Bad(fault)) => Err(TextFault::Bad(fault)),
         Err(ReadLineFault::NoMemory) => {
-            let _ = write_pieces(sink, pieces.as_slice());
+            let _ = write_pieces(sink, pieces);
             Err(TextFault::NoMemory)
         }
     }

@@ -13,7 +13,7 @@ use crate::running::run_lines;
 use crate::simulation::Simulation;
 use device_sim::Device;
 use host_keep::Keeper;
-use run_lines::{LinesEnd, Status, end_badly, write_pieces};
+use run_lines::{Answer, LinesEnd, Status, end_badly, write_pieces};
 use std::alloc::Global;
 use zw_base::{Draw, List, Sink, Source};
 use zw_world::World;
@@ -100,11 +100,11 @@ fn end_well<K: Sink>(
     ensures failed { result ≡ Status.WriteFault → Rose (K.faults sink.old) (K.faults sink.new) }
     ensures no_read { result ≡ Status.ReadFault → ⊥ }
 {
-    let mut pieces = List::new(simulation.alloc);
+    let mut pieces = Answer::new(simulation.alloc);
     if simulation.add_table(devices, &mut pieces).is_err() {
         return Status::NoMemory;
     }
-    match write_pieces(sink, pieces.as_slice()) {
+    match write_pieces(sink, &pieces) {
         Ok(()) => Status::Ok,
         Err(_) => Status::WriteFault,
     }

@@ -9,9 +9,9 @@ ghost use Rattle.host_keep.specs.Keeping.{Shelf};
 
 use device_sim::Device;
 use host_keep::Keeper;
-use run_lines::{add_entries, said_entry};
+use run_lines::{Answer, add_entries, said_entry};
 use std::alloc::Global;
-use zw_base::{Bytes, Draw, List, NoMemory};
+use zw_base::{Draw, List, NoMemory};
 use zw_range::entries_in_range;
 use zw_text::{Entry, Line, read_line};
 use zw_words::ReadLineFault;
@@ -35,7 +35,7 @@ impl Simulation {
         draw: &mut D,
         keeper: &mut P,
         text: &[u8],
-        out: &mut List<Bytes>,
+        out: &mut Answer,
     ) -> Result<(), ReadLineFault>
         requires few { length devices.old.items < 2 ^ 64 }
         requires empty { out.old.items ≡ [] }
@@ -71,7 +71,7 @@ impl Simulation {
         devices: &mut Vec<Box<dyn Device>>,
         draw: &mut D,
         keeper: &mut P,
-        out: &mut List<Bytes>,
+        out: &mut Answer,
     ) -> Result<(), NoMemory>
         requires few { length devices.old.items < 2 ^ 64 }
         requires empty { out.old.items ≡ [] }
@@ -104,7 +104,7 @@ impl Simulation {
     pub(crate) fn add_table(
         &self,
         devices: &Vec<Box<dyn Device>>,
-        out: &mut List<Bytes>,
+        out: &mut Answer,
     ) -> Result<(), NoMemory>
         requires few { length devices.now.items < 2 ^ 64 }
         requires empty { out.old.items ≡ [] }

@@ -6,7 +6,7 @@ ghost use Rattle.event_flow.specs.Steps.{after};
 ghost use Rattle.run_tools.specs.Events.{entry_line, line_pieces, said_line, said_text};
 
 use event_flow::{EventEntry, EventLine, EventWorld, print_event, read_event};
-use run_lines::Machine;
+use run_lines::{Answer, Machine};
 use std::alloc::Global;
 use std::marker::Model;
 use zw_base::{Bytes, List, NoMemory, NodeId};
@@ -51,7 +51,7 @@ impl Machine<(), ()> for EventMachine {
         _first: &mut (),
         _second: &mut (),
         text: &[u8],
-        out: &mut List<Bytes>,
+        out: &mut Answer,
     ) -> Result<(), ReadLineFault> {
         match read_event(self.alloc, text) {
             Ok(Some(line)) => {
@@ -63,7 +63,7 @@ impl Machine<(), ()> for EventMachine {
         }
     }
 
-    fn end(&self, _first: &(), _second: &(), out: &mut List<Bytes>) -> Result<(), NoMemory> {
+    fn end(&self, _first: &(), _second: &(), out: &mut Answer) -> Result<(), NoMemory> {
         let mut entries = List::new(self.alloc);
         self.world.table(&mut entries)?;
         add_entries(self.alloc, entries.as_slice(), out)
@@ -75,26 +75,29 @@ fn run_event(
     alloc: Global,
     world: &mut EventWorld,
     line: &EventLine,
-    out: &mut List<Bytes>,
+    out: &mut Answer,
 ) -> Result<(), NoMemory>
     requires { out.old.items ≡ [] }
     ensures ok { OnOk result (world.new ≡ after world.old line.now) }
     ensures pieces { OnOk result (out.new.items ≡ line_pieces world.old line.now) }
     ensures prefix { OnErr result ((rest : Items (Items ℕ)) × (line_pieces world.old line.now ≡ out.new.items ++ rest)) }
 {
-    out.push(said_line(alloc, line)?)?;
+    let said = said_line(alloc, line)?;
+    let text = said.as_slice();
+    out.push(text)?;
     let mut entries = List::new(alloc);
     world.step(line, &mut entries)?;
-    add_entries(alloc, entries.as_slice(), out)
+    let told = entries.as_slice();
+    add_entries(alloc, told, out)
 }
 
 /// Adds the line of each entry.
-fn add_entries(alloc: Global, entries: &[EventEntry], out: &mut List<Bytes>) -> Result<(), NoMemory>
+fn add_entries(alloc: Global, entries: &[EventEntry], out: &mut Answer) -> Result<(), NoMemory>
     ensures ok { OnOk result (out.new.items ≡ out.old.items ++ map entry_line entries.now) }
     ensures prefix { OnErr result ((rest : Items (Items ℕ)) × (out.old.items ++ map entry_line entries.now ≡ out.new.items ++ rest)) }
 {
     for entry in entries {
-        out.push(entry_line(alloc, entry)?)?;
+        out.push(entry_line(alloc, entry)?.as_slice())?;
     }
     Ok(())
 }

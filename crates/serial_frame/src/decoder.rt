@@ -7,7 +7,7 @@ ghost use Rattle.serial_frame.specs.Search.{running_sum};
 use crate::Item;
 use crate::search::{Found, find};
 use crate::split::split;
-use crate::unit::SUM_START;
+use crate::unit::{SUM_START, put_at};
 use std::alloc::Global;
 use std::marker::Model;
 use zw_base::{List, NoMemory};
@@ -166,12 +166,4 @@ impl Decoder {
         self.ticks = 0;
         true
     }
-}
-
-/// Writes these bytes at a place.
-fn put_at(held: &mut [u8; MAX_HELD], at: usize, bytes: &[u8])
-    requires { at + length bytes.now ≤ 256 }
-    ensures { take (at + length bytes.now) held.new ≡ take at held.old ++ bytes.now }
-{
-    held[at..at + bytes.len()].copy_from_slice(bytes);
 }

@@ -1,6 +1,6 @@
 //! Units (Serial API: ACK, NAK, CAN and data frames), and how they are written.
 
-ghost use Rattle.std.specs.Prelude.{◌≡◌, ◌≤◌, [], ◌∷◌, IfOk, length};
+ghost use Rattle.std.specs.Prelude.{◌≡◌, ◌+◌, ◌≤◌, [], ◌∷◌, ◌++◌, IfOk, length, take};
 ghost use Rattle.serial_frame.specs.Frame.{kind_code, xor_all, checksum, framed};
 ghost use Rattle.serial_frame.specs.Items.{counted_of, unit_text};
 ghost use Rattle.serial_frame.specs.Stream.{Reads};
@@ -20,6 +20,9 @@ pub const CAN: u8 = 0x18;
 
 /// What a checksum begins with.
 pub(crate) const SUM_START: u8 = 0xff;
+
+/// The longest data frame: SOF, the length, type, function, a body of 252 bytes and the checksum.
+const MAX_FRAME: usize = 257;
 
 /// What one side writes at a time.
 #[derive(Debug, Drop)]
@@ -68,10 +71,19 @@ fn encode_frame(alloc: Global, frame: &Frame) -> Result<Bytes, NoMemory>
     ensures fits { length frame.now.body ≤ 252 }
 {
     let body = frame.body.as_slice();
-    let head = [body.len() as u8 + 3, kind_code(frame.kind), frame.func];
-    let mut bytes = Bytes::from_slice(alloc, &[SOF])?;
-    bytes.extend(&head)?;
-    bytes.extend(body)?;
-    bytes.push(xor_all(xor_all(SUM_START, &head), body))?;
-    Ok(bytes)
+    let head = [SOF, body.len() as u8 + 3, kind_code(frame.kind), frame.func];
+    let sum = xor_all(xor_all(SUM_START, &head[1..]), body);
+    let mut text = [0; MAX_FRAME];
+    put_at(&mut text, 0, &head);
+    put_at(&mut text, 4, body);
+    put_at(&mut text, 4 + body.len(), &[sum]);
+    Bytes::from_slice(alloc, &text[..body.len() + 5])
+}
+
+/// Writes these bytes at a place.
+pub(crate) fn put_at(text: &mut [u8], at: usize, bytes: &[u8])
+    requires { at + length bytes.now ≤ length text.old }
+    ensures { take (at + length bytes.now) text.new ≡ take at text.old ++ bytes.now }
+{
+    text[at..at + bytes.len()].copy_from_slice(bytes);
 }

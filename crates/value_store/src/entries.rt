@@ -48,12 +48,24 @@ fn is_at(entries: &[(Key, Stored)], key: &Key, at: usize) -> bool
     }
 }
 
+// The same. The entry at a place is looked at first.
+fn place_near(entries: &[(Key, Stored)], key: &Key, near: usize) -> Result<usize, usize>
+    requires { IsInOrder entries.now }
+    ensures found { IfOk result (IsPlaceOf entries.now key.now) }
+    ensures absent { IfErr result (IsGapFor entries.now key.now) }
+{
+    if is_at(entries, key, near) {
+        return Ok(near);
+    }
+    place_of(entries, key)
+}
+
 // Whether the key is kept. The entry at a place is looked at first.
 fn is_kept(entries: &[(Key, Stored)], key: &Key, near: usize) -> bool
     requires { IsInOrder entries.now }
     ensures { result ≡ is_some (find key_cmp key.now entries.now) }
 {
-    is_at(entries, key, near) || stored_at(entries, key).is_some()
+    is_at(entries, key, near) || stored_at(entries, key, near).is_some()
 }
 
 // Where the first of these properties of the node is, or would go. The others mostly follow it, one after another.
@@ -69,25 +81,34 @@ fn begin_of(entries: &[(Key, Stored)], node: NodeId, properties: &[Property]) ->
     }
 }
 
-/// What is kept at the key, where something is.
-pub(crate) fn stored_at(entries: &[(Key, Stored)], key: &Key) -> Option<Stored>
+/// What is kept at the key, where something is. The entry at a place is looked at first.
+pub(crate) fn stored_at(entries: &[(Key, Stored)], key: &Key, near: usize) -> Option<Stored>
     requires { IsInOrder entries.now }
     ensures { result ≡ find key_cmp key.now entries.now }
 {
-    match place_of(entries, key) {
+    match place_near(entries, key, near) {
         Ok(at) => Some(entries[at].1),
         Err(_) => None,
     }
 }
 
-/// Writes over what is kept at the key.
-pub(crate) fn write(entries: &mut Vec<(Key, Stored)>, key: &Key, stored: Stored)
+/// Writes over what is kept at the key. The entry at a place is looked at first; the answer is the place after that of the key.
+pub(crate) fn write(
+    entries: &mut Vec<(Key, Stored)>,
+    key: &Key,
+    stored: Stored,
+    near: usize,
+) -> usize
     requires order { IsInOrder entries.old.items }
     requires kept { IsTrue (is_some (find key_cmp key.now entries.old.items)) }
     ensures { entries.new.items ≡ put key_cmp key.now stored entries.old.items }
 {
-    if let Ok(at) = place_of(entries, key) {
-        entries[at].1 = stored;
+    match place_near(entries, key, near) {
+        Ok(at) => {
+            entries[at].1 = stored;
+            at.saturating_add(1)
+        }
+        Err(at) => at,
     }
 }
 

@@ -33,10 +33,12 @@ use zw_base::{Bytes, List, NoMemory, NodeId, Property};
 /// The most properties of one node, with a value or none.
 pub const MAX_PROPERTIES: usize = 512;
 
-/// What is kept of the nodes' properties. Contracts see the map from node and property to the values.
+/// What is kept of the nodes' properties. Contracts see the map from node and property to the values. Beside it stands the
+/// place after the entry that was set last, which is looked at first, since properties mostly come in their order.
 #[derive(Debug, Drop)]
 pub struct Store {
     entries: Vec<(Key, Stored)>,
+    near: usize,
 }
 
 impl Model for Store {
@@ -60,6 +62,7 @@ impl Store {
     {
         Store {
             entries: Vec::new(alloc),
+            near: 0,
         }
     }
 
@@ -178,7 +181,7 @@ impl Store {
         requires { IsReserved self.old key.now.0 key.now.1 }
         ensures { self.new ≡ finmap.insert self.old key.now stored }
     {
-        write(&mut self.entries, key, stored);
+        self.near = write(&mut self.entries, key, stored, self.near);
     }
 
     // How many properties the node would have with these.
@@ -192,6 +195,6 @@ impl Store {
     fn stored(&self, key: &Key) -> Stored
         ensures { result ≡ stored_of self.now key.now.0 key.now.1 }
     {
-        stored_at(&self.entries, key).unwrap_or(Stored::none())
+        stored_at(&self.entries, key, self.near).unwrap_or(Stored::none())
     }
 }

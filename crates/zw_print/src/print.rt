@@ -63,10 +63,32 @@ fn print_worded(
     requires { is_worded entry.now ≡ true }
     ensures { IfOk result (λ text. text ≡ entry_text entry.now ++ end.now) }
 {
+    write_ended(alloc, entry, end, scratch)?;
+    Bytes::from_slice(alloc, scratch.as_bytes())
+}
+
+/// Puts the text of an entry that has no bytes as they came into `scratch`, with a line feed.
+pub fn write_line(alloc: Global, entry: &Entry, scratch: &mut String) -> Result<(), NoMemory>
+    requires { is_worded entry.now ≡ true }
+    ensures { OnOk result (string_bytes scratch.new ≡ entry_text entry.now ++ 10 ∷ []) }
+{
+    write_ended(alloc, entry, "\n", scratch)
+}
+
+/// The same with an end.
+fn write_ended(
+    alloc: Global,
+    entry: &Entry,
+    end: &str,
+    scratch: &mut String,
+) -> Result<(), NoMemory>
+    requires { is_worded entry.now ≡ true }
+    ensures { OnOk result (string_bytes scratch.new ≡ entry_text entry.now ++ end.now) }
+{
     scratch.clear();
     write_entry(alloc, entry, scratch)?;
     scratch.push_str(end)?;
-    Bytes::from_slice(alloc, scratch.as_bytes())
+    Ok(())
 }
 
 /// Adds the text of an entry that has no bytes as they came.

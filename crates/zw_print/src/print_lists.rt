@@ -6,6 +6,7 @@ ghost use Rattle.hex.specs.Hex.{encode_upper};
 ghost use Rattle.zw_text.specs.Entry.{ends_word, number_words};
 ghost use Rattle.zw_print.specs.Lists.{list_text};
 
+use crate::print_parts::{push_count, push_number};
 use std::alloc::{AllocError, Global};
 use zw_base::NodeId;
 
@@ -40,13 +41,31 @@ fn write_air(
         (decimal frame ++ (codes " " ++
         (decimal sender ++ (codes ">" ++ (decimal receiver ++ (codes " via " ++ (list_text repeaters.now ++ (codes " " ++ encode_upper payload.now)))))))))) }
 {
-    let sender = sender.number();
-    let receiver = receiver.number();
     let payload = hex::encode_upper(alloc, payload)?;
-    write!(text, "air {frame} {sender}>{receiver} via ")?;
+    text.push_str("air ")?;
+    push_number(text, frame)?;
+    text.push_str(" ")?;
+    write_ends(text, sender, receiver)?;
+    write_way(text, repeaters, payload.as_str())
+}
+
+/// From which node to which.
+fn write_ends(text: &mut String, sender: NodeId, receiver: NodeId) -> Result<(), AllocError>
+    ensures { OnOk result (string_bytes text.new ≡ string_bytes text.old ++ (decimal sender ++ (codes ">" ++ decimal receiver))) }
+{
+    push_number(text, u64::from(sender.number()))?;
+    text.push_str(">")?;
+    push_number(text, u64::from(receiver.number()))
+}
+
+/// Over which nodes, and the payload in hex.
+fn write_way(text: &mut String, repeaters: &[NodeId], payload: &str) -> Result<(), AllocError>
+    ensures { OnOk result (string_bytes text.new ≡ string_bytes text.old ++ (codes " via " ++ (list_text repeaters.now ++ (codes " " ++ payload.now)))) }
+{
+    text.push_str(" via ")?;
     write_nodes(text, repeaters)?;
     text.push_str(" ")?;
-    text.push_str(payload.as_str())
+    text.push_str(payload)
 }
 
 /// `neighbours N LIST`
@@ -97,9 +116,9 @@ fn write_numbers(text: &mut String, numbers: &[u32]) -> Result<(), AllocError>
         return text.push_str("-");
     };
     let first = *first;
-    write!(text, "{first}")?;
+    push_number(text, u64::from(first))?;
     for number in rest {
-        write_after_space(text, *number)?;
+        push_count(text, u64::from(*number))?;
     }
     Ok(())
 }
@@ -111,15 +130,9 @@ fn write_nodes(text: &mut String, nodes: &[NodeId]) -> Result<(), AllocError>
         return text.push_str("-");
     };
     let first = first.number();
-    write!(text, "{first}")?;
+    push_number(text, u64::from(first))?;
     for node in rest {
-        write_after_space(text, u32::from(node.number()))?;
+        push_count(text, u64::from(node.number()))?;
     }
     Ok(())
-}
-
-fn write_after_space(text: &mut String, number: u32) -> Result<(), AllocError>
-    ensures { OnOk result (string_bytes text.new ≡ string_bytes text.old ++ 32 ∷ decimal number) }
-{
-    write!(text, " {number}")
 }

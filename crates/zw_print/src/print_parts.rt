@@ -7,6 +7,7 @@ ghost use Rattle.zw_base.specs.PropertyWord.{property_word};
 ghost use Rattle.zw_words.specs.Texts.{side_word};
 ghost use Rattle.zw_text.specs.Entry.{by_word, done_word, ended_word, failed_word, fault_word, number_word, refusal_words};
 
+use itoa::Buffer;
 use std::alloc::{AllocError, Global};
 use zw_base::{By, Bytes, NoMemory, NodeId, Property, Setting};
 use zw_text::{Done, Ended, LineFault, Refusal, Side};
@@ -37,12 +38,20 @@ pub fn print_count(text: &mut String, word: &str, n: u64) -> Result<(), AllocErr
     push_count(text, n)
 }
 
+/// A number.
+pub fn push_number(text: &mut String, n: u64) -> Result<(), AllocError>
+    ensures { OnOk result (string_bytes text.new ≡ string_bytes text.old ++ decimal n) }
+{
+    let mut digits = Buffer::new();
+    text.push_str(digits.format(n))
+}
+
 /// A space and a number.
-fn push_count(text: &mut String, n: u64) -> Result<(), AllocError>
+pub fn push_count(text: &mut String, n: u64) -> Result<(), AllocError>
     ensures { OnOk result (string_bytes text.new ≡ string_bytes text.old ++ 32 ∷ decimal n) }
 {
     text.push_str(" ")?;
-    write!(text, "{n}")
+    push_number(text, n)
 }
 
 /// A word and two numbers.
@@ -85,8 +94,10 @@ pub fn print_begin(
     ensures { OnOk result (string_bytes text.new ≡ string_bytes text.old ++
         join_with_byte 32 (codes "begin" ∷ decimal node ∷ decimal session ∷ decimal command ∷ [])) }
 {
-    let node = node.number();
-    write!(text, "begin {node} {session} {command}")
+    text.push_str("begin")?;
+    push_count(text, u64::from(node.number()))?;
+    push_count(text, session)?;
+    push_count(text, u64::from(command))
 }
 
 /// A word and a side.
@@ -335,7 +346,7 @@ fn write_by(text: &mut String, by: By) -> Result<(), AllocError>
     ensures { OnOk result (string_bytes text.new ≡ string_bytes text.old ++ by_word by) }
 {
     match by {
-        By::Session(session) => write!(text, "{session}"),
+        By::Session(session) => push_number(text, session),
         By::Local => text.push_str("local"),
         By::Plain => text.push_str("plain"),
     }
@@ -346,6 +357,6 @@ fn write_number(text: &mut String, number: Option<u32>) -> Result<(), AllocError
 {
     match number {
         None => text.push_str("-"),
-        Some(number) => write!(text, "{number}"),
+        Some(number) => push_number(text, u64::from(number)),
     }
 }

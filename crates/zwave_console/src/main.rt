@@ -1,17 +1,16 @@
 //! The program: makes the devices, the key, the input, the output and the keeper of records, and hands them to `run` of `proof_commands`.
 #![tactic(auto)]
 
-mod devices;
 mod opening;
 
 ghost use Rattle.std.specs.Prelude.{◌≡◌, ◌<◌, ◌^◌, length, map};
 ghost use Rattle.proof_commands.specs.Mesh.{mesh};
 
-use crate::devices::{FIRST, KEY, LAST, Made, make_device};
 use crate::opening::{is_host, make_records, records_name, say_faults};
 use device_sim::Device;
 use proof_commands::run;
 use run_all::ChaChaDraw;
+use run_devices::{FIRST, KEY, LAST, Made, make_device};
 use run_lines::Status;
 use run_records::Records;
 use run_words::USAGE;

@@ -1,5 +1,5 @@
 use Rattle.std.proofs.Common.{arith, refl, sym, ap, map, ◌∙◌}
-use Rattle.zwave_console.specs.declared.devices.TheConstants.{KEY}
+use Rattle.run_devices.specs.declared.devices.TheConstants.{KEY}
 use Rattle.zwave_console.specs.contracts.run_over_standard.{dyn-1-ghosts}
 use Rattle.zwave_console.proofs.run_with_devices.OwnLists.{own-1, lawful-own-1, at-1-1, at-1-2, at-1-3, at-1-4, at-1-5, at-1-6, at-1-7, at-1-8, at-1-9}
 use denote.Param.Object.{read_made}

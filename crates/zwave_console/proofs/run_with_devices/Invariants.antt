@@ -1,6 +1,6 @@
 use Rattle.std.proofs.Common.{◌≡◌, ◌-◌, map}
 use Rattle.proof_commands.specs.Mesh.{devices_from}
-use Rattle.zwave_console.specs.declared.devices.TheConstants.{KEY}
+use Rattle.run_devices.specs.declared.devices.TheConstants.{KEY}
 use Rattle.zwave_console.specs.contracts.run_over_standard.{dyn-1-ghosts}
 use Rattle.zwave_console.proofs.run_with_devices.OwnLists.{own-1, lawful-own-1}
 use Rattle.zwave_console.proofs.run_with_devices.Given as goal

@@ -11,4 +11,4 @@ unfolding row_text
 returns c =
     let plain = ap has_float c.in_ok-row_value.ensures ∙ no_float c.args.numbers.now in
     let text = c.in_ok-text.ensures.text plain in
-    IfOk-weaker c.from_slice.result _ _ (λ v h. h ∙ c.as_bytes.ensures.value ∙ text ∙ ap compact_text c.in_ok-row_value.ensures) c.from_slice.ensures
+    IfOk-weaker c.from_slice.result _ _ (λ v h. h ∙ c.as_slice.ensures.value ∙ text ∙ ap compact_text c.in_ok-row_value.ensures) c.from_slice.ensures

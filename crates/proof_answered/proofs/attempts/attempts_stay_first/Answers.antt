@@ -1,29 +1,32 @@
 -- One walk over quiet lines, beside each that calls say that payloads were heard.
-use Rattle.std.proofs.Common.{[]}
-use Rattle.world_model.specs.State.{Machine}
-use Rattle.world_model.specs.Events.{Event}
+use Rattle.std.proofs.Common.{Bool, List, []}
 use Rattle.proof_calm.proofs.Where.{where_whole}
 use Rattle.proof_calm.specs.proof_work.Phases.{AsksNothing}
-use Rattle.proof_calm.specs.proof_work.proof_walk.Walk.{WalkWhere}
 use Rattle.proof_calm.proofs.proof_traffic_Parts.{Airs}
-use Rattle.proof_answered.specs.FirstAttempts.{AndInTime, IsInTime, KnowFirst}
+use Rattle.proof_answered.specs.Few.{IsStretched}
+use Rattle.proof_answered.specs.Workers.{IsWorkedFor, KnowStaff}
+use Rattle.proof_answered.specs.FirstAttempts.{IsInTime, KnowFirst}
 use Rattle.proof_answered.specs.Heard.{IsHeardThen, KnowHeard}
 use Rattle.proof_answered.specs.Outward.{IsSentTo, KnowListening, KnowNetwork}
 use Rattle.proof_answered.proofs.AttemptEnds.{call_signs}
-use Rattle.proof_answered.proofs.FirstWalk.{first_walk}
+use Rattle.proof_answered.proofs.Beginning.{first_attempts}
+use Rattle.proof_answered.proofs.FirstWalk.{IsOfStretch, any_stretch, first_walk, first_walk_freely}
 use Rattle.proof_answered.proofs.HeardCalls.{rests_heard}
+use Rattle.proof_answered.proofs.Staffed.{worked_before}
 use Rattle.proof_answered.proofs.Walking.{begins_known}
 use Rattle.proof_answered.proofs.attempts.attempts_stay_first.Goals as goal
 
--- nothing is assumed of events
-abbrev HasNothing : Machine → Event → Type 0
-HasNothing m event = Unit {0}
+worked : (these : List Bool) → IsOfStretch (IsWorkedFor these)
+worked these = record { before = worked_before these; stretched = λ past is. is.stretched }
 
 pub returns-clause-well : goal.returns-clause-well
 returns-clause-well c = call_signs
 
+pub returns-clause-first : goal.returns-clause-first
+returns-clause-first c = first_attempts
+
 pub returns-clause-walk : goal.returns-clause-walk
-returns-clause-walk c = first_walk airs IsHeardThen KnowHeard c.payloads_are_heard.ensures.walk (λ here past m known is. known is)
+returns-clause-walk c = first_walk airs IsHeardThen IsStretched any_stretch KnowHeard c.payloads_are_heard.ensures.walk (λ here past m known is. known is)
   where
     airs : Airs
     airs = record {
@@ -35,7 +38,7 @@ returns-clause-walk c = first_walk airs IsHeardThen KnowHeard c.payloads_are_hea
     }
 
 pub returns-clause-listening : goal.returns-clause-listening
-returns-clause-listening c = λ these many. first_walk airs (IsSentTo these) (KnowListening these) (c.nodes_hear.ensures.walk these many) (λ here past m known is. (known is).0)
+returns-clause-listening c = λ these many. first_walk airs (IsSentTo these) IsStretched any_stretch (KnowListening these) (c.nodes_hear.ensures.walk these many) (λ here past m known is. (known is).0)
   where
     airs : Airs
     airs = record {
@@ -47,11 +50,7 @@ returns-clause-listening c = λ these many. first_walk airs (IsSentTo these) (Kn
     }
 
 pub returns-clause-network : goal.returns-clause-network
-returns-clause-network c = record {
-  said = walk.said;
-  event = λ here next past m event goes may in_time known. walk.event here next past m event goes may (tt, in_time) known;
-  turn = walk.turn;
-}
+returns-clause-network c = first_walk_freely airs IsStretched any_stretch KnowNetwork c.networks_hear.ensures.walk (λ here past m known is. (known is).0)
   where
     airs : Airs
     airs = record {
@@ -62,17 +61,25 @@ returns-clause-network c = record {
       begins = c.frames_fly_in_order.ensures.begins;
     }
 
-    heard : WalkWhere HasNothing AsksNothing KnowNetwork
-    heard = record {
-      said = c.networks_hear.ensures.walk.said;
-      event = λ here next past m event goes may has known. c.networks_hear.ensures.walk.event here next past m event goes may known;
-      turn = c.networks_hear.ensures.walk.turn;
+pub returns-clause-working : goal.returns-clause-working
+returns-clause-working c = λ these many.
+    first_walk_freely airs (IsWorkedFor these) (worked these) (KnowStaff these) (c.workers_alone_speak.ensures.walk these many) (λ here past m known is. ((known is).0.0 is.stretched).0)
+  where
+    airs : Airs
+    airs = record {
+      goes = c.frames_fly_in_order.ensures.goes;
+      next = c.frames_fly_in_order.ensures.next;
+      lands = c.frames_fly_in_order.ensures.lands;
+      count = c.frames_fly_in_order.ensures.count;
+      begins = c.frames_fly_in_order.ensures.begins;
     }
-
-    walk : WalkWhere (AndInTime HasNothing) AsksNothing (KnowFirst KnowNetwork)
-    walk = first_walk airs HasNothing KnowNetwork heard (λ here past m known is. (known is).0)
 
 pub returns-clause-lines : goal.returns-clause-lines
 returns-clause-lines c = λ m lines are whole in_time stretched tied few listen first.
-    (where_whole IsInTime AsksNothing (KnowFirst KnowNetwork) (returns-clause-network c) [] m lines are whole in_time
+    (where_whole IsInTime AsksNothing (KnowFirst IsStretched KnowNetwork) (returns-clause-network c) [] m lines are whole in_time
     ((λ is. ((begins_known m tied few, rests_heard m tied.rests), listen)), λ is. first)).1 stretched
+
+pub returns-clause-workers : goal.returns-clause-workers
+returns-clause-workers c = λ these m lines many are whole in_time stretch tied few listen knows speak first.
+    (where_whole IsInTime AsksNothing (KnowFirst (IsWorkedFor these) (KnowStaff these)) (returns-clause-working c these many) [] m lines are whole in_time
+    ((λ is. (((λ stretched. ((begins_known m tied few, rests_heard m tied.rests), listen)), λ stretched. knows), record { lines = tt; speak = speak })), λ is. first)).1 stretch

@@ -2,10 +2,10 @@
 use Rattle.std.proofs.Common.{◌≡◌, false, true}
 use Rattle.std.specs.Prelude.{is_none}
 use Rattle.s0_crypto.specs.declared.key_pair.Keys.{Keys}
-use Rattle.proof_requests.specs.proof_alone.Phases.{Resting}
-use Rattle.proof_attempts.specs.Asleep.{KnowsSleep}
-use Rattle.proof_attempts.specs.Since.{AlongRuns}
-use Rattle.proof_attempts.proofs.Lasting.{along}
+use Rattle.proof_rests.specs.proof_requests.proof_alone.Phases.{Resting}
+use Rattle.proof_rests.specs.proof_attempts.Asleep.{KnowsSleep}
+use Rattle.proof_rests.specs.proof_attempts.Since.{AlongRuns}
+use Rattle.proof_rests.proofs.Lasting.{along}
 use Rattle.proof_ends.specs.Ends.Reads.{Starts}
 use Rattle.proof_ends.proofs.Walking.{KnowsReads, read_at, reads_walk, rests_waits}
 use Rattle.proof_ends.proofs.ends.hosts_note_ends.Goals as goal

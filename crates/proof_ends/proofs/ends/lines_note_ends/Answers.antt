@@ -2,9 +2,9 @@
 use Rattle.std.specs.Prelude.{Some, []}
 use Rattle.world_model.specs.State.{first_machine}
 use Rattle.world_lines.specs.Spoken.{transcript_of}
-use Rattle.proof_requests.specs.law_host.Heard.{heard_by_host}
-use Rattle.proof_requests.specs.proof_alone.Phases.{Resting}
-use Rattle.proof_requests.specs.proof_alone.State.{first_alone}
+use Rattle.proof_rests.specs.proof_requests.law_host.Heard.{heard_by_host}
+use Rattle.proof_rests.specs.proof_requests.proof_alone.Phases.{Resting}
+use Rattle.proof_rests.specs.proof_requests.proof_alone.State.{first_alone}
 use Rattle.proof_ends.proofs.ends.lines_note_ends.Goals as goal
 
 pub returns-clause-lines : goal.returns-clause-lines

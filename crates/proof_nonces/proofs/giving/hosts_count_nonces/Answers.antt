@@ -1,9 +1,9 @@
 -- The walk over the requests of the host, its keys and what it has to seal.
 use Rattle.s0_crypto.specs.declared.key_pair.Keys.{Keys}
-use Rattle.proof_attempts.specs.Since.{AlongRuns}
-use Rattle.proof_attempts.proofs.Lasting.{along}
+use Rattle.proof_notes.specs.proof_attempts.Since.{AlongRuns}
+use Rattle.proof_notes.proofs.Lasting.{along}
 use Rattle.zw_base.proofs.Each.{all-left}
-use Rattle.proof_known.specs.law_host.Nonces.{IsOffer}
+use Rattle.proof_notes.specs.proof_known.law_host.Nonces.{IsOffer}
 use Rattle.proof_nonces.specs.Giving.{NotBelow}
 use Rattle.proof_nonces.proofs.Ordered.{ordered-left}
 use Rattle.proof_nonces.specs.Counted.{CountingGround, KnowsNonces}

@@ -4,10 +4,10 @@ use Rattle.s0_crypto.specs.declared.key_pair.Keys.{Keys}
 use Rattle.zw_text.specs.declared.entry.Entry.{Entry}
 use Rattle.law_transcript.specs.Lists.{EachAfter}
 use Rattle.std.specs.Prelude.{List, Some}
-use Rattle.proof_attempts.proofs.Lasting.{law_along}
-use Rattle.proof_known.specs.proof_alone.Phases.{Phase}
-use Rattle.proof_known.specs.proof_alone.Runs.{Run}
-use Rattle.proof_known.specs.proof_alone.State.{HostMachine, first_alone}
+use Rattle.proof_notes.proofs.Lasting.{law_along}
+use Rattle.proof_notes.specs.proof_known.proof_alone.Phases.{Phase}
+use Rattle.proof_notes.specs.proof_known.proof_alone.Runs.{Run}
+use Rattle.proof_notes.specs.proof_known.proof_alone.State.{HostMachine, first_alone}
 use Rattle.proof_nonces.specs.Sealing.{MaySeal}
 use Rattle.proof_nonces.specs.Known.{Ground, KnowsSealing}
 use Rattle.proof_nonces.proofs.Grounds.{ground_along}

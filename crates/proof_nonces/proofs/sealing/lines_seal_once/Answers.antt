@@ -2,8 +2,8 @@
 use Rattle.std.specs.Prelude.{Some, []}
 use Rattle.world_model.specs.State.{first_machine}
 use Rattle.world_lines.specs.Spoken.{transcript_of}
-use Rattle.proof_known.specs.law_host.Heard.{heard_by_host}
-use Rattle.proof_known.specs.proof_alone.State.{first_alone}
+use Rattle.proof_notes.specs.proof_known.law_host.Heard.{heard_by_host}
+use Rattle.proof_notes.specs.proof_known.proof_alone.State.{first_alone}
 use Rattle.proof_nonces.proofs.sealing.lines_seal_once.Goals as goal
 
 pub returns : goal.returns

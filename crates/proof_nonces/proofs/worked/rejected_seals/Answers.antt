@@ -4,7 +4,7 @@ use Rattle.std.specs.Prelude.{[], codes}
 use Rattle.law_transcript.proofs.Deciding.{not_true}
 use Rattle.law_time.specs.WorkedUnits.{by_host}
 use Rattle.law_time.proofs.Computing.{computing}
-use Rattle.proof_known.specs.law_host.Worked.{seal_unheard}
+use Rattle.proof_notes.specs.proof_known.law_host.Worked.{seal_unheard}
 use Rattle.proof_nonces.specs.Sealing.{HasAsked, MaySeal}
 use Rattle.proof_nonces.proofs.Standing.{asked_stands, last_may}
 use Rattle.proof_nonces.proofs.worked.rejected_seals.Goals as goal

@@ -11,7 +11,7 @@ use Rattle.law_transcript.proofs.Deciding.{kept_after}
 use Rattle.law_transcript.proofs.Sealing.{sealed_set, set_code, set_ends, set_nonce, set_own, set_plain, set_with}
 use Rattle.law_time.specs.WorkedUnits.{by_host}
 use Rattle.law_time.proofs.Computing.{computing}
-use Rattle.proof_known.proofs.Lists.{each-append}
+use Rattle.proof_notes.proofs.Lists.{each-append}
 use Rattle.proof_nonces.specs.Sealing.{HasAsked, IsSealedSo, IsToldSince, MaySeal}
 use Rattle.proof_nonces.proofs.Unsealed.{all_may, all_nothing, is_unsealed}
 use Rattle.proof_nonces.proofs.worked.worked_seals.Goals as goal

@@ -4,18 +4,18 @@ use Rattle.std.specs.Prelude.{Some}
 use Rattle.s0_crypto.specs.declared.key_pair.Keys.{Keys}
 use Rattle.zw_text.specs.declared.entry.Entry.{Entry}
 use Rattle.host_model.specs.State.{first_host}
-use Rattle.proof_work.specs.law_transcript.Lists.{EachAfter}
-use Rattle.proof_work.specs.law_time.Moments.{Allows}
-use Rattle.proof_work.specs.law_time.Rests.{is_unkept}
-use Rattle.proof_attempts.specs.Since.{AlongRuns}
-use Rattle.proof_attempts.specs.proof_requests.Ends.{KnowsEnds, TellsEnd}
-use Rattle.proof_attempts.specs.proof_requests.Walking.{Ground as RequestsGround, KnowsAsked}
-use Rattle.proof_attempts.specs.proof_requests.proof_alone.Phases.{Phase, Resting}
-use Rattle.proof_attempts.specs.proof_requests.proof_alone.Runs.{Run, both_know}
-use Rattle.proof_attempts.specs.proof_requests.proof_alone.Time.{TieClock}
-use Rattle.proof_attempts.specs.proof_requests.proof_alone.State.{HostMachine, first_alone}
-use Rattle.proof_attempts.proofs.Lasting.{along, law_along}
-use Rattle.proof_attempts.proofs.Running.{run_keeps}
+use Rattle.proof_nonces.specs.proof_work.law_transcript.Lists.{EachAfter}
+use Rattle.proof_nonces.specs.proof_work.law_time.Moments.{Allows}
+use Rattle.proof_nonces.specs.proof_work.law_time.Rests.{is_unkept}
+use Rattle.proof_nonces.specs.proof_attempts.Since.{AlongRuns}
+use Rattle.proof_nonces.specs.proof_attempts.proof_requests.Ends.{KnowsEnds, TellsEnd}
+use Rattle.proof_nonces.specs.proof_attempts.proof_requests.Walking.{Ground as RequestsGround, KnowsAsked}
+use Rattle.proof_nonces.specs.proof_attempts.proof_requests.proof_alone.Phases.{Phase, Resting}
+use Rattle.proof_nonces.specs.proof_attempts.proof_requests.proof_alone.Runs.{Run, both_know}
+use Rattle.proof_nonces.specs.proof_attempts.proof_requests.proof_alone.Time.{TieClock}
+use Rattle.proof_nonces.specs.proof_attempts.proof_requests.proof_alone.State.{HostMachine, first_alone}
+use Rattle.proof_nonces.proofs.Lasting.{along, law_along}
+use Rattle.proof_nonces.proofs.Running.{run_keeps}
 use Rattle.proof_rests.specs.Undone.{is_done, may_begin}
 use Rattle.proof_rests.specs.Known.{KnowsAll, KnowsDoing, KnowsErrands, KnowsInterviews, WasSo, an_errand, an_interview, no_excuse}
 use Rattle.proof_rests.proofs.AtRests.{before_line, rests_walk}

@@ -1,10 +1,10 @@
 -- Lines are told by a host alone, and so is what is heard of them.
 use Rattle.std.specs.Prelude.{Some, []}
-use Rattle.proof_work.specs.world_model.State.{first_machine}
-use Rattle.proof_work.specs.world_lines.Spoken.{transcript_of}
-use Rattle.proof_attempts.specs.proof_requests.law_host.Heard.{heard_by_host}
-use Rattle.proof_attempts.specs.proof_requests.proof_alone.Phases.{Resting}
-use Rattle.proof_attempts.specs.proof_requests.proof_alone.State.{first_alone}
+use Rattle.proof_nonces.specs.proof_work.world_model.State.{first_machine}
+use Rattle.proof_nonces.specs.proof_work.world_lines.Spoken.{transcript_of}
+use Rattle.proof_nonces.specs.proof_attempts.proof_requests.law_host.Heard.{heard_by_host}
+use Rattle.proof_nonces.specs.proof_attempts.proof_requests.proof_alone.Phases.{Resting}
+use Rattle.proof_nonces.specs.proof_attempts.proof_requests.proof_alone.State.{first_alone}
 use Rattle.proof_rests.proofs.rests.lines_leave_nothing.Goals as goal
 
 pub returns-clause-lines : goal.returns-clause-lines

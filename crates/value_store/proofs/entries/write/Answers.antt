@@ -12,8 +12,8 @@ returns-in-Ok c =
     ap (λ (e : Key × Stored). set c.args.entries.now.items c.in-Ok.at (e.0, c.args.stored)) c.index_mut.ensures.value ∙ done
 
 -- there is a place
-pub returns-in_default : goal.returns-in_default
-returns-in_default c =
-    let gap = rw c.deref.ensures.value at c.in_default.ensures.absent in
+pub returns-in-Err : goal.returns-in-Err
+returns-in-Err c =
+    let gap = rw c.deref.ensures.value at c.in-Err.ensures.absent in
     let none = find_gap _ c.requires.order _ _ gap in
     absurd (true≢false (sym c.requires.kept ∙ ap is_some none))

@@ -3,8 +3,8 @@
 ghost use Rattle.std.specs.Prelude.{◌≡◌, IfOk, Ok};
 ghost use Rattle.device_kinds.specs.declared.kind.Kind.TheVariants as kinds;
 ghost use Rattle.device_sim.specs.State.{fresh};
-ghost use Rattle.proof_commands.specs.Mesh.{device_at};
-ghost use Rattle.zwave_console.specs.Devices.{state_made};
+ghost use Rattle.audit_books.specs.Asking.{kind_at};
+ghost use Rattle.run_devices.specs.Devices.{state_made};
 
 use device_sim::{
     Configurable, Dimmer, Lock, Recorder, Relay, Sensor, Strip, Switch, Thermostat, make_config,
@@ -14,20 +14,21 @@ use std::alloc::Global;
 use zw_base::{NoMemory, NodeId};
 
 /// The network key of the host and of the simulated devices.
-pub(crate) const KEY: [u8; 16] = [
+pub const KEY: [u8; 16] = [
     0x00, 0x01, 0x02, 0x03, 0x04, 0x05, 0x06, 0x07, 0x08, 0x09, 0x0A, 0x0B, 0x0C, 0x0D, 0x0E, 0x0F,
 ];
 
 /// How many kinds of devices there are: the kind of a node's device is by its number.
 const KINDS: u8 = 8;
 
-/// The nodes that have a device; that of the first records what it hears.
-pub(crate) const FIRST: u8 = 2;
+/// The first node that has a device, which records what it hears.
+pub const FIRST: u8 = 2;
 
-pub(crate) const LAST: u8 = 232;
+/// The last node that has a device.
+pub const LAST: u8 = 232;
 
 /// A device of any kind, in a box. That of the first node records what it hears.
-pub(crate) enum Made {
+pub enum Made {
     Recorder(Box<Recorder<Switch>>),
     Configurable(Box<Configurable>),
     Relay(Box<Relay>),
@@ -39,9 +40,9 @@ pub(crate) enum Made {
     Strip(Box<Strip>),
 }
 
-/// Makes the device of a node, as its maker leaves it.
-pub(crate) fn make_device(alloc: Global, node: NodeId) -> Result<Made, NoMemory>
-    ensures { IfOk result (λ made. state_made made ≡ device_at KEY node) }
+/// Makes the device of a node, as its maker leaves it: of the kind that its number tells.
+pub fn make_device(alloc: Global, node: NodeId) -> Result<Made, NoMemory>
+    ensures { IfOk result (λ made. state_made made ≡ fresh node (kind_at node) KEY) }
 {
     let number = node.number();
     match number % KINDS {

@@ -1,7 +1,7 @@
 -- What the devices of the program are to the mesh (this project's own): the state of each, whatever its type is.
 use Rattle.device_sim.specs.State.{State}
-use Rattle.zwave_console.specs.declared.devices.Made.{Made}
-use Rattle.zwave_console.specs.declared.devices.Made.TheVariants.{Recorder, Configurable, Relay, Switch, Dimmer, Lock, Sensor, Thermostat, Strip}
+use Rattle.run_devices.specs.declared.devices.Made.{Made}
+use Rattle.run_devices.specs.declared.devices.Made.TheVariants.{Recorder, Configurable, Relay, Switch, Dimmer, Lock, Sensor, Thermostat, Strip}
 
 -- the state of a device that was made
 abbrev pub state_made : Made → State

@@ -1,0 +1,17 @@
+mod Told
+mod Begun
+mod Asking
+mod Badly
+mod Stays
+mod EndsSo
+mod NodesGo
+mod Over
+mod HostGoes
+mod AtRest
+mod Orders
+mod Inner
+mod Along
+mod Unframed
+mod Acked
+mod Quiet
+mod Segments

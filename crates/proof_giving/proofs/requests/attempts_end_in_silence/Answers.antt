@@ -1,0 +1,13 @@
+-- The attempt of the request is over, and no other.
+use Rattle.law_time.specs.Judged.{acknowledged}
+use Rattle.law_time.specs.Requests.{asked}
+use Rattle.proof_queue.specs.proof_attempts.proof_requests.Standing.{standing_of}
+use Rattle.proof_giving.proofs.Badly.{unframed_badly}
+use Rattle.proof_giving.proofs.Unframed.{unframed_goes}
+use Rattle.proof_giving.proofs.requests.attempts_end_in_silence.Goals as goal
+
+pub returns-clause-over : goal.returns-clause-over
+returns-clause-over c = λ taken n past told h event moment time before now to facts so. unframed_goes c.attempts_end_with_requests.ensures.request taken n to past told h event moment time before now facts so
+
+pub returns-clause-bad : goal.returns-clause-bad
+returns-clause-bad c = λ inner past now d over frame none. unframed_badly inner (standing_of (asked past)) now (acknowledged past) d.leaving frame none over.ended

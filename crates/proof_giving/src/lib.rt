@@ -1,0 +1,37 @@
+//! The attempts of a series of a host alone, by its transcript, step by step.
+//!
+//! A transcript tells of each node how many attempts of its series have begun, what the last one has sent, and when that is over (`Attempts` of
+//! `law_time`). The attempts of several nodes are those of each, and grow entry by entry (`attempts_grow_by_entries`). They are tied to a node of the
+//! host, at its own time, with its request: whether that is of them while it is under way, and once it is over whether it has ended badly (`AttemptsSo`).
+//! Each event of a node keeps the tie (`nodes_go_with_attempts`). So does each step that is told here: a request that is submitted is of an attempt of
+//! the node that is served, and of no other (`attempts_go_with_requests`); it ends badly by the transcript just where its end is bad for the attempt in
+//! the host (`attempts_end_badly_as_told`), which stays so (`bad_ends_stay`, `attempts_stay_with_the_request`, `segments_tell_what_follows`); its end,
+//! and a tick of a node, end attempts (`attempts_end_with_requests`, `attempts_end_in_silence`); a frame that is acknowledged gives signs
+//! (`attempts_go_with_frames`); other entries and time leave them (`attempts_stay_by_entries`), and a session that begins, or a host that starts, begins
+//! them anew (`attempts_begin_with_sessions`). Where the host rests no command is to be given up (`attempts_leave_none_to_give_up`). It is not put along
+//! runs yet.
+//! The definitions are in `specs/`: `Told` (the attempts of one node), `Tie`, and `Stays` (sessions and orders that stay). `proofs/Told` and `Over` have
+//! how they grow, `Begun` which payloads go on with an attempt, `Asking` requests that are submitted, `Badly` whether one has ended badly by how it
+//! stands, `Stays` that it stays so, `EndsSo` and `Unframed` its end, `NodesGo` and `HostGoes` what nodes do, `Segments`, `Orders` and `Inner` that a
+//! segment is told to be followed by others as before, `Along`, `Acked` and `Quiet` the other steps, and `AtRest` what follows at rest.
+#![tactic(auto)]
+
+mod attempts;
+mod ends;
+mod entries;
+mod nodes;
+mod requests;
+mod rest;
+
+pub use attempts::attempts_grow_by_entries;
+pub use ends::{
+    attempts_end_badly_as_told, attempts_stay_with_the_request, bad_ends_stay,
+    segments_tell_what_follows,
+};
+pub use entries::{attempts_begin_with_sessions, attempts_stay_by_entries};
+pub use nodes::nodes_go_with_attempts;
+pub use requests::{
+    attempts_end_in_silence, attempts_end_with_requests, attempts_go_with_frames,
+    attempts_go_with_requests,
+};
+pub use rest::attempts_leave_none_to_give_up;
