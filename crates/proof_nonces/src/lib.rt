@@ -18,4 +18,4 @@ pub use giving::{hosts_count_nonces, lines_count_nonces};
 pub use proof_notes as notes;
 pub use proof_notes::{attempts, requests, work};
 pub use sealing::{hosts_seal_once, lines_seal_once};
-pub use worked::{rejected_seals, worked_seals};
+pub use worked::{rejected_counts, rejected_seals, worked_seals};
