@@ -104,12 +104,12 @@ pub fn worked_notes()
 {}
 
 /// Each of these breaks the law by one entry: a value that was told is left out, is entered twice, as another, again later, or without room; an old
-/// report is left out, and that a command is given up after a copy; the last of 65 sessions ends, of which the report did not come, though that of the first, with the same id, once did; a
-/// command ends otherwise than its report says, as another, by the report of another session, by one of work, by one that the line has changed and
-/// the host refused, or by one that a lock told openly or sealed for a nonce that is not live; what is no message is left out; another node counts as
-/// awake than told so; a node still counts as awake in the line after its message ended in silence, or in the tick after the line gave that up; one
-/// is not held that asks to be; a record is not kept that was not to be; and a message is dropped before the value that the payload told first, or as
-/// if of another node.
+/// report is left out, and that a command is given up after a copy; the last of 65 sessions ends, of which the report did not come, though that of
+/// the first, with the same id, once did; a command ends otherwise than its report says, as another, by the report of another session, by one of
+/// work, by one that the line has changed and the host refused, or by one that a lock told openly or sealed for a nonce that is not live; what is
+/// no message is left out; another node counts as awake than told so; a node still counts as awake in the line after its message ended in silence,
+/// or in the tick after the line gave that up; one is not held that asks to be; a record is not kept that was not to be; and a message is dropped
+/// before the value that the payload told first, or as if of another node.
 pub fn rejected_notes()
     ensures left_out { NotesWhatHappens [] (heeds_of (the_switch ∷ [])) first_start true value_left_out → ⊥ }
     ensures twice { NotesWhatHappens [] (heeds_of (the_switch ∷ [])) first_start true value_twice → ⊥ }

@@ -12,6 +12,7 @@ use Rattle.law_time.specs.Heeds.{Heeds}
 use Rattle.law_time.specs.Moments.{KeepsAfter, clock, now_at}
 use Rattle.law_time.specs.Judged.{is_directly_after, is_mark}
 use Rattle.law_time.specs.Requests.{asked, are_none}
+use Rattle.law_time.specs.Ends.{is_ending_here}
 use Rattle.law_time.specs.Sessions.{is_open, last_command}
 use Rattle.law_time.specs.Attempts.{Attempts, attempt_is_over, serving}
 
@@ -36,7 +37,7 @@ is_to_give_up heeds past command =
 -- the frame that was judged just before ends the third attempt, of which the last request is
 abbrev pub owes_giving_up : Heeds → List Entry → Bool
 owes_giving_up heeds past =
-    is_directly_after past
+    is_directly_after past && is_ending_here past
     && list_any (λ carried. not (are_none (to_give_up heeds past (clock past) carried.node))) (sending_in (asked past).frame)
 
 -- a command counts as unanswered only where it is to be given up: then directly after the frame that ends the attempt, and else in the

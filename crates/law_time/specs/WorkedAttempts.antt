@@ -7,7 +7,7 @@ use Rattle.zw_text.specs.declared.entry.Refusal.TheVariants as refusals
 use Rattle.zw_text.specs.declared.entry.Entry.{Entry}
 use Rattle.zw_text.specs.declared.entry.Entry.TheVariants.{Said, Accepted, Refused, Begin, Dropped, Out, Done, Unkept, Time}
 use Rattle.law_time.specs.WorkedTurns.{given_up_plug, first_sent}
-use Rattle.law_time.specs.WorkedUnits.{by_chip, by_host, host_acknowledges, message_sent, refused, notified, chip_acknowledges}
+use Rattle.law_time.specs.WorkedUnits.{by_chip, by_host, host_acknowledges, message_sent, refused, notified, chip_acknowledges, chip_denies}
 use Rattle.law_time.specs.WorkedWaits.{unrouted_errand}
 
 -- ---- third attempts
@@ -74,6 +74,12 @@ given_up_unkept =
 -- units of the chip stand before, as no frame ends the attempt
 abbrev pub given_up_after_unit : List Entry
 given_up_after_unit = third_waits ++ Said (codes "tick 200") ∷ Time 101 ∷ chip_acknowledges ∷ notified ∷ Out 1 endings.Unanswered ∷ []
+
+-- the chip denies the fourth copy after two frames: the host judges these first, and neither ends the attempt
+abbrev pub given_up_after_frames : List Entry
+given_up_after_frames =
+    three_attempts ++ Said (codes "tick 200") ∷ Time 16 ∷ third_attempt ∷ Time 42 ∷ third_attempt ∷ Time 78 ∷ third_attempt ∷ Time 86 ∷ notified ∷ notified ∷
+    chip_denies ∷ host_acknowledges ∷ host_acknowledges ∷ Out 1 endings.Unanswered ∷ []
 
 -- neither does the callback of a Get
 abbrev pub with_get : List Entry

@@ -82,6 +82,7 @@ ghost use Rattle.law_time.specs.WorkedAttempts.{
   begun_kept,
   waits_asleep,
   given_up_after_unit,
+  given_up_after_frames,
   given_up_unkept,
 };
 ghost use Rattle.law_time.specs.WrongAttempts.{
@@ -111,9 +112,9 @@ ghost use Rattle.law_time.specs.WorkedEnds.{informed, informed_unkept, interview
 
 /// In worked transcripts a command is given up when its third attempt has ended: by callbacks, a refusal, or 100 ticks after the last
 /// callback or report of work; also that of a node that sleeps, of a lock, and of a message in segments, where the first one that is lost
-/// ends nothing, but one that fails does, and one that is asked for again is no attempt; and when no copy of the third attempt arrives, or
-/// its callback does not come. Requests and sessions of others change nothing, nor does a restart that is refused. A run that ends in the
-/// tick in which it is owed need not show it.
+/// ends nothing, but one that fails does, and one that is asked for again is no attempt; and when no copy of the third attempt arrives, which
+/// may be told after frames, or its callback does not come. Requests and sessions of others change nothing, nor does a restart that is
+/// refused. A run that ends in the tick in which it is owed need not show it.
 pub fn worked_attempts()
     ensures lossy { GivesUpAfterThree true (heeds_of (the_switch ∷ [])) lossy_exchange }
     ensures waited { GivesUpAfterThree true (heeds_of (the_switch ∷ [])) waited_attempts }
@@ -141,6 +142,7 @@ pub fn worked_attempts()
     ensures halted { GivesUpAfterThree false (heeds_of (the_switch ∷ [])) halted_waiting }
     ensures unkept { GivesUpAfterThree true (heeds_of (the_switch ∷ [])) given_up_unkept }
     ensures after_unit { GivesUpAfterThree true (heeds_of (the_switch ∷ [])) given_up_after_unit }
+    ensures after_frames { GivesUpAfterThree true (heeds_of (the_switch ∷ [])) given_up_after_frames }
 {}
 
 /// In worked transcripts nothing is owed at a rest: a command may wait for a node that sleeps, or in the tick in which the keeper has

@@ -29,7 +29,7 @@ use proof_notes::known::waking::alone::{lines_are_a_hosts, what_is_heard_is_a_ho
 /// may have the same bytes.
 pub fn hosts_count_nonces()
     ensures told { (keys : Keys) (told : List Entry) → Told (first_alone keys (Some [])) told → CountsNonces keys told }
-    ensures known { (keys : Keys) (here : Phase) (told : List Entry) (m : HostMachine) → Run (first_alone keys (Some [])) here told m → KnowsNonces keys here told m }
+    ensures known { (k : Keys) (here : Phase) (told : List Entry) (m : HostMachine) → Run (first_alone k (Some [])) here told m → KnowsNonces k here told m }
 {
     texts_give_one_thing();
     attempts_have_what_they_give();

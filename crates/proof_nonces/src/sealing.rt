@@ -25,7 +25,7 @@ use proof_notes::known::waking::alone::{lines_are_a_hosts, what_is_heard_is_a_ho
 /// one, openly or sealed with the host's keys; and since then nothing else was sealed for the node. So no nonce serves twice, unless its node tells it again.
 pub fn hosts_seal_once()
     ensures told { (keys : Keys) (told : List Entry) → Told (first_alone keys (Some [])) told → SealsOnce keys told }
-    ensures known { (keys : Keys) (here : Phase) (told : List Entry) (m : HostMachine) → Run (first_alone keys (Some [])) here told m → KnowsSealing keys here told m }
+    ensures known { (k : Keys) (here : Phase) (told : List Entry) (m : HostMachine) → Run (first_alone k (Some [])) here told m → KnowsSealing k here told m }
 {
     attempts_have_what_they_give();
     hosts_leave_nonces();

@@ -11,9 +11,9 @@
 //! `proofs/Books` has what waits after more entries, `Leaving` the entries that leave it and the host's notes, `Refused` and `Asking` lines, `Undropped` and
 //! `Stills` events that leave what waits, `Sleepers` nodes that have not woken, `Walking` the walk and `Along` what it makes of a run. `Puts` has messages
 //! that are put into the queue, `Segments` the segment that is asked for again, `Kept` what follows a payload, `Messages` and `Payloads` what a node wants by
-//! it, and `Choosing` what is chosen along a run. Of nodes that have woken `Orders` has the order of those that are due, `Looks` what a look adds, `Tells` who is
-//! told, `Joined` which nodes joined, `Pumped`, `Sleeps` and `Seeing` that a look finds those that a pump lets sleep, and `Dropping`, `Ending` and `Ties` what goes
-//! on with events and entries.
+//! it, and `Choosing` what is chosen along a run. Of nodes that have woken `Orders` has the order of those that are due, `Looks` what a look adds, `Tells`
+//! who is told, `Joined` which nodes joined, `Pumped`, `Sleeps` and `Seeing` that a look finds those that a pump lets sleep, and `Dropping`, `Ending` and
+//! `Ties` what goes on with events and entries.
 #![tactic(auto)]
 
 mod fits;

@@ -7,7 +7,7 @@ use Rattle.law_wire.specs.law_transcript.Worked.{cancelled_order, long_message, 
 use Rattle.law_time.proofs.Computing.{computing}
 use Rattle.law_wire.proofs.Deciding.{kept}
 use Rattle.law_time.proofs.waits.worked_attempts.Goals as goal
-use Rattle.law_time.specs.WorkedAttempts.{given_up_at_segment, given_up_after_lost, given_up_beside_get, given_up_beside_other, given_up_beside_working, given_up_over_refused, given_up_refused, given_up_working, halted_waiting, given_up_after_unit, given_up_unkept}
+use Rattle.law_time.specs.WorkedAttempts.{given_up_at_segment, given_up_after_lost, given_up_after_frames, given_up_beside_get, given_up_beside_other, given_up_beside_working, given_up_over_refused, given_up_refused, given_up_working, halted_waiting, given_up_after_unit, given_up_unkept}
 
 pub returns-clause-lossy : goal.returns-clause-lossy
 unfolding computing
@@ -112,3 +112,7 @@ returns-clause-unkept c = record { between = kept (may_give_up (heeds_of (the_sw
 pub returns-clause-after_unit : goal.returns-clause-after_unit
 unfolding computing
 returns-clause-after_unit c = record { between = kept (may_give_up (heeds_of (the_switch ∷ []))) given_up_after_unit refl; in_the_end = λ whole. refl }
+
+pub returns-clause-after_frames : goal.returns-clause-after_frames
+unfolding computing
+returns-clause-after_frames c = record { between = kept (may_give_up (heeds_of (the_switch ∷ []))) given_up_after_frames refl; in_the_end = λ whole. refl }
