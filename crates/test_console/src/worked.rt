@@ -44,6 +44,9 @@ const SWITCHED_ON: [&str; 25] = [
     "device 2 0/switch 255\n",
 ];
 
+/// The lines that answer the first line of the input.
+const ANSWERED: usize = 8;
+
 /// The lines before the final table.
 const EVENTS: usize = 21;
 
@@ -141,15 +144,16 @@ pub(crate) fn outcome(
     Ok((status, Bytes::from_slice(alloc, sink.bytes())?))
 }
 
-/// The read and the write that fail, how it ends, and how many of the lines are written.
+/// The read and the write that fail, how it ends, and how many of the lines are written. The answer to each line of the input is one write, and
+/// so are the final tables.
 const FAULTS: &[(u64, u64, Status, usize)] = &[
     (0, 0, Status::Ok, 25),
     (1, 0, Status::ReadFault, 0),
     (2, 0, Status::ReadFault, EVENTS),
     (0, 1, Status::WriteFault, 0),
-    (0, 5, Status::WriteFault, 4),
-    (0, 22, Status::WriteFault, 21),
-    (0, 25, Status::WriteFault, 24),
+    (0, 2, Status::WriteFault, ANSWERED),
+    (0, 3, Status::WriteFault, EVENTS),
+    (0, 4, Status::Ok, 25),
 ];
 
 /// Whether it ends so where that read and that write fail, with just so many of the lines written.
