@@ -43,8 +43,8 @@ pub fn replays_are_a_hosts()
     hosts_obey_the_line();
 }
 
-/// A host alone that begins without records and judges what comes as programs do keeps these laws, over a keeper that tells its records, where no line is refused that is for others and its
-/// link kept the rules of the serial line.
+/// A host alone that begins without records and judges what comes as programs do keeps these laws, over a keeper that tells its records, where no line is
+/// refused that is for others and its link kept the rules of the serial line.
 pub fn hosts_keep_laws()
     ensures { (keys : Keys) (whole : Bool) (here : Phase) (heard : List Entry) (m : HostMachine) → RunCarefully (first_alone keys (Some [])) here heard m →
         (whole ≡ true → (here ≡ Resting) × (m.left ≡ 0)) → AreForHost heard → KeepsLink Host (ended whole heard) →
