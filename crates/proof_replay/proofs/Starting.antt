@@ -28,7 +28,7 @@ use Rattle.proof_asking.specs.proof_requests.proof_alone.Steps as step
 use Rattle.proof_asking.specs.proof_requests.proof_alone.Phases.{Phase, Asked, Open, Resting}
 use Rattle.proof_asking.specs.proof_requests.proof_alone.Runs.{Run}
 use Rattle.proof_asking.specs.proof_requests.proof_alone.Runs.Run.{Begins}
-use Rattle.proof_asking.specs.proof_requests.proof_alone.Careful.{CarefulRun, Fresh}
+use Rattle.proof_asking.specs.proof_requests.proof_alone.Careful.{CarefulRun, Fresh, RunCarefully}
 use Rattle.proof_asking.proofs.Carefully.{found, stepped}
 use Rattle.proof_asking.specs.proof_known.Known.{AreForHost, AreSaidToHost, IsSaidToHost, KnowsRecords}
 use Rattle.proof_asking.proofs.ForHost.{said_for_host}
@@ -125,7 +125,7 @@ kept_as_told keys whole heard told held agrees laws = record {
   link = laws.link;
 }
 
-module _ (laws : (keys : Keys) (whole : Bool) (here : Phase) (heard : List Entry) (m : HostMachine) → Run (first_alone keys (Some [])) here heard m → (whole ≡ true → (here ≡ Resting) × (m.left ≡ 0))
+module _ (laws : (keys : Keys) (whole : Bool) (here : Phase) (heard : List Entry) (m : HostMachine) → RunCarefully (first_alone keys (Some [])) here heard m → (whole ≡ true → (here ≡ Resting) × (m.left ≡ 0))
     → AreForHost heard → KeepsLink Host (ended whole heard) → HostsKeepLaws keys whole heard m.records)
     (recorded : (keys : Keys) (heard : List Entry) (m : HostMachine) → Run (first_alone keys (Some [])) Open heard m → IfSome m.records (KnowsRecords heard m.state))
     (listening : (keys : Keys) (here : Phase) (heard : List Entry) (m : HostMachine) → Run (first_alone keys (Some [])) here heard m → ListensAsTold heard m.state)
@@ -191,7 +191,7 @@ module _ (laws : (keys : Keys) (whole : Bool) (here : Phase) (heard : List Entry
       let link : KeepsLink Host (ended whole (past ++ Said restart_word ∷ heard)) = link_kept obey whole (past ++ Said restart_word ∷ heard) awaits m.clock m.host.state line in
       let keeps : HostsKeepLaws keys whole (past ++ Said restart_word ∷ heard) last.shelf.records =
       kept_as_told keys whole (past ++ Said restart_word ∷ heard) last.shelf.records held (λ is. subst (λ (r : Option (List (List ℕ))). Agrees r held) (records is) agrees)
-      (laws keys whole Resting (past ++ Said restart_word ∷ heard) (host_machine keys held m.host.state [] m.clock 0 awaits) all.run (λ is. (refl, refl))
+      (laws keys whole Resting (past ++ Said restart_word ∷ heard) (host_machine keys held m.host.state [] m.clock 0 awaits) (all.run, all.careful) (λ is. (refl, refl))
       (said_for_host (past ++ Said restart_word ∷ heard) said) link) in
       record {
         heard = heard;
@@ -216,7 +216,7 @@ module _ (laws : (keys : Keys) (whole : Bool) (here : Phase) (heard : List Entry
       → HearsMore keys past before.clock whole steps place last
   hears_more whole [] last outs none ran =
       let (held, agrees, run, line) = started in
-      let all : Run (first_alone keys (Some [])) Open (past ++ Said restart_word ∷ []) (host_machine keys held place.host.state [] before.clock 0 false) = run.run in
+      let all : RunCarefully (first_alone keys (Some [])) Open (past ++ Said restart_word ∷ []) (host_machine keys held place.host.state [] before.clock 0 false) = (run.run, run.careful) in
       let link : KeepsLink Host (ended whole (past ++ Said restart_word ∷ [])) =
       subst (λ (b : Bool). KeepsLink Host (ended b (past ++ Said restart_word ∷ []))) (sym none) (open_kept obey restarted before.clock 0 place.host.state line) in
       let keeps : HostsKeepLaws keys whole (past ++ Said restart_word ∷ []) last.shelf.records =

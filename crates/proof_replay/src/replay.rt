@@ -15,7 +15,7 @@ ghost use Rattle.run_replay.specs.Machine.{first_replay, lone_of};
 ghost use Rattle.run_replay.specs.Replay.{LineRan, Point, point_of};
 ghost use Rattle.proof_asking.specs.proof_requests.proof_alone.State.{HostMachine, first_alone};
 ghost use Rattle.proof_asking.specs.proof_requests.proof_alone.Phases.{Phase, Resting};
-ghost use Rattle.proof_asking.specs.proof_requests.proof_alone.Runs.{Run};
+ghost use Rattle.proof_asking.specs.proof_requests.proof_alone.Careful.{RunCarefully};
 ghost use Rattle.proof_asking.specs.proof_known.Known.{AreForHost};
 ghost use Rattle.proof_replay.specs.Heard.{AreReplayed, IsReadSo, Replayed, heard_of, lone_after};
 ghost use Rattle.proof_replay.specs.Laws.{HearsLines, HostsKeepLaws, IsHeardAlone};
@@ -43,10 +43,10 @@ pub fn replays_are_a_hosts()
     hosts_obey_the_line();
 }
 
-/// A host alone that begins without records keeps these laws, over a keeper that tells its records, where no line is refused that is for others and its
-/// link kept the rules of the serial line.
+/// A host alone that begins without records and judges what comes as programs do keeps these laws, over a keeper that tells its records, where no line is
+/// refused that is for others and its link kept the rules of the serial line.
 pub fn hosts_keep_laws()
-    ensures { (keys : Keys) (whole : Bool) (here : Phase) (heard : List Entry) (m : HostMachine) → Run (first_alone keys (Some [])) here heard m →
+    ensures { (keys : Keys) (whole : Bool) (here : Phase) (heard : List Entry) (m : HostMachine) → RunCarefully (first_alone keys (Some [])) here heard m →
         (whole ≡ true → (here ≡ Resting) × (m.left ≡ 0)) → AreForHost heard → KeepsLink Host (ended whole heard) →
         HostsKeepLaws keys whole heard m.records }
 {

@@ -28,7 +28,7 @@ by_rest Law start full part true here heard m run rests = full heard m (subst (�
 by_rest Law start full part false here heard m run rests = part heard (here, m, run)
 
 pub returns : goal.returns
-returns c = λ keys whole here heard m run rests fine link. record {
+returns c = λ keys whole here heard m careful rests fine link. let run : Run (first_alone keys (Some [])) here heard m = careful.0 in record {
   orders = c.hosts_keep_their_tables.ensures.laws keys heard (here, m, run);
   said = c.hosts_do_as_is_said.ensures keys whole here heard m run (λ is. (rests is).0) fine;
   notes = c.hosts_note_what_was_told.ensures.told keys heard (here, m, run);

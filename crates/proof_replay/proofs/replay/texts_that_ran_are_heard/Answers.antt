@@ -25,5 +25,5 @@ returns c = λ key shelf lines new transcript ran read.
       adds = subst (λ (m : Lone). OptAdds shelf.records m.records alone.added) (sym last) alone.adds;
       keeps =
           subst (λ (r : Option (List (List ℕ))). HostsKeepLaws (keys_of key) true heard r) alone.tells
-          (c.hosts_keep_laws.ensures (keys_of key) true Resting heard alone.last alone.run (λ is. (refl, alone.over)) alone.for_host alone.link);
+          (c.hosts_keep_laws.ensures (keys_of key) true Resting heard alone.last (alone.run, alone.careful) (λ is. (refl, alone.over)) alone.for_host alone.link);
     }

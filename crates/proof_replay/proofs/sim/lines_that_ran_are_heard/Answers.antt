@@ -38,18 +38,18 @@ by_whole c keys devices lines true are all =
     let start = first_alone keys (Some []) in
     let past = transcript_of (first_machine keys (Some []) devices) lines in
     let fine = c.hosts_answer_lines.ensures.heard keys past (c.lines_are_a_hosts.ensures.told keys devices lines are) in
-    let (m, run, same, over) = c.lines_are_a_hosts.ensures.keeper keys devices lines are (all refl) in
+    let (m, run, same, over) = c.lines_are_a_hosts.ensures.rests keys devices lines are (all refl) in
     subst (λ (r : Option (List (List ℕ))). HostsKeepLaws keys true (heard_by_host past) r) same
-    (c.hosts_keep_laws.ensures keys true Resting (heard_by_host past) m (c.what_is_heard_is_a_hosts.ensures.run start Resting past m run) (λ is. (refl, over)) fine
+    (c.hosts_keep_laws.ensures keys true Resting (heard_by_host past) m (c.what_is_heard_is_a_hosts.ensures.carefully start Resting past m run) (λ is. (refl, over)) fine
     (link_heard c keys devices lines true are all))
 by_whole c keys devices lines false are all =
     let start = first_alone keys (Some []) in
     let m = first_machine keys (Some []) devices in
     let past = transcript_of m lines in
     let told = c.lines_are_a_hosts.ensures.told keys devices lines are in
-    let (here, last, run) = c.what_is_heard_is_a_hosts.ensures.told start past told in
+    let (here, last, run, careful) = c.lines_are_a_hosts.ensures.carefully keys devices lines are in
     kept_as_told keys false (heard_by_host past) (after_all m lines).records last.records (λ is. absurd (never is))
-    (c.hosts_keep_laws.ensures keys false here (heard_by_host past) last run (λ is. absurd (never is)) (c.hosts_answer_lines.ensures.heard keys past told)
+    (c.hosts_keep_laws.ensures keys false here (heard_by_host past) last (c.what_is_heard_is_a_hosts.ensures.carefully start here past last (run, careful)) (λ is. absurd (never is)) (c.hosts_answer_lines.ensures.heard keys past told)
     (link_heard c keys devices lines false are all))
 
 pub returns : goal.returns
