@@ -281,7 +281,7 @@ sleeps_only n (entry.Asleep k ∷ told) all = by (k == n) (sleeps_only n told al
 sleeps_only n (e ∷ told) all = sleeps_only n told all.1
 
 -- a node whose No More Information was dropped is awake
-dropped_awake : (state : NoMoreState) (awake : Bool) (classes : Option (List ℕ)) → NoMoreFacts state awake classes → awake ≡ false → is_dropped state ≡ false
+pub dropped_awake : (state : NoMoreState) (awake : Bool) (classes : Option (List ℕ)) → NoMoreFacts state awake classes → awake ≡ false → is_dropped state ≡ false
 dropped_awake Unasked awake classes facts asleep_so = refl
 dropped_awake Queued awake classes facts asleep_so = refl
 dropped_awake Dropped awake classes facts asleep_so = absurd (both_ways awake asleep_so facts.0)

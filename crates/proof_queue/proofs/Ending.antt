@@ -65,7 +65,7 @@ busy Due runs = refl
 busy Running runs = refl
 
 -- it is as it was, and is not told to sleep; or it would not sleep, and would not have, but for being told so now
-abbrev Kept : ℕ → ℕ → NodeState → NodeState → List Entry → Type 0
+abbrev pub Kept : ℕ → ℕ → NodeState → NodeState → List Entry → Type 0
 Kept n at s t told = ((t ≡ s) × (wakings n told ≡ [])) ⊎ ((would_sleep t ≡ false) × ((would_sleep s ≡ false) ⊎ (at ≡ 1)))
 
 asleep_none : (n k : ℕ) (fell : Bool) → (k == n) ≡ false → wakings n (asleep_entry fell k) ≡ []

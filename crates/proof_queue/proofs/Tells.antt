@@ -104,7 +104,7 @@ purpose_once n (Housekeeping task) = refl
 purpose_once n (Attempt k more payload) = refl
 purpose_once n Abort = refl
 
-told_by_request : (past : List Entry) (requests : RequestsState) (n : ℕ) → UnderWayWell requests.under_way
+pub told_by_request : (past : List Entry) (requests : RequestsState) (n : ℕ) → UnderWayWell requests.under_way
     → ((u : UnderWay) → requests.under_way ≡ Some u → request_last past ≡ request_of u.purpose requests.last_id ∷ []) → SleptSo n past requests → listens n past ≡ false
     → (tells_it n (asked past).frame && not (has_slept n (asked past).following)) ≡ nat_lt 0 (told_at n requests.under_way)
 told_by_request past requests n well request slept deaf = by requests.under_way refl
