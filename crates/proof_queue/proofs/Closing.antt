@@ -22,8 +22,8 @@ use Rattle.host_model.specs.State.{HostState, node_of}
 use Rattle.host_model.specs.After.{after}
 use Rattle.host_model.specs.Events.{Requests_do}
 use Rattle.host_model.specs.Outs.{outs, request_entries}
-use Rattle.proof_work.specs.Rests.{NoneWants}
-use Rattle.proof_work.specs.Work.{told_at}
+use Rattle.proof_attempts.specs.proof_work.Rests.{NoneWants}
+use Rattle.proof_attempts.specs.proof_work.Work.{told_at}
 use Rattle.proof_attempts.specs.proof_requests.law_host.Heard.{heeds_alone}
 use Rattle.proof_attempts.specs.proof_requests.Standing.{with_entries}
 use Rattle.proof_attempts.specs.proof_requests.proof_alone.Steps.{AreTold}

@@ -37,7 +37,7 @@ use Rattle.host_model.specs.Ends.{PartEnd, Good, Passed_over, Bad, asleep_entry,
 use Rattle.host_model.specs.After.{after, requests_do}
 use Rattle.host_model.specs.Events.{Requests_do}
 use Rattle.host_model.specs.Outs.{request_entries}
-use Rattle.proof_work.specs.Work.{told_at, told_for}
+use Rattle.proof_attempts.specs.proof_work.Work.{told_at, told_for}
 use Rattle.proof_attempts.proofs.Doings.{does_at, end_does, node_after, part_does, purpose_does, task_does}
 use Rattle.proof_queue.proofs.Dropping.{ended_of}
 use Rattle.proof_queue.proofs.Orders.{is_among}

@@ -14,7 +14,7 @@ use Rattle.law_time.specs.Requests.{asked}
 use Rattle.law_time.specs.Sessions.{with_time}
 use Rattle.law_time.specs.Waking.{counts_awake, has_slept, is_told as tells_it}
 use Rattle.law_time.specs.Queue.{Queue}
-use Rattle.proof_work.specs.Work.{HostWork, told_at}
+use Rattle.proof_attempts.specs.proof_work.Work.{HostWork, told_at}
 use Rattle.proof_attempts.specs.proof_requests.proof_alone.State.{HostMachine}
 use Rattle.proof_attempts.specs.proof_requests.proof_alone.Phases.{Phase, Resting, Open, Behind, Sleeping, Submitting}
 use Rattle.proof_attempts.specs.proof_requests.proof_alone.Runs.{Run}

@@ -23,7 +23,7 @@ use Rattle.host_node.specs.declared.no_more.NoMore.{NoMore as NoMoreState}
 use Rattle.host_node.specs.declared.no_more.NoMore.TheVariants.{Unasked, Queued, Dropped}
 use Rattle.host_node.specs.State.{is_unasked}
 use Rattle.host_model.specs.Did.{one_if}
-use Rattle.proof_work.specs.Work.{times_due, told_at, told_for, told_in}
+use Rattle.proof_attempts.specs.proof_work.Work.{times_due, told_at, told_for, told_in}
 use Rattle.proof_attempts.specs.Carried.{CarriesWell, IsOther, UnderWayWell, WaitsWell, nodes_of}
 use Rattle.proof_attempts.specs.Slept.{SleptSo}
 use Rattle.proof_queue.specs.Sleeping.{is_dropped}

@@ -20,7 +20,7 @@ use Rattle.host_node.specs.declared.attempt.Moment.TheVariants.{BeforeItsTick}
 use Rattle.host_model.specs.After.{after}
 use Rattle.host_model.specs.Events.{HostEvent, Line_ticks, Node_ticks, Requests_do}
 use Rattle.host_model.specs.Outs.{outs}
-use Rattle.proof_work.specs.Work.{HostWork}
+use Rattle.proof_attempts.specs.proof_work.Work.{HostWork}
 use Rattle.proof_attempts.specs.proof_requests.law_host.Heard.{heeds_alone}
 use Rattle.proof_attempts.specs.proof_requests.proof_alone.State.{HostMachine, done}
 use Rattle.proof_attempts.specs.proof_requests.proof_alone.Steps.{AreTold}
