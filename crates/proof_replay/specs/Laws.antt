@@ -43,7 +43,6 @@ use Rattle.proof_ends.specs.proof_nonces.Sealing.{SealsOnce}
 use Rattle.proof_ends.specs.proof_rests.Undone.{LeavesNothing}
 use Rattle.proof_ends.specs.proof_notes.Unkept.{UnkeptWhereAsked}
 use Rattle.proof_queue.specs.Turn.{GoesByQueue}
-use Rattle.proof_queue.specs.Waiting.{NoneWoken}
 use Rattle.proof_replay.specs.Heard.{AreReplayed, AreSaid, Replayed, heard_of, told_of}
 
 -- By some messages of each payload, those that the host took up, 64 requests wait where it is said, and each request that is new goes by what waits.
@@ -63,7 +62,7 @@ QueuesByMessages heard = (taken : List Entry → Carried → List Told) × FitsQ
 -- A request that is new is sent, and a session begins, only where the last request is over; and each message has the callback id after that of the last one.
 -- Directly after a session that begins stands the unit that asks to send to its node.
 -- Before each line and tick before which its last request is over no abort is owed, and what lines asked for since it started has ended.
--- As long as no node has woken, its queue of requests is full just where it is said, and requests go by it.
+-- Its queue of requests is full just where it is said, and requests go by it.
 -- The number of a tick is above those before it, and lines have asked for so many ticks.
 -- Each payload that it asks its chip to send is a message of the last session of its node, by what the node listed, a nonce or a question for one, lets the node sleep, or was
 -- asked for by a line; where its keys are those of a network key, by what nodes told openly or sealed with that key.
@@ -87,7 +86,7 @@ pub record HostsKeepLaws (keys : Keys) (whole : Bool) (heard : List Entry) (reco
   pub numbered : NumbersCallbacks heard
   pub begins : BeginsWithUnit (ended whole heard)
   pub rests : LeavesNothing whole heard
-  pub queues : NoneWoken heard → QueuesByMessages heard
+  pub queues : QueuesByMessages heard
   pub ticks : EachAfter MayCount [] heard
   pub sends : (key : List ℕ) → keys ≡ keys_of key → SendsWhatIsDue listing_heard key heard
   pub seals_once : SealsOnce keys heard

@@ -53,7 +53,7 @@ returns c = λ keys whole here heard m careful rests fine link. let run : Run (f
       (λ (l : List Entry) told. (c.hosts_ask_one_by_one.ensures.told keys l told).2) whole here heard m run rests;
   rests =
       by_rest (λ (b : Bool) (l : List Entry). LeavesNothing b l) (first_alone keys (Some [])) (c.hosts_leave_nothing.ensures.whole keys) (c.hosts_leave_nothing.ensures.told keys) whole here heard m run rests;
-  queues = λ none. c.hosts_fit_their_queue.ensures.told keys heard (here, m, run) none fine;
+  queues = c.hosts_fit_their_queue.ensures.told keys heard (here, m, careful.0, careful.1) fine;
   ticks = c.hosts_tell_time.ensures.counts keys (Some []) heard (here, m, run);
   sends = λ key same. c.hosts_send_what_is_due.ensures.told key heard (subst (λ (k : Keys). Told (first_alone k (Some [])) heard) same (here, m, run));
   seals_once = c.hosts_seal_once.ensures.told keys heard (here, m, run);
