@@ -78,11 +78,12 @@ abbrev pub NonceGetEvents : ℕ → Option (List ℕ) → List HostEvent → Typ
 NonceGetEvents n (Some nonce) events = events ≡ Offers n ∷ []
 NonceGetEvents n None events = (drawn : List ℕ) × (length drawn ≡ 8) × IsKeptOr (Gives n drawn) (Is_unkept n) events
 
--- a Nonce Report is taken where a plain text waits for it and its count is the last one or the next
+-- a Nonce Report is taken where a plain text waits for it and its count is the last one, or the next, which is kept first
 abbrev pub NonceReportEvents : HostState → ℕ → List ℕ → Option ℕ → List HostEvent → Type 0
 NonceReportEvents h n nonce None events = events ≡ []
 NonceReportEvents h n nonce (Some seen) events =
     (own_nonce text : List ℕ) × SealsText (node_of h n) h.keys own_nonce nonce text × IsKeptOr (Takes_nonce n seen text) (Is_unkept n) events
+    × ((node_of h n).seen ≡ seen → events ≡ Takes_nonce n seen text ∷ [])
 
 -- ---- a Segment Request
 

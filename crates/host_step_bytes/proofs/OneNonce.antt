@@ -58,12 +58,12 @@ rose_if false kept unkept faults faults' is rose = by_kind (is_unkept unkept) fa
 pub nonce_taken : (n seen : ℕ) (text own_nonce nonce : List ℕ) (is_kept : Bool) (a b : Scene) → count_at (node_of a.host n) (slice_index nonce 0) ≡ Some seen → SealsText (node_of a.host n) a.host.keys own_nonce nonce text → length own_nonce ≡ 8
     → KeepsInRange a.host (chosen is_kept (Takes_nonce n seen text) (Is_unkept n))
     → OptAdds a.shelf.records b.shelf.records (texts_of (records_at a.host (chosen is_kept (Takes_nonce n seen text) (Is_unkept n)))) → (is_kept ≡ false → Rose a.shelf.faults b.shelf.faults)
-    → b.host ≡ after a.host (chosen is_kept (Takes_nonce n seen text) (Is_unkept n)) → b.outs ≡ a.outs ++ outs a.host (chosen is_kept (Takes_nonce n seen text) (Is_unkept n)) → a.shelf.faults ≤ b.shelf.faults
+    → ((node_of a.host n).seen ≡ seen → is_kept ≡ true) → b.host ≡ after a.host (chosen is_kept (Takes_nonce n seen text) (Is_unkept n)) → b.outs ≡ a.outs ++ outs a.host (chosen is_kept (Takes_nonce n seen text) (Is_unkept n)) → a.shelf.faults ≤ b.shelf.faults
     → Does (NonceReportEvents a.host n nonce (count_at (node_of a.host n) (slice_index nonce 0))) a b
-nonce_taken n seen text own_nonce nonce is_kept a b counted seals eight range records rose host put falls =
+nonce_taken n seen text own_nonce nonce is_kept a b counted seals eight range records rose unasked host put falls =
     does_one (NonceReportEvents a.host n nonce (count_at (node_of a.host n) (slice_index nonce 0))) (chosen is_kept (Takes_nonce n seen text) (Is_unkept n)) a b
     (subst (λ (o : Option ℕ). NonceReportEvents a.host n nonce o (chosen is_kept (Takes_nonce n seen text) (Is_unkept n) ∷ [])) (sym counted)
-    (own_nonce, text, seals, kept_or is_kept (Takes_nonce n seen text) (Is_unkept n)))
+    (own_nonce, text, seals, kept_or is_kept (Takes_nonce n seen text) (Is_unkept n), λ same. ap (λ (b : Bool). chosen b (Takes_nonce n seen text) (Is_unkept n) ∷ []) (unasked same)))
     (may_chosen a.host is_kept (Takes_nonce n seen text) (Is_unkept n) (nonce, own_nonce, counted, seals, eight) tt) range host put records
     (rose_if is_kept (Takes_nonce n seen text) (Is_unkept n) a.shelf.faults b.shelf.faults refl rose) falls
 

@@ -1,12 +1,13 @@
 //! Nonces that a node is given, and those of its own (Security 0).
 
-ghost use Rattle.std.specs.Prelude.{◌≡◌, ◌++◌, ◌+◌, ◌^◌, ◌<◌, ◌≤◌, [], false, IfOk, OnOk, OnErr};
+ghost use Rattle.std.specs.Prelude.{◌≡◌, ◌++◌, ◌+◌, ◌^◌, ◌<◌, ◌≤◌, [], false, true, IfOk, OnOk, OnErr};
 ghost use Rattle.zw_base.specs.Faults.{Rose};
 ghost use Rattle.s0_session.specs.Nonces.{given_of, new_nonce};
 ghost use Rattle.host_keep.specs.Keeping.{OptAdds, Kept};
 ghost use Rattle.host_keep.specs.Rows.{IsRecord};
 ghost use Rattle.host_keep.specs.RecordText.{record_text};
 ghost use Rattle.host_keep.specs.declared.record.Record.TheVariants.{Given as the_given};
+ghost use Rattle.host_model.specs.State.{node_of};
 ghost use Rattle.host_model.specs.Events.{Gives, Takes_nonce, Is_unkept};
 ghost use Rattle.host_model.specs.After.{after};
 ghost use Rattle.host_model.specs.Outs.{outs};
@@ -106,7 +107,7 @@ fn give_if_kept(
 }
 
 /// A nonce of a node is taken, so that this many were seen, and the pending plain text is sealed to this. Where that is
-/// one more than before it is kept first. True but where the record was not kept.
+/// one more than before it is kept first. True but where the record was not kept; where as many were seen before, none is asked for.
 pub fn take_nonce<P: Keeper>(
     core: &mut HostCore,
     node: NodeId,
@@ -120,6 +121,7 @@ pub fn take_nonce<P: Keeper>(
         (λ is_kept. OptAdds (P.shelf keeper.old).records (P.shelf keeper.new).records
         (texts_of (records_at core.old.state (chosen is_kept (Takes_nonce node seen text) (Is_unkept node))))) }
     ensures rose { IfOk result (λ is_kept. is_kept ≡ false → Rose (P.shelf keeper.old).faults (P.shelf keeper.new).faults) }
+    ensures unasked { IfOk result (λ is_kept. (node_of core.old.state node).seen ≡ seen → is_kept ≡ true) }
     ensures in_range { IfOk result (λ is_kept. KeepsInRange core.old.state (chosen is_kept (Takes_nonce node seen text) (Is_unkept node))) }
     ensures state { IfOk result (λ is_kept. core.new ≡
         record core.old { state = after core.old.state (chosen is_kept (Takes_nonce node seen text) (Is_unkept node)) }) }

@@ -76,10 +76,13 @@ abbrev pub given_up_after_unit : List Entry
 given_up_after_unit = third_waits ++ Said (codes "tick 200") ∷ Time 101 ∷ chip_acknowledges ∷ notified ∷ Out 1 endings.Unanswered ∷ []
 
 -- the chip denies the fourth copy after two frames: the host judges these first, and neither ends the attempt
-abbrev pub given_up_after_frames : List Entry
-given_up_after_frames =
+abbrev pub denied_after_frames : List Entry
+denied_after_frames =
     three_attempts ++ Said (codes "tick 200") ∷ Time 16 ∷ third_attempt ∷ Time 42 ∷ third_attempt ∷ Time 78 ∷ third_attempt ∷ Time 86 ∷ notified ∷ notified ∷
-    chip_denies ∷ host_acknowledges ∷ host_acknowledges ∷ Out 1 endings.Unanswered ∷ []
+    chip_denies ∷ host_acknowledges ∷ host_acknowledges ∷ []
+
+abbrev pub given_up_after_frames : List Entry
+given_up_after_frames = denied_after_frames ++ Out 1 endings.Unanswered ∷ []
 
 -- neither does the callback of a Get
 abbrev pub with_get : List Entry

@@ -4,7 +4,7 @@ use Rattle.zw_text.specs.declared.entry.Done.TheVariants as done
 use Rattle.zw_text.specs.declared.entry.Ended.TheVariants as endings
 use Rattle.zw_text.specs.declared.entry.Entry.{Entry}
 use Rattle.zw_text.specs.declared.entry.Entry.TheVariants.{Said, Accepted, Begin, Out, Unkept, Time, Done}
-use Rattle.law_time.specs.WorkedAttempts.{second_attempt, third_attempt, third_delivered, third_lost, third_waits, three_attempts, two_attempts, unkept_order, with_get, working}
+use Rattle.law_time.specs.WorkedAttempts.{denied_after_frames, second_attempt, third_attempt, third_delivered, third_lost, third_waits, three_attempts, two_attempts, unkept_order, with_get, working}
 use Rattle.law_time.specs.WorkedEnds.{interview_under_way, four_lost}
 use Rattle.law_time.specs.WorkedUnits.{by_chip, by_host, host_acknowledges, information_come, message_sent, chip_acknowledges, delivered, failed_asked, taken}
 use Rattle.law_time.specs.WorkedTurns.{asked_after_abort}
@@ -27,6 +27,10 @@ given_up_late = third_waits ++ Said (codes "tick 200") ∷ Time 102 ∷ Out 1 en
 
 abbrev pub given_up_after_line : List Entry
 given_up_after_line = third_waits ++ Said (codes "tick 200") ∷ Said (codes "tick 1") ∷ Out 1 endings.Unanswered ∷ []
+
+-- it is given up only after the next line, though the chip denied the fourth copy, after two frames
+abbrev pub given_up_long_denied : List Entry
+given_up_long_denied = denied_after_frames ++ Said (codes "tick 1") ∷ Out 1 endings.Unanswered ∷ []
 
 -- it is given up by the callback of a Get, which is no attempt, as an attempt or after three
 abbrev pub given_up_by_get : List Entry

@@ -106,6 +106,7 @@ ghost use Rattle.law_time.specs.WrongAttempts.{
   left_after_abort,
   left_after_line,
   given_up_after_line,
+  given_up_long_denied,
   left_given_up,
 };
 ghost use Rattle.law_time.specs.WorkedEnds.{informed, informed_unkept, interview_uninformed, waits_for_line};
@@ -192,7 +193,7 @@ pub fn rejected_prompt()
 /// Each of these breaks one part of the law: a command given up without a session, after two attempts, or while the third is under way, or
 /// delivered, or at work, or too early, or after a segment that others follow; by a Get, or counting one, a message to another node, one
 /// that is sealed, or attempts from before the session or a restart; given up though it succeeded, or twice; and one that is not given up
-/// when the third has ended, in either way, also at the end of a run.
+/// when the third has ended, in any way, also after frames that do not end it, and at the end of a run.
 pub fn rejected_waits()
     ensures two { GivesUpAfterThree true (heeds_of (the_switch ∷ [])) given_up_after_two → ⊥ }
     ensures under_way { GivesUpAfterThree true (heeds_of (the_switch ∷ [])) given_up_under_way → ⊥ }
@@ -221,6 +222,7 @@ pub fn rejected_waits()
     ensures twice { GivesUpAfterThree true (heeds_of (the_switch ∷ [])) given_up_twice → ⊥ }
     ensures in_the_end { GivesUpAfterThree true (heeds_of (the_switch ∷ [])) halted_waiting → ⊥ }
     ensures following_line { GivesUpAfterThree true (heeds_of (the_switch ∷ [])) given_up_after_line → ⊥ }
+    ensures long_denied { GivesUpAfterThree true (heeds_of (the_switch ∷ [])) given_up_long_denied → ⊥ }
 {}
 
 /// Each of these breaks one part of the law of rests: a rest at which a command waits for a node that is awake, also in a stall, in one in

@@ -100,7 +100,7 @@ module _ (node : ℕ) where
 
   nonce_report_aside : (h : HostState) (n : ℕ) (nonce : List ℕ) (seen : Option ℕ) (events : List HostEvent) → NonceReportEvents h n nonce seen events → AllAside node events
   nonce_report_aside h n nonce None events is = none_aside events is
-  nonce_report_aside h n nonce (Some seen) events (own, text, seals, is) = kept_aside (Takes_nonce n seen text) (Is_unkept n) events tt tt tt tt is
+  nonce_report_aside h n nonce (Some seen) events (own, text, seals, is, sure) = kept_aside (Takes_nonce n seen text) (Is_unkept n) events tt tt tt tt is
 
   resent_aside : (n : ℕ) (found : Option (List ℕ)) → AllAside node (resent n found)
   resent_aside n None = tt

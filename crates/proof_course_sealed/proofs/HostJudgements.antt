@@ -186,8 +186,8 @@ module _ (node : ℕ) where
   takes : (past : Past) (number : ℕ) (h : HostState) (nonce : List ℕ) (count : Option ℕ) (events : List HostEvent) → IsNode node → IsNonce past.given number nonce → count_at (node_of h node) (slice_index nonce 0) ≡ count
       → NonceReportEvents h node nonce count events → AreAside node events ⊎ IsTaking past node number h events
   takes past number h nonce None events place of e is = inl (none (IsAside node) events is)
-  takes past number h nonce (Some seen) events place of e (own, text, seals, inl is) = inr (record { is_node = place; nonce = nonce; is = of; seen = seen; counts = e; own = own; text = text; seals = seals; are = is })
-  takes past number h nonce (Some seen) events place of e (own, text, seals, inr is) = inl (one (IsAside node) (Is_unkept node) events (tt, tt) is)
+  takes past number h nonce (Some seen) events place of e (own, text, seals, inl is, sure) = inr (record { is_node = place; nonce = nonce; is = of; seen = seen; counts = e; own = own; text = text; seals = seals; are = is })
+  takes past number h nonce (Some seen) events place of e (own, text, seals, inr is, sure) = inl (one (IsAside node) (Is_unkept node) events (tt, tt) is)
 
   -- a report that was sealed
   final : (reported session byte : ℕ) (command : Option ℕ) (status : Option FinalStatus) (wake_request : Bool) (events : List HostEvent) → status_of byte ≡ status

@@ -154,10 +154,10 @@ module _ (keys : Keys) (n : ℕ) (payload : List ℕ) where
 
   given : (h : HostState) (nonce : List ℕ) (count : Option ℕ) (events : List HostEvent) → TellsOne (NonceReport nonce) → NonceReportEvents h n nonce count events → All h events
   given h nonce None events tells is = freely h events (none TakesNone events is)
-  given h nonce (Some seen) events tells (own, text, seals, inl is) =
+  given h nonce (Some seen) events tells (own, text, seals, inl is, sure) =
       same_events h events (Takes_nonce n seen text ∷ []) is
       (record { one = it; has = inl refl; of = refl; own = own; nonce = nonce; seals = seals; tells = tells (tells_nonce nonce) (bytes_same nonce) }, tt)
-  given h nonce (Some seen) events tells (own, text, seals, inr is) = same_events h events (Is_unkept n ∷ []) is (tt, tt)
+  given h nonce (Some seen) events tells (own, text, seals, inr is, sure) = same_events h events (Is_unkept n ∷ []) is (tt, tt)
 
   -- ---- messages
 

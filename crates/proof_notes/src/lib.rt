@@ -18,4 +18,4 @@ pub use proof_attempts as attempts;
 pub use proof_attempts::{requests, work_proofs as work};
 pub use proof_known as known;
 pub use unkept::{hosts_say_what_is_not_kept, lines_say_what_is_not_kept};
-pub use worked::{rejected_notes, worked_notes};
+pub use worked::{rejected_notes, rejected_unkept, worked_notes};

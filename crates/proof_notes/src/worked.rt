@@ -1,7 +1,8 @@
 //! Worked and rejected transcripts.
 
-ghost use Rattle.std.specs.Prelude.{true, ◌++◌, take};
+ghost use Rattle.std.specs.Prelude.{true, [], ◌∷◌, ◌++◌, take};
 ghost use Rattle.s0_crypto.specs.declared.key_pair.Keys.{Keys};
+ghost use Rattle.zw_text.specs.declared.entry.Entry.TheVariants.{Unkept};
 ghost use Rattle.proof_known.specs.law_host.Worked.{
   begun,
   ended_otherwise,
@@ -15,6 +16,7 @@ ghost use Rattle.proof_known.specs.law_host.Worked.{
 };
 ghost use Rattle.proof_known.specs.WorkedNotes.{lock_believed, lock_unread};
 ghost use Rattle.proof_notes.specs.Full.{NotesInFull};
+ghost use Rattle.proof_notes.specs.Unkept.{UnkeptWhereAsked};
 
 /// A report that a command failed, one that the node is at work, one of another session, a value, and a report of a lock that comes openly have their notes.
 pub fn worked_notes()
@@ -34,4 +36,10 @@ pub fn rejected_notes()
     ensures twice { (keys : Keys) → NotesInFull keys true value_twice → ⊥ }
     ensures as_another { (keys : Keys) → NotesInFull keys true value_otherwise → ⊥ }
     ensures believed { (keys : Keys) → NotesInFull keys true lock_believed → ⊥ }
+{}
+
+/// That a record was not kept may be said of an outcome that a report tells, and not of a value, nor where a request is delivered.
+pub fn rejected_unkept()
+    ensures value { (keys : Keys) → UnkeptWhereAsked keys (value_left_out ++ Unkept 2 ∷ []) → ⊥ }
+    ensures delivered { (keys : Keys) → UnkeptWhereAsked keys (take 9 value_heard ++ Unkept 2 ∷ []) → ⊥ }
 {}

@@ -165,8 +165,8 @@ module _ (n : ℕ) where
 
   given : (h : HostState) (nonce : List ℕ) (count : Option ℕ) (events : List HostEvent) → NonceReportEvents h n nonce count events → All events
   given h nonce None events is = none_are n events is
-  given h nonce (Some seen) events (own, text, seals, inl is) = one_is n (Takes_nonce n seen text) events refl is
-  given h nonce (Some seen) events (own, text, seals, inr is) = one_is n (Is_unkept n) events tt is
+  given h nonce (Some seen) events (own, text, seals, inl is, sure) = one_is n (Takes_nonce n seen text) events refl is
+  given h nonce (Some seen) events (own, text, seals, inr is, sure) = one_is n (Is_unkept n) events tt is
 
   value_is : (b : Bool) (s : Setting) → IsQuietly n (if b then Has_no_room n s.property else Hears_value n s)
   value_is true s = tt

@@ -162,7 +162,7 @@ module _ (laws : Laws) (Holds : Reason → Type 0) (keys : Keys) where
 
     given : (h : HostState) (nonce : List ℕ) (count : Option ℕ) (events : List HostEvent) → IsSaidBy n (NonceReport nonce) → NonceReportEvents h n nonce count events → Goes h events
     given h nonce None events tells is = goes_free h events (none Free events is)
-    given h nonce (Some seen) events tells (own, text, seals, is) =
+    given h nonce (Some seen) events tells (own, text, seals, is, sure) =
         goes_either h (Takes_nonce n seen text) (Is_unkept n) events (λ may. (
           node,
           record {

@@ -37,5 +37,5 @@ returns-clause-ok g c =
     let a : Scene = scene c.args.core.now.state c.args.out.now.items (g.P.Keeper.shelf c.args.keeper.now) in
     let b : Scene = scene c.take_nonce.new.core.state c.take_nonce.new.out.items (g.P.Keeper.shelf c.take_nonce.new.keeper) in
     nonce_taken c.args.node c.in-Some.seen c.in_ok-text.text c.next.result c.args.nonce c.in_ok-take_nonce.field-0 a b
-    (ap (λ (s : NodeState). count_at s (slice_index c.args.nonce 0)) (sym c.node.ensures.value) ∙ sym c.in_ok-seen.ensures.ok ∙ c.in-Some.is) c.in_ok-text.ensures (search rules) c.in_ok-take_nonce.ensures.in_range c.in_ok-take_nonce.ensures.records c.in_ok-take_nonce.ensures.rose
+    (ap (λ (s : NodeState). count_at s (slice_index c.args.nonce 0)) (sym c.node.ensures.value) ∙ sym c.in_ok-seen.ensures.ok ∙ c.in-Some.is) c.in_ok-text.ensures (search rules) c.in_ok-take_nonce.ensures.in_range c.in_ok-take_nonce.ensures.records c.in_ok-take_nonce.ensures.rose c.in_ok-take_nonce.ensures.unasked
     (ap (λ (p : HostParts). p.state) c.in_ok-take_nonce.ensures.state) c.in_ok-take_nonce.ensures.outs c.take_nonce.ensures.never_falls

@@ -8,7 +8,7 @@ use Rattle.law_time.specs.WrongEntries.{given_up_unbegun}
 use Rattle.law_time.proofs.Computing.{computing}
 use Rattle.law_wire.proofs.Deciding.{broken, not_true}
 use Rattle.law_time.proofs.waits.rejected_waits.Goals as goal
-use Rattle.law_time.specs.WrongAttempts.{given_up_at_work, given_up_by_get, given_up_counting_earlier, given_up_counting_get, given_up_counting_other, given_up_counting_sealed, given_up_delivered, given_up_early, given_up_over_restart, given_up_succeeded, given_up_twice, given_up_late, given_up_after_line}
+use Rattle.law_time.specs.WrongAttempts.{given_up_at_work, given_up_by_get, given_up_counting_earlier, given_up_counting_get, given_up_counting_other, given_up_counting_sealed, given_up_delivered, given_up_early, given_up_over_restart, given_up_succeeded, given_up_twice, given_up_late, given_up_after_line, given_up_long_denied}
 
 pub returns-clause-two : goal.returns-clause-two
 unfolding computing
@@ -117,3 +117,7 @@ returns-clause-in_the_end c = λ law. not_true (law.in_the_end refl)
 pub returns-clause-following_line : goal.returns-clause-following_line
 unfolding computing
 returns-clause-following_line c = λ law. broken (may_give_up (heeds_of (the_switch ∷ []))) given_up_after_line refl law.between
+
+pub returns-clause-long_denied : goal.returns-clause-long_denied
+unfolding computing
+returns-clause-long_denied c = λ law. broken (may_give_up (heeds_of (the_switch ∷ []))) given_up_long_denied refl law.between
