@@ -19,8 +19,8 @@ use Rattle.inclusion.specs.Sealing.{sent_for}
 use Rattle.inclusion.specs.Messages.{message_of, nonce_named, scheme_get, scheme_report, nonce_get, nonce_report, key_set, key_set_in, temporary_key}
 use Rattle.inclusion.specs.Joining.{Joining, Joined, joiner_takes, tells_scheme, gives_nonce, takes_nonce, takes_key, takes_for, takes_message, from_host, silent}
 use Rattle.s0_crypto.proofs.SealingLemmas.{opened_is}
-use Rattle.include_world.specs.declared.flight.Heading.{Heading}
-use Rattle.include_world.specs.declared.flight.Heading.TheVariants.{Outward, Homeward}
+use Rattle.air_frames.specs.declared.frame.Heading.{Heading}
+use Rattle.air_frames.specs.declared.frame.Heading.TheVariants.{Outward, Homeward}
 use Rattle.include_world.proofs.AirFacts.{Each}
 
 -- a payload is the key, sealed for a nonce of the lock that is live while the lock has no key
