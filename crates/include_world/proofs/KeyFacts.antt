@@ -7,7 +7,7 @@ use Rattle.std.proofs.lemmas.Bool.{eq-eqb, le-leb}
 use Rattle.s0_crypto.specs.declared.key_pair.Keys.{Keys}
 use Rattle.s0_crypto.specs.declared.ends.SealEnds.{SealEnds}
 use Rattle.s0_crypto.specs.Seal.{Seals, code_of}
-use Rattle.s0_crypto.specs.Opening.{nonce_in}
+use Rattle.s0_crypto.specs.Opening.{sender_nonce_in}
 use Rattle.s0_crypto.proofs.OpeningLemmas.{good_from_seals, length-code_of, one_plain_text}
 use Rattle.s0_crypto.proofs.MessageLemmas.{length_of_layout, nonce_of_layout}
 use Rattle.s0_session.specs.declared.account.Account.{Account}
@@ -184,8 +184,8 @@ sealed_opens keys own nonce ends plain n =
     let good = good_from_seals keys own nonce ends plain (sealed_text keys own nonce ends plain) n s in
     let class : slice_index (sealed_text keys own nonce ends plain) 0 ≡ 0x98 = ap (λ l. slice_index l 0) s.layout in
     let command : slice_index (sealed_text keys own nonce ends plain) 1 ≡ 0x81 = ap (λ l. slice_index l 1) s.layout in
-    let is_own : nonce_in (sealed_text keys own nonce ends plain) ≡ own = nonce_of_layout own s.cipher_text (code_of keys (own ++ nonce) ends s.cipher_text) (slice_index nonce 0) n s.layout in
-    let again : Seals keys (nonce_in (sealed_text keys own nonce ends plain)) nonce ends plain (sealed_text keys own nonce ends plain)
+    let is_own : sender_nonce_in (sealed_text keys own nonce ends plain) ≡ own = nonce_of_layout own s.cipher_text (code_of keys (own ++ nonce) ends s.cipher_text) (slice_index nonce 0) n s.layout in
+    let again : Seals keys (sender_nonce_in (sealed_text keys own nonce ends plain)) nonce ends plain (sealed_text keys own nonce ends plain)
     = subst (λ (o : List ℕ). Seals keys o nonce ends plain (sealed_text keys own nonce ends plain)) (sym is_own) s in
     sym (opened_is keys nonce ends (sealed_text keys own nonce ends plain) plain good.coded.long class command (named_in_sealed keys own nonce ends plain n) again
     (λ o other m t. one_plain_text keys o nonce ends plain other (sealed_text keys own nonce ends plain) m (ap length is_own ∙ n) again t))
