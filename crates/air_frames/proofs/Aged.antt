@@ -67,9 +67,9 @@ module _ (log : List Mark) (state : FramesState) (of : IsOf log state) (number :
         sums : (p f s t : ℕ) → p ≡ t → f + s ≡ t → p - f ≡ s
         sums p f s t e g = omega arith
 
-    nonces_are : (peer_of state d.node).shown - found.frame.shown ≡ NewNonces log d.node number
+    nonces_are : (peer_of state d.node).nonces.shown - found.frame.shown ≡ NewNonces log d.node number
     nonces_are =
-        sums (peer_of state d.node).shown found.frame.shown (news_after d.node [] (through log number)) (NewNonces log d.node number) (news_after d.node [] log)
+        sums (peer_of state d.node).nonces.shown found.frame.shown (news_after d.node [] (through log number)) (NewNonces log d.node number) (news_after d.node [] log)
         (of.shown d.node (node_within log number d of.nodes is)) found.shown
         (ap (λ l. news_after d.node [] l) (sym (through-since log number)) ∙ news_after-append d.node [] (through log number) (since log number))
       where
@@ -96,8 +96,8 @@ module _ (log : List Mark) (state : FramesState) (of : IsOf log state) (number :
         let right : stale_in log number (Some d) ≡ stale_by d.payload (Later log d.node number) (NewNonces log d.node number) = rw no refl in
         left
         ∙ (ap (λ n. stale_of found.frame (peer_of state n)) found.node
-        ∙ (ap (λ p. stale_by p ((peer_of state d.node).begun - found.frame.begun) ((peer_of state d.node).shown - found.frame.shown)) found.payload
-        ∙ (ap (λ k. stale_by d.payload k ((peer_of state d.node).shown - found.frame.shown)) later_is
+        ∙ (ap (λ p. stale_by p ((peer_of state d.node).begun - found.frame.begun) ((peer_of state d.node).nonces.shown - found.frame.shown)) found.payload
+        ∙ (ap (λ k. stale_by d.payload k ((peer_of state d.node).nonces.shown - found.frame.shown)) later_is
         ∙ (ap (λ k. stale_by d.payload (Later log d.node number) k) nonces_are
         ∙ (sym right ∙ sym (ap (λ x. stale_in log number x) is))))))
       where

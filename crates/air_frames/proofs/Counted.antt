@@ -6,9 +6,10 @@ use Rattle.circular_buffer.specs.Buffer.{keep_last}
 use Rattle.air_frames.specs.declared.frame.Departure.{Departure}
 use Rattle.air_frames.specs.declared.frame.Heading.{Heading}
 use Rattle.air_frames.specs.declared.frame.Heading.TheVariants.{Outward, Homeward}
+use Rattle.air_frames.specs.declared.nonces.Nonces.{Nonces}
 use Rattle.air_frames.specs.declared.peer.Peer.{Peer}
-use Rattle.air_frames.specs.Nonces.{nonce_in, is_news}
-use Rattle.air_frames.specs.Peer.{no_counts, showing, showing_nonce, last_of}
+use Rattle.air_frames.specs.Nonces.{nonce_in, is_news, last_of, counting_nonce}
+use Rattle.air_frames.specs.Peer.{no_counts, showing}
 use Rattle.air_frames.specs.Flown.{flown}
 use Rattle.air_frames.specs.Frames.{FramesState, no_frames, peer_of, kept, putting, landing}
 use Rattle.air_frames.specs.History.{Mark, Goes, Begins, IsOf, begins_in, last_in, last_after, later_nonce, same_heading, news_by, news_after, new_in, stamped}
@@ -21,30 +22,26 @@ keep_from n m k xs long few =
     drop-drop (length (drop m xs) - k) m xs ∙ ap (λ i. drop i xs) e
 
 -- what a payload does to the counts
-pub showing-begun : (peer : Peer) (heading : Heading) (nonce : Option (List ℕ)) → (showing_nonce peer heading nonce).begun ≡ peer.begun
-showing-begun peer heading None = refl
-showing-begun peer Outward (Some nonce) = refl
-showing-begun peer Homeward (Some nonce) = refl
-
 one_more : (b : Bool) (k : ℕ) → (if b then k + 1 else k) ≡ k + (if b then 1 else 0)
 one_more true k = refl
 one_more false k = omega arith
 
-pub showing-shown : (peer : Peer) (heading : Heading) (nonce : Option (List ℕ)) → (showing_nonce peer heading nonce).shown ≡ peer.shown + news_by (last_of peer heading) nonce
-showing-shown peer heading None = omega arith
-showing-shown peer Outward (Some nonce) = one_more (is_news peer.outward nonce) peer.shown
-showing-shown peer Homeward (Some nonce) = one_more (is_news peer.homeward nonce) peer.shown
+counting-shown : (nonces : Nonces) (heading : Heading) (nonce : Option (List ℕ))
+    → (counting_nonce nonces heading nonce).shown ≡ nonces.shown + news_by (last_of nonces heading) nonce
+counting-shown nonces heading None = omega arith
+counting-shown nonces Outward (Some nonce) = one_more (is_news nonces.outward nonce) nonces.shown
+counting-shown nonces Homeward (Some nonce) = one_more (is_news nonces.homeward nonce) nonces.shown
 
-pub showing-last : (peer : Peer) (heading other : Heading) (nonce : Option (List ℕ))
-    → last_of (showing_nonce peer heading nonce) other ≡ (if same_heading heading other then later_nonce nonce (last_of peer other) else last_of peer other)
-showing-last peer Outward Outward None = refl
-showing-last peer Outward Homeward None = refl
-showing-last peer Homeward Outward None = refl
-showing-last peer Homeward Homeward None = refl
-showing-last peer Outward Outward (Some nonce) = refl
-showing-last peer Outward Homeward (Some nonce) = refl
-showing-last peer Homeward Outward (Some nonce) = refl
-showing-last peer Homeward Homeward (Some nonce) = refl
+counting-last : (nonces : Nonces) (heading other : Heading) (nonce : Option (List ℕ))
+    → last_of (counting_nonce nonces heading nonce) other ≡ (if same_heading heading other then later_nonce nonce (last_of nonces other) else last_of nonces other)
+counting-last nonces Outward Outward None = refl
+counting-last nonces Outward Homeward None = refl
+counting-last nonces Homeward Outward None = refl
+counting-last nonces Homeward Homeward None = refl
+counting-last nonces Outward Outward (Some nonce) = refl
+counting-last nonces Outward Homeward (Some nonce) = refl
+counting-last nonces Homeward Outward (Some nonce) = refl
+counting-last nonces Homeward Homeward (Some nonce) = refl
 
 -- the next frame has arrived
 pub IsOf-lands : (log : List Mark) (state : FramesState) → state.landed < state.sent → IsOf log state → IsOf log (landing state)
@@ -74,25 +71,25 @@ module _ (log : List Mark) (state : FramesState) (d : Departure) (within : d.nod
   more = log ++ Goes d ∷ []
 
   begun_now : counted.begun ≡ begins_in d.node log
-  begun_now = showing-begun peer d.heading (nonce_in d.payload) ∙ old.begun d.node within
+  begun_now = old.begun d.node within
 
   news_one : (node : ℕ) → news_after node [] more ≡ news_after node [] log + (new_in node log d + 0)
   news_one node = news_after-append node [] log (Goes d ∷ [])
 
-  own_new : new_in d.node log d ≡ news_by (last_of peer d.heading) (nonce_in d.payload)
+  own_new : new_in d.node log d ≡ news_by (last_of peer.nonces d.heading) (nonce_in d.payload)
   own_new = own (eqb_tells d.node d.node)
     where
-      own : (((d.node == d.node) ≡ true) × (d.node ≡ d.node)) ⊎ (((d.node == d.node) ≡ false) × (d.node ≢ d.node)) → new_in d.node log d ≡ news_by (last_of peer d.heading) (nonce_in d.payload)
+      own : (((d.node == d.node) ≡ true) × (d.node ≡ d.node)) ⊎ (((d.node == d.node) ≡ false) × (d.node ≢ d.node)) → new_in d.node log d ≡ news_by (last_of peer.nonces d.heading) (nonce_in d.payload)
       own (inl (e, same)) = rw e (ap (λ l. news_by l (nonce_in d.payload)) (sym (old.last d.node d.heading within)))
       own (inr (e, other)) = absurd (other refl)
 
-  shown_now : counted.shown ≡ news_after d.node [] more
+  shown_now : counted.nonces.shown ≡ news_after d.node [] more
   shown_now =
-      let e = showing-shown peer d.heading (nonce_in d.payload) in
+      let e = counting-shown peer.nonces d.heading (nonce_in d.payload) in
       let f = old.shown d.node within in
       let g = news_one d.node in
       let h = own_new in
-      sums counted.shown peer.shown (news_by (last_of peer d.heading) (nonce_in d.payload)) (news_after d.node [] log) (news_after d.node [] more) (new_in d.node log d) e f g h
+      sums counted.nonces.shown peer.nonces.shown (news_by (last_of peer.nonces d.heading) (nonce_in d.payload)) (news_after d.node [] log) (news_after d.node [] more) (new_in d.node log d) e f g h
     where
       sums : (a b c e f g : ℕ) → a ≡ b + c → b ≡ e → f ≡ e + (g + 0) → g ≡ c → a ≡ f
       sums a b c e f g p q r s = omega arith
@@ -137,32 +134,32 @@ module _ (log : List Mark) (state : FramesState) (d : Departure) (within : d.nod
       by (inl (e, same)) = subst (λ (n : ℕ). (get_or peers n no_counts).begun ≡ begins_in n log) same (ap (λ (p : Peer). p.begun) at_own ∙ begun_now) ∙ sym same_count
       by (inr (e, other)) = ap (λ (p : Peer). p.begun) (at_other node other) ∙ (old.begun node fits ∙ sym same_count)
 
-  shown_all : (node : ℕ) → node < 233 → (get_or peers node no_counts).shown ≡ news_after node [] more
+  shown_all : (node : ℕ) → node < 233 → (get_or peers node no_counts).nonces.shown ≡ news_after node [] more
   shown_all node fits = by (eqb_tells d.node node)
     where
-      by : (((d.node == node) ≡ true) × (d.node ≡ node)) ⊎ (((d.node == node) ≡ false) × (d.node ≢ node)) → (get_or peers node no_counts).shown ≡ news_after node [] more
-      by (inl (e, same)) = subst (λ (n : ℕ). (get_or peers n no_counts).shown ≡ news_after n [] more) same (ap (λ (p : Peer). p.shown) at_own ∙ shown_now)
+      by : (((d.node == node) ≡ true) × (d.node ≡ node)) ⊎ (((d.node == node) ≡ false) × (d.node ≢ node)) → (get_or peers node no_counts).nonces.shown ≡ news_after node [] more
+      by (inl (e, same)) = subst (λ (n : ℕ). (get_or peers n no_counts).nonces.shown ≡ news_after n [] more) same (ap (λ (p : Peer). p.nonces.shown) at_own ∙ shown_now)
       by (inr (e, other)) =
           let none : new_in node log d ≡ 0 = rw e refl in
           let z : (a b c : ℕ) → a ≡ b + (c + 0) → c ≡ 0 → b ≡ a = λ a b c p q. omega arith in
-          ap (λ (p : Peer). p.shown) (at_other node other) ∙ (old.shown node fits ∙ z (news_after node [] more) (news_after node [] log) (new_in node log d) (news_one node) none)
+          ap (λ (p : Peer). p.nonces.shown) (at_other node other) ∙ (old.shown node fits ∙ z (news_after node [] more) (news_after node [] log) (new_in node log d) (news_one node) none)
 
-  last_all : (node : ℕ) (heading : Heading) → node < 233 → last_of (get_or peers node no_counts) heading ≡ last_in node heading None more
+  last_all : (node : ℕ) (heading : Heading) → node < 233 → last_of (get_or peers node no_counts).nonces heading ≡ last_in node heading None more
   last_all node heading fits = by (eqb_tells d.node node)
     where
       goes_on : last_in node heading None more ≡ last_after node heading d (last_in node heading None log)
       goes_on = last_in-append node heading None log (Goes d ∷ [])
 
-      by : (((d.node == node) ≡ true) × (d.node ≡ node)) ⊎ (((d.node == node) ≡ false) × (d.node ≢ node)) → last_of (get_or peers node no_counts) heading ≡ last_in node heading None more
+      by : (((d.node == node) ≡ true) × (d.node ≡ node)) ⊎ (((d.node == node) ≡ false) × (d.node ≢ node)) → last_of (get_or peers node no_counts).nonces heading ≡ last_in node heading None more
       by (inl (e, same)) =
-          let own : last_of (get_or peers d.node no_counts) heading ≡ (if same_heading d.heading heading then later_nonce (nonce_in d.payload) (last_of peer heading) else last_of peer heading) =
-          ap (λ (p : Peer). last_of p heading) at_own ∙ showing-last peer d.heading heading (nonce_in d.payload) in
-          subst (λ (n : ℕ). last_of (get_or peers n no_counts) heading ≡ (if same_heading d.heading heading then later_nonce (nonce_in d.payload) (last_of (get_or state.peers n no_counts) heading) else last_of (get_or state.peers n no_counts) heading)) same own
+          let own : last_of (get_or peers d.node no_counts).nonces heading ≡ (if same_heading d.heading heading then later_nonce (nonce_in d.payload) (last_of peer.nonces heading) else last_of peer.nonces heading) =
+          ap (λ (p : Peer). last_of p.nonces heading) at_own ∙ counting-last peer.nonces d.heading heading (nonce_in d.payload) in
+          subst (λ (n : ℕ). last_of (get_or peers n no_counts).nonces heading ≡ (if same_heading d.heading heading then later_nonce (nonce_in d.payload) (last_of (get_or state.peers n no_counts).nonces heading) else last_of (get_or state.peers n no_counts).nonces heading)) same own
           ∙ (ap (λ (l : Option (List ℕ)). if same_heading d.heading heading then later_nonce (nonce_in d.payload) l else l) (old.last node heading fits)
           ∙ (let step : (if same_heading d.heading heading then later_nonce (nonce_in d.payload) (last_in node heading None log) else last_in node heading None log) ≡ last_after node heading d (last_in node heading None log) = rw e refl in step ∙ sym goes_on))
       by (inr (e, other)) =
           let step : last_after node heading d (last_in node heading None log) ≡ last_in node heading None log = rw e refl in
-          ap (λ (p : Peer). last_of p heading) (at_other node other) ∙ (old.last node heading fits ∙ sym (goes_on ∙ step))
+          ap (λ (p : Peer). last_of p.nonces heading) (at_other node other) ∙ (old.last node heading fits ∙ sym (goes_on ∙ step))
 
   -- a frame goes on the air
   pub IsOf-goes : IsOf (log ++ Goes d ∷ []) (putting state d)
@@ -187,7 +184,7 @@ nobody_counted node = all 233 node
     all (suc k) zero = refl
     all (suc k) (suc i) = all k i
 
-nobody_last : (heading : Heading) → last_of no_counts heading ≡ None
+nobody_last : (heading : Heading) → last_of no_counts.nonces heading ≡ None
 nobody_last Outward = refl
 nobody_last Homeward = refl
 
@@ -199,8 +196,8 @@ IsOf-first = record {
   frames = refl;
   peers = length-replicate 233 no_counts;
   begun = λ node fits. ap (λ (p : Peer). p.begun) (nobody_counted node);
-  shown = λ node fits. ap (λ (p : Peer). p.shown) (nobody_counted node);
-  last = λ node heading fits. ap (λ (p : Peer). last_of p heading) (nobody_counted node) ∙ nobody_last heading;
+  shown = λ node fits. ap (λ (p : Peer). p.nonces.shown) (nobody_counted node);
+  last = λ node heading fits. ap (λ (p : Peer). last_of p.nonces heading) (nobody_counted node) ∙ nobody_last heading;
   nodes = tt;
 }
 
@@ -214,10 +211,6 @@ module _ (log : List Mark) (state : FramesState) (node sessions : ℕ) (within :
 
   abbrev after : Peer
   after = record (peer_of state node) { begun = sessions }
-
-  after_last : (heading : Heading) → last_of after heading ≡ last_of (peer_of state node) heading
-  after_last Outward = refl
-  after_last Homeward = refl
 
   at_node : get_or (set state.peers node after) node no_counts ≡ after
   at_node = let p = old.peers in let w : node < length state.peers = omega arith in get_or-set_same state.peers node after no_counts w
@@ -249,22 +242,22 @@ module _ (log : List Mark) (state : FramesState) (node sessions : ℕ) (within :
           let sums : (k t : ℕ) → t ≡ 0 → k ≡ k + t = λ k t p. omega arith in
           ap (λ (p : Peer). p.begun) (at_others other apart) ∙ (old.begun other fits ∙ (sums (begins_in other log) (begins_in other begins) none ∙ sym (begins_in-append other log begins)))
 
-  shown_then : (other : ℕ) → other < 233 → (get_or (set state.peers node after) other no_counts).shown ≡ news_after other [] (log ++ begins)
+  shown_then : (other : ℕ) → other < 233 → (get_or (set state.peers node after) other no_counts).nonces.shown ≡ news_after other [] (log ++ begins)
   shown_then other fits = by (eqb_tells node other)
     where
-      by : (((node == other) ≡ true) × (node ≡ other)) ⊎ (((node == other) ≡ false) × (node ≢ other)) → (get_or (set state.peers node after) other no_counts).shown ≡ news_after other [] (log ++ begins)
-      by (inl (e, same)) = subst (λ (n : ℕ). (get_or (set state.peers node after) n no_counts).shown ≡ news_after n [] log) same (ap (λ (p : Peer). p.shown) at_node ∙ old.shown node within) ∙ sym (no_news other)
-      by (inr (e, apart)) = ap (λ (p : Peer). p.shown) (at_others other apart) ∙ (old.shown other fits ∙ sym (no_news other))
+      by : (((node == other) ≡ true) × (node ≡ other)) ⊎ (((node == other) ≡ false) × (node ≢ other)) → (get_or (set state.peers node after) other no_counts).nonces.shown ≡ news_after other [] (log ++ begins)
+      by (inl (e, same)) = subst (λ (n : ℕ). (get_or (set state.peers node after) n no_counts).nonces.shown ≡ news_after n [] log) same (ap (λ (p : Peer). p.nonces.shown) at_node ∙ old.shown node within) ∙ sym (no_news other)
+      by (inr (e, apart)) = ap (λ (p : Peer). p.nonces.shown) (at_others other apart) ∙ (old.shown other fits ∙ sym (no_news other))
 
-  last_then : (other : ℕ) (heading : Heading) → other < 233 → last_of (get_or (set state.peers node after) other no_counts) heading ≡ last_in other heading None (log ++ begins)
+  last_then : (other : ℕ) (heading : Heading) → other < 233 → last_of (get_or (set state.peers node after) other no_counts).nonces heading ≡ last_in other heading None (log ++ begins)
   last_then other heading fits = by (eqb_tells node other)
     where
-      by : (((node == other) ≡ true) × (node ≡ other)) ⊎ (((node == other) ≡ false) × (node ≢ other)) → last_of (get_or (set state.peers node after) other no_counts) heading ≡ last_in other heading None (log ++ begins)
+      by : (((node == other) ≡ true) × (node ≡ other)) ⊎ (((node == other) ≡ false) × (node ≢ other)) → last_of (get_or (set state.peers node after) other no_counts).nonces heading ≡ last_in other heading None (log ++ begins)
       by (inl (e, same)) =
-          subst (λ (n : ℕ). last_of (get_or (set state.peers node after) n no_counts) heading ≡ last_in n heading None log) same
-          (ap (λ (p : Peer). last_of p heading) at_node ∙ (after_last heading ∙ old.last node heading within))
+          subst (λ (n : ℕ). last_of (get_or (set state.peers node after) n no_counts).nonces heading ≡ last_in n heading None log) same
+          (ap (λ (p : Peer). last_of p.nonces heading) at_node ∙ old.last node heading within)
           ∙ sym (same_last other heading)
-      by (inr (e, apart)) = ap (λ (p : Peer). last_of p heading) (at_others other apart) ∙ (old.last other heading fits ∙ sym (same_last other heading))
+      by (inr (e, apart)) = ap (λ (p : Peer). last_of p.nonces heading) (at_others other apart) ∙ (old.last other heading fits ∙ sym (same_last other heading))
 
   pub IsOf-begins : IsOf (log ++ begins) (record state { peers = set state.peers node after })
   IsOf-begins = record {

@@ -8,9 +8,10 @@ use Rattle.circular_buffer.specs.Buffer.{keep_last}
 use Rattle.air_frames.specs.declared.frame.Heading.{Heading}
 use Rattle.air_frames.specs.declared.frame.Heading.TheVariants.{Outward, Homeward}
 use Rattle.air_frames.specs.declared.frame.Departure.{Departure}
+use Rattle.air_frames.specs.declared.nonces.Nonces.{Nonces}
 use Rattle.air_frames.specs.declared.peer.Peer.{Peer}
-use Rattle.air_frames.specs.Nonces.{nonce_in, is_news}
-use Rattle.air_frames.specs.Peer.{no_counts, showing, showing_nonce}
+use Rattle.air_frames.specs.Nonces.{nonce_in, is_news, counting_nonce}
+use Rattle.air_frames.specs.Peer.{no_counts, showing}
 use Rattle.air_frames.specs.Flown.{Flown, flown}
 use Rattle.air_frames.specs.Frames.{kept, pushed_out, no_frames, putting, landing}
 
@@ -105,25 +106,25 @@ put_state s l late ring late' ring' peers departure shown frame order full apart
     ∙ ap (λ (p : Peer). record { sent = s + 1; landed = l; frames = keep_last (kept (s + 1) l) ((late ++ ring) ++ flown departure p ∷ []); peers = set peers departure.node p }) counted
 
 -- no count of nonces passes the number of frames
-shown_more : (peer : Peer) (heading : Heading) (nonce : Option (List ℕ)) (s : ℕ) → peer.shown ≤ s → (showing_nonce peer heading nonce).shown ≤ s + 1
-shown_more peer heading None s few = omega arith
-shown_more peer Outward (Some nonce) s few = by (is_news peer.outward nonce)
+shown_more : (nonces : Nonces) (heading : Heading) (nonce : Option (List ℕ)) (s : ℕ) → nonces.shown ≤ s → (counting_nonce nonces heading nonce).shown ≤ s + 1
+shown_more nonces heading None s few = omega arith
+shown_more nonces Outward (Some nonce) s few = by (is_news nonces.outward nonce)
   where
-    by : (b : Bool) → (if b then peer.shown + 1 else peer.shown) ≤ s + 1
+    by : (b : Bool) → (if b then nonces.shown + 1 else nonces.shown) ≤ s + 1
     by true = omega arith
     by false = omega arith
-shown_more peer Homeward (Some nonce) s few = by (is_news peer.homeward nonce)
+shown_more nonces Homeward (Some nonce) s few = by (is_news nonces.homeward nonce)
   where
-    by : (b : Bool) → (if b then peer.shown + 1 else peer.shown) ≤ s + 1
+    by : (b : Bool) → (if b then nonces.shown + 1 else nonces.shown) ≤ s + 1
     by true = omega arith
     by false = omega arith
 
-pub put_counts : (peers : List Peer) (node s : ℕ) (shown : Peer) (heading : Heading) (payload : List ℕ) → node < length peers → All (λ peer. peer.shown ≤ s) peers
-    → shown ≡ showing (get_or peers node no_counts) heading payload → All (λ peer. peer.shown ≤ s + 1) (set peers node shown)
+pub put_counts : (peers : List Peer) (node s : ℕ) (shown : Peer) (heading : Heading) (payload : List ℕ) → node < length peers → All (λ peer. peer.nonces.shown ≤ s) peers
+    → shown ≡ showing (get_or peers node no_counts) heading payload → All (λ peer. peer.nonces.shown ≤ s + 1) (set peers node shown)
 put_counts peers node s shown heading payload within few counted =
-    All-set (λ (peer : Peer). peer.shown ≤ s + 1) peers node shown
-    (subst (λ (peer : Peer). peer.shown ≤ s + 1) (sym counted) (shown_more (get_or peers node no_counts) heading (nonce_in payload) s (All-get_or (λ (peer : Peer). peer.shown ≤ s) peers node no_counts within few)))
-    (All-weaker (λ (peer : Peer). peer.shown ≤ s) (λ (peer : Peer). peer.shown ≤ s + 1) (λ peer h. omega arith) peers few)
+    All-set (λ (peer : Peer). peer.nonces.shown ≤ s + 1) peers node shown
+    (subst (λ (peer : Peer). peer.nonces.shown ≤ s + 1) (sym counted) (shown_more (get_or peers node no_counts).nonces heading (nonce_in payload) s (All-get_or (λ (peer : Peer). peer.nonces.shown ≤ s) peers node no_counts within few)))
+    (All-weaker (λ (peer : Peer). peer.nonces.shown ≤ s) (λ (peer : Peer). peer.nonces.shown ≤ s + 1) (λ peer h. omega arith) peers few)
 
 -- the counts of the node of a departure, as they are read and changed
 pub shown_of : (peers : List Peer) (node read_at : ℕ) (read shown : Peer) (heading : Heading) (payload bytes : List ℕ) → read_at ≡ node → node < length peers

@@ -19,7 +19,7 @@ stale_by payload later nonces =
 
 -- the same by the counts of the frame and of its node
 abbrev pub stale_of : Flown → Peer → Option Refusal
-stale_of frame peer = stale_by frame.payload (peer.begun - frame.begun) (peer.shown - frame.shown)
+stale_of frame peer = stale_by frame.payload (peer.begun - frame.begun) (peer.nonces.shown - frame.shown)
 
 abbrev pub stale_if : FramesState → Option Flown → Option Refusal
 stale_if state None = Some Forgotten

@@ -31,5 +31,5 @@ flown departure peer = record {
   lost = departure.lost;
   payload = departure.payload;
   begun = peer.begun;
-  shown = peer.shown;
+  shown = peer.nonces.shown;
 }

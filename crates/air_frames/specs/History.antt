@@ -6,8 +6,7 @@ use Rattle.air_frames.specs.declared.ages.Refusal.TheVariants.{NeverSent, Forgot
 use Rattle.air_frames.specs.declared.frame.Departure.{Departure}
 use Rattle.air_frames.specs.declared.frame.Heading.{Heading}
 use Rattle.air_frames.specs.declared.frame.Heading.TheVariants.{Outward, Homeward}
-use Rattle.air_frames.specs.Nonces.{nonce_in, is_news}
-use Rattle.air_frames.specs.Peer.{last_of}
+use Rattle.air_frames.specs.Nonces.{nonce_in, is_news, last_of}
 use Rattle.air_frames.specs.Flown.{Flown}
 use Rattle.air_frames.specs.Frames.{FramesState, peer_of, kept}
 use Rattle.air_frames.specs.Ages.{stale_by}
@@ -124,8 +123,8 @@ pub record IsOf (log : List Mark) (state : FramesState) : Type 0 where
   pub frames : state.frames ≡ drop (state.sent - kept state.sent state.landed) (stamped [] log)
   pub peers : length state.peers ≡ 233
   pub begun : (node : ℕ) → node < 233 → (peer_of state node).begun ≡ begins_in node log
-  pub shown : (node : ℕ) → node < 233 → (peer_of state node).shown ≡ news_after node [] log
-  pub last : (node : ℕ) (heading : Heading) → node < 233 → last_of (peer_of state node) heading ≡ last_in node heading None log
+  pub shown : (node : ℕ) → node < 233 → (peer_of state node).nonces.shown ≡ news_after node [] log
+  pub last : (node : ℕ) (heading : Heading) → node < 233 → last_of (peer_of state node).nonces heading ≡ last_in node heading None log
   pub nodes : GoBetweenNodes log
 
 -- why the frame of a number, counted from 1, is not repeated, by the whole history

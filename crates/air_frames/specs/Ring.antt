@@ -21,4 +21,4 @@ pub record IsKept (f : Inside) : Type 0 where
   pub capacity : f.ring.capacity ≡ 4097
   pub late : length f.late.items ≡ (f.sent - f.landed) - 4097
   pub peers : length f.peers.items ≡ 233
-  pub counts : All (λ peer. peer.shown ≤ f.sent) f.peers.items
+  pub counts : All (λ peer. peer.nonces.shown ≤ f.sent) f.peers.items

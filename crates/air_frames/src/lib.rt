@@ -11,6 +11,7 @@ mod ages;
 mod frame;
 mod frames;
 mod laws;
+mod nonces;
 mod peer;
 
 pub use ages::{
@@ -19,4 +20,5 @@ pub use ages::{
 pub use frame::{Departure, Frame, Heading};
 pub use frames::{Frames, KEPT_FRAMES};
 pub use laws::{ages_are_those_of_the_history, what_is_kept_is_of_the_history};
-pub use peer::{Peer, is_new, nonce_of};
+pub use nonces::{Nonces, is_new, nonce_of};
+pub use peer::Peer;

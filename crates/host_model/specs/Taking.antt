@@ -24,7 +24,7 @@ use Rattle.supervision.specs.declared.host_node.Told.{Told as TheTold}
 use Rattle.supervision.specs.declared.host_node.Told.TheVariants as told
 use Rattle.s0_crypto.specs.declared.ends.SealEnds.{SealEnds}
 use Rattle.s0_crypto.specs.Seal.{Seals}
-use Rattle.s0_crypto.specs.Opening.{nonce_in, IsGood}
+use Rattle.s0_crypto.specs.Opening.{sender_nonce_in, IsGood}
 use Rattle.s0_session.specs.Nonces.{live_of}
 use Rattle.value_store.specs.Values.{count_with}
 use Rattle.host_requests.specs.Events.{RequestsEvent, interviewed_by}
@@ -148,13 +148,13 @@ ends_from n = record { sender = n; receiver = 1 }
 -- with that nonce it opens to a plain text that tells these messages
 pub record OpensTo (h : HostState) (n : ℕ) (nonce payload : List ℕ) (messages : List Told) : Type 0 where
   pub plain : List ℕ
-  pub seals : Seals h.keys (nonce_in payload) nonce (ends_from n) plain payload
+  pub seals : Seals h.keys (sender_nonce_in payload) nonce (ends_from n) plain payload
   pub tells : heard_at plain ≡ Messages messages
 
 -- it opens to a plain text that cannot be read
 pub record OpensUnread (h : HostState) (n : ℕ) (nonce payload : List ℕ) : Type 0 where
   pub plain : List ℕ
-  pub seals : Seals h.keys (nonce_in payload) nonce (ends_from n) plain payload
+  pub seals : Seals h.keys (sender_nonce_in payload) nonce (ends_from n) plain payload
   pub untold : (messages : List Told) → heard_at plain ≢ Messages messages
 
 -- it tells nothing: it does not open, or to what cannot be read

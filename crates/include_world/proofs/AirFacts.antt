@@ -3,14 +3,12 @@ use Rattle.std.proofs.Common.{◌≡◌, ℕ, ◌+◌, ◌-◌, ◌<◌, ◌≤�
 use Rattle.std.proofs.lemmas.List.{get_or_append_left, get_or_at, get_or-set_same, get_or-set_other, get_or_past, set_past}
 use Rattle.std.proofs.Math.ListN.{length-set}
 use Rattle.std.proofs.lemmas.Bool.{cases_lt, cases_eq, ltb-false, eqb-false, leb-false, true≢false}
-use Rattle.air_frames.specs.Nonces.{nonce_in}
 use Rattle.include_text.specs.declared.entry.IncludeRefusal.{IncludeRefusal}
-use Rattle.include_world.specs.declared.flight.Heading.{Heading}
-use Rattle.include_world.specs.declared.flight.Heading.TheVariants.{Outward, Homeward}
+use Rattle.air_frames.specs.declared.frame.Heading.{Heading}
 use Rattle.include_world.specs.declared.flight.Flight.{Flight}
 use Rattle.include_world.specs.declared.flight.Pair.{Pair}
 use Rattle.include_world.specs.declared.air.Coming.{Coming}
-use Rattle.include_world.specs.Air.{AirState, pair_of, flight, departing, sending, showing, showing_nonce, no_counts, no_flight, frame_at, flight_at, heard_if, is_forgotten, arriving, refusal_of, forgetting}
+use Rattle.include_world.specs.Air.{AirState, pair_of, flight, departing, sending, showing, no_counts, no_flight, frame_at, flight_at, heard_if, is_forgotten, arriving, refusal_of, forgetting}
 
 -- each of some has it
 abbrev pub Each : {A : Type 0} → (A → Type 0) → List A → Type 0
@@ -26,11 +24,6 @@ pub frames_map : (node : ℕ) (P Q : Heading → List ℕ → Type 0) (air : Air
 frames_map node P Q air f all i within is_node kept = f (get_or air.frames i no_flight).heading (get_or air.frames i no_flight).payload (all i within is_node kept)
 
 -- the counts of a node that keep how far its frames are forgotten
-keeps_forgotten : (pair : Pair) (heading : Heading) (o : Option (List ℕ)) → (showing_nonce pair heading o).forgotten ≡ pair.forgotten
-keeps_forgotten pair heading None = refl
-keeps_forgotten pair Outward (Some nonce) = refl
-keeps_forgotten pair Homeward (Some nonce) = refl
-
 pair_written : (pairs : List Pair) (at node : ℕ) (new : Pair) → new.forgotten ≡ (get_or pairs at no_counts).forgotten → (get_or (set pairs at new) node no_counts).forgotten ≡ (get_or pairs node no_counts).forgotten
 pair_written pairs at node new same = ⊎_elim
     (λ e. subst (λ (n : ℕ). (get_or (set pairs at new) n no_counts).forgotten ≡ (get_or pairs n no_counts).forgotten) (sym e) (here pairs at new same))
@@ -45,7 +38,7 @@ pair_written pairs at node new same = ⊎_elim
 
 pub departing_forgotten : (air : AirState) (at : ℕ) (heading : Heading) (payload : List ℕ) (node : ℕ) → (pair_of (departing air at heading payload) node).forgotten ≡ (pair_of air node).forgotten
 unfolding departing
-departing_forgotten air at heading payload node = pair_written air.pairs at node (showing (pair_of air at) heading payload) (keeps_forgotten (pair_of air at) heading (nonce_in payload))
+departing_forgotten air at heading payload node = pair_written air.pairs at node (showing (pair_of air at) heading payload) refl
 
 appended : (node : ℕ) (P : Heading → List ℕ → Type 0) (frames : List Flight) (new : Flight) (kept : ℕ → Type 0)
     → ((i : ℕ) → i < length frames → (get_or frames i no_flight).node ≡ node → kept i → P (get_or frames i no_flight).heading (get_or frames i no_flight).payload)

@@ -10,8 +10,8 @@ use Rattle.include_text.specs.declared.entry.IncludeRefusal.TheVariants.{Secure 
 use Rattle.inclusion.specs.declared.exchange.Exchange.{Exchange}
 use Rattle.inclusion.specs.Messages.{scheme_get}
 use Rattle.std.proofs.lemmas.Bool.{cond_both}
-use Rattle.include_world.specs.declared.flight.Heading.TheVariants.{Outward, Homeward}
-use Rattle.include_world.specs.declared.flight.Heading.{Heading}
+use Rattle.air_frames.specs.declared.frame.Heading.TheVariants.{Outward, Homeward}
+use Rattle.air_frames.specs.declared.frame.Heading.{Heading}
 use Rattle.include_world.specs.declared.air.Coming.{Coming}
 use Rattle.inclusion.specs.Joining.{joiner_takes}
 use Rattle.inclusion.specs.Including.{includer_takes, is_secure}

@@ -16,7 +16,7 @@ use Rattle.inclusion.specs.Sealing.{sealer_by, sent_by}
 use Rattle.inclusion.specs.Messages.{message_of, nonce_named, key_set, temporary_key}
 use Rattle.inclusion.specs.Joining.{Joining, from_host}
 use Rattle.inclusion.specs.Including.{Including, Included, quiet, is_secure, asking, asks, has_asked, takes_scheme, gives_nonce, takes_nonce, takes_message, includer_takes, is_with, is_verified, held_in, verified, spending}
-use Rattle.include_world.specs.declared.flight.Heading.TheVariants.{Outward, Homeward}
+use Rattle.air_frames.specs.declared.frame.Heading.TheVariants.{Outward, Homeward}
 use Rattle.include_world.proofs.AirFacts.{Each}
 use Rattle.include_world.proofs.KeyFacts.{Tells, HomeIs, Sets, out_asks, out_reports, out_sets}
 

@@ -7,7 +7,7 @@ use Rattle.std.proofs.lemmas.Bool.{eq-eqb, le-leb}
 use Rattle.s0_crypto.specs.declared.key_pair.Keys.{Keys}
 use Rattle.s0_crypto.specs.declared.ends.SealEnds.{SealEnds}
 use Rattle.s0_crypto.specs.Seal.{Seals, code_of}
-use Rattle.s0_crypto.specs.Opening.{nonce_in}
+use Rattle.s0_crypto.specs.Opening.{sender_nonce_in}
 use Rattle.s0_crypto.proofs.OpeningLemmas.{good_from_seals, length-code_of, one_plain_text}
 use Rattle.s0_crypto.proofs.MessageLemmas.{length_of_layout, nonce_of_layout}
 use Rattle.s0_session.specs.declared.account.Account.{Account}
@@ -19,8 +19,8 @@ use Rattle.inclusion.specs.Sealing.{sent_for}
 use Rattle.inclusion.specs.Messages.{message_of, nonce_named, scheme_get, scheme_report, nonce_get, nonce_report, key_set, key_set_in, temporary_key}
 use Rattle.inclusion.specs.Joining.{Joining, Joined, joiner_takes, tells_scheme, gives_nonce, takes_nonce, takes_key, takes_for, takes_message, from_host, silent}
 use Rattle.s0_crypto.proofs.SealingLemmas.{opened_is}
-use Rattle.include_world.specs.declared.flight.Heading.{Heading}
-use Rattle.include_world.specs.declared.flight.Heading.TheVariants.{Outward, Homeward}
+use Rattle.air_frames.specs.declared.frame.Heading.{Heading}
+use Rattle.air_frames.specs.declared.frame.Heading.TheVariants.{Outward, Homeward}
 use Rattle.include_world.proofs.AirFacts.{Each}
 
 -- a payload is the key, sealed for a nonce of the lock that is live while the lock has no key
@@ -184,8 +184,8 @@ sealed_opens keys own nonce ends plain n =
     let good = good_from_seals keys own nonce ends plain (sealed_text keys own nonce ends plain) n s in
     let class : slice_index (sealed_text keys own nonce ends plain) 0 ≡ 0x98 = ap (λ l. slice_index l 0) s.layout in
     let command : slice_index (sealed_text keys own nonce ends plain) 1 ≡ 0x81 = ap (λ l. slice_index l 1) s.layout in
-    let is_own : nonce_in (sealed_text keys own nonce ends plain) ≡ own = nonce_of_layout own s.cipher_text (code_of keys (own ++ nonce) ends s.cipher_text) (slice_index nonce 0) n s.layout in
-    let again : Seals keys (nonce_in (sealed_text keys own nonce ends plain)) nonce ends plain (sealed_text keys own nonce ends plain)
+    let is_own : sender_nonce_in (sealed_text keys own nonce ends plain) ≡ own = nonce_of_layout own s.cipher_text (code_of keys (own ++ nonce) ends s.cipher_text) (slice_index nonce 0) n s.layout in
+    let again : Seals keys (sender_nonce_in (sealed_text keys own nonce ends plain)) nonce ends plain (sealed_text keys own nonce ends plain)
     = subst (λ (o : List ℕ). Seals keys o nonce ends plain (sealed_text keys own nonce ends plain)) (sym is_own) s in
     sym (opened_is keys nonce ends (sealed_text keys own nonce ends plain) plain good.coded.long class command (named_in_sealed keys own nonce ends plain n) again
     (λ o other m t. one_plain_text keys o nonce ends plain other (sealed_text keys own nonce ends plain) m (ap length is_own ∙ n) again t))

@@ -4,8 +4,8 @@ use Rattle.std.specs.List.{flat_map}
 use Rattle.std.proofs.lemmas.Grind.{flat_map-append}
 use Rattle.std.proofs.lemmas.Bool.{eq-eqb, ne_eqb}
 use Rattle.include_text.specs.declared.entry.IncludeEntry.{IncludeEntry}
-use Rattle.include_world.specs.declared.flight.Heading.{Heading}
-use Rattle.include_world.specs.declared.flight.Heading.TheVariants.{Outward, Homeward}
+use Rattle.air_frames.specs.declared.frame.Heading.{Heading}
+use Rattle.air_frames.specs.declared.frame.Heading.TheVariants.{Outward, Homeward}
 use Rattle.include_world.specs.Air.{AirState, air_entry, sent_entries, departing}
 use Rattle.include_world.specs.World.{key_entries, secure_entries}
 use Rattle.include_world.specs.Added.{Word, IsSecure, HasFailed, WasReset, of_node, word_in, key_in}

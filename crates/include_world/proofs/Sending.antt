@@ -4,11 +4,12 @@ use Rattle.std.proofs.lemmas.List.{append-nil, get_or-set_same, get_or_past}
 use Rattle.std.proofs.Math.ListN.{length-set}
 use Rattle.std.proofs.lemmas.Bool.{cases_lt, cond_both}
 use Rattle.include_text.specs.declared.entry.IncludeEntry.{IncludeEntry}
-use Rattle.include_world.specs.declared.flight.Heading.{Heading}
-use Rattle.include_world.specs.declared.flight.Heading.TheVariants.{Outward, Homeward}
+use Rattle.air_frames.specs.declared.frame.Heading.{Heading}
+use Rattle.air_frames.specs.declared.frame.Heading.TheVariants.{Outward, Homeward}
 use Rattle.include_world.specs.declared.flight.Pair.{Pair}
-use Rattle.air_frames.specs.Nonces.{nonce_in, is_news}
-use Rattle.include_world.specs.Air.{AirState, departing, sending, sent_entries, air_entry, flight, pair_of, showing, showing_nonce, no_counts}
+use Rattle.air_frames.specs.declared.nonces.Nonces.{Nonces}
+use Rattle.air_frames.specs.Nonces.{nonce_in, is_news, counting_nonce}
+use Rattle.include_world.specs.Air.{AirState, departing, sending, sent_entries, air_entry, flight, pair_of, showing, no_counts}
 
 -- what is left from a place on begins with what stands there
 rest_at : {A : Type 0} (xs : List A) (i : ℕ) (x : A) → slice_get xs i ≡ Some x → drop i xs ≡ x ∷ drop (i + 1) xs
@@ -64,27 +65,27 @@ sending_grows air node heading (payload ∷ more) =
     record { landed = rest.landed ∙ first.landed; frames = omega (arith, first.frames, rest.frames) }
 
 -- a frame shows at most one nonce
-shows_one : (pair : Pair) (heading : Heading) (o : Option (List ℕ)) → (showing_nonce pair heading o).shown ≤ pair.shown + 1
-shows_one pair heading None = omega arith
-shows_one pair Outward (Some nonce) = cond_both (is_news pair.outward nonce) (pair.shown + 1) pair.shown (λ n. n ≤ pair.shown + 1) (λ e. omega arith) (λ e. omega arith)
-shows_one pair Homeward (Some nonce) = cond_both (is_news pair.homeward nonce) (pair.shown + 1) pair.shown (λ n. n ≤ pair.shown + 1) (λ e. omega arith) (λ e. omega arith)
+shows_one : (nonces : Nonces) (heading : Heading) (o : Option (List ℕ)) → (counting_nonce nonces heading o).shown ≤ nonces.shown + 1
+shows_one nonces heading None = omega arith
+shows_one nonces Outward (Some nonce) = cond_both (is_news nonces.outward nonce) (nonces.shown + 1) nonces.shown (λ n. n ≤ nonces.shown + 1) (λ e. omega arith) (λ e. omega arith)
+shows_one nonces Homeward (Some nonce) = cond_both (is_news nonces.homeward nonce) (nonces.shown + 1) nonces.shown (λ n. n ≤ nonces.shown + 1) (λ e. omega arith) (λ e. omega arith)
 
 -- what is read where it was written is that, or the default past the end
-written_below : (pairs : List Pair) (i : ℕ) (p d : Pair) (bound : ℕ) → p.shown ≤ bound → d.shown ≤ bound → (get_or (set pairs i p) i d).shown ≤ bound
+written_below : (pairs : List Pair) (i : ℕ) (p d : Pair) (bound : ℕ) → p.nonces.shown ≤ bound → d.nonces.shown ≤ bound → (get_or (set pairs i p) i d).nonces.shown ≤ bound
 written_below pairs i p d bound a b = ⊎_elim
-    (λ within. subst (λ (x : Pair). x.shown ≤ bound) (sym (get_or-set_same pairs i p d within)) a)
-    (λ past. subst (λ (x : Pair). x.shown ≤ bound) (sym (get_or_past (set pairs i p) i d (omega (arith, length-set pairs i p)))) b)
+    (λ within. subst (λ (x : Pair). x.nonces.shown ≤ bound) (sym (get_or-set_same pairs i p d within)) a)
+    (λ past. subst (λ (x : Pair). x.nonces.shown ≤ bound) (sym (get_or_past (set pairs i p) i d (omega (arith, length-set pairs i p)))) b)
     (cases_lt i (length pairs))
 
-departing_counts : (air : AirState) (node : ℕ) (heading : Heading) (payload : List ℕ) → (pair_of (departing air node heading payload) node).shown ≤ (pair_of air node).shown + 1
+departing_counts : (air : AirState) (node : ℕ) (heading : Heading) (payload : List ℕ) → (pair_of (departing air node heading payload) node).nonces.shown ≤ (pair_of air node).nonces.shown + 1
 unfolding departing
 departing_counts air node heading payload =
-    written_below air.pairs node (showing (pair_of air node) heading payload) no_counts ((pair_of air node).shown + 1)
-    (shows_one (pair_of air node) heading (nonce_in payload)) (omega arith)
+    written_below air.pairs node (showing (pair_of air node) heading payload) no_counts ((pair_of air node).nonces.shown + 1)
+    (shows_one (pair_of air node).nonces heading (nonce_in payload)) (omega arith)
 
 pub count_more : (air new : AirState) (node : ℕ) (heading : Heading) (payload : List ℕ) → new ≡ departing air node heading payload
-    → (most at : ℕ) → (pair_of air node).shown ≤ most + at → (pair_of new node).shown ≤ most + (at + 1)
+    → (most at : ℕ) → (pair_of air node).nonces.shown ≤ most + at → (pair_of new node).nonces.shown ≤ most + (at + 1)
 count_more air new node heading payload went most at below =
     let one = departing_counts air node heading payload in
-    let same : (pair_of new node).shown ≡ (pair_of (departing air node heading payload) node).shown = ap (λ (a : AirState). (pair_of a node).shown) went in
+    let same : (pair_of new node).nonces.shown ≡ (pair_of (departing air node heading payload) node).nonces.shown = ap (λ (a : AirState). (pair_of a node).nonces.shown) went in
     omega (arith, one, same, below)

@@ -1,12 +1,12 @@
 -- Frames between node 1 and the others: which are lost, and which may be repeated (this project's own rule, docs/INCLUSION.md).
 use Rattle.std.specs.Prelude.{ℕ, ◌+◌, ◌-◌, ◌^◌, ◌==◌, ◌||◌, min, nat_lt, nat_le, if◌then◌else◌, Bool, true, false, Option, Some, None, List, [], ◌∷◌, ◌++◌, length, replicate, slice_set, slice_index_or}
-use Rattle.air_frames.specs.Nonces.{nonce_in, is_news}
+use Rattle.air_frames.specs.Nonces.{none_shown, counting}
 use Rattle.include_text.specs.declared.entry.IncludeEntry.{IncludeEntry}
 use Rattle.include_text.specs.declared.entry.IncludeEntry.TheVariants.{Air}
 use Rattle.include_text.specs.declared.entry.IncludeRefusal.{IncludeRefusal}
 use Rattle.include_text.specs.declared.entry.IncludeRefusal.TheVariants.{NeverSent, Forgotten, Stale}
-use Rattle.include_world.specs.declared.flight.Heading.{Heading}
-use Rattle.include_world.specs.declared.flight.Heading.TheVariants.{Outward, Homeward}
+use Rattle.air_frames.specs.declared.frame.Heading.{Heading}
+use Rattle.air_frames.specs.declared.frame.Heading.TheVariants.{Outward, Homeward}
 use Rattle.include_world.specs.declared.flight.Flight.{Flight}
 use Rattle.include_world.specs.declared.flight.Pair.{Pair}
 use Rattle.include_world.specs.declared.air.Coming.{Coming}
@@ -23,31 +23,13 @@ pub record Airing : Type 0 where
   pub state : AirState
   pub room : ℕ
 
--- ---- nonces that are shown (Z-Wave Security 0 Command Class: Nonce Report)
-
 -- nothing was counted
 abbrev pub no_counts : Pair
-no_counts = record { shown = 0; outward = None; homeward = None; forgotten = 0 }
-
--- the nonce that was shown last in a direction
-abbrev pub last_of : Pair → Heading → Option (List ℕ)
-last_of pair Outward = pair.outward
-last_of pair Homeward = pair.homeward
-
--- that nonce becomes another
-abbrev pub with_last : Pair → Heading → List ℕ → Pair
-with_last pair Outward nonce = record pair { outward = Some nonce }
-with_last pair Homeward nonce = record pair { homeward = Some nonce }
-
--- the counts after a nonce, or after a payload without one
-abbrev pub showing_nonce : Pair → Heading → Option (List ℕ) → Pair
-showing_nonce pair heading None = pair
-showing_nonce pair heading (Some nonce) =
-    with_last (record pair { shown = if is_news (last_of pair heading) nonce then pair.shown + 1 else pair.shown }) heading nonce
+no_counts = record { nonces = none_shown; forgotten = 0 }
 
 -- the counts after a payload
 abbrev pub showing : Pair → Heading → List ℕ → Pair
-showing pair heading payload = showing_nonce pair heading (nonce_in payload)
+showing pair heading payload = record pair { nonces = counting pair.nonces heading payload }
 
 -- ---- what happens on the air
 
@@ -74,7 +56,7 @@ flight air node heading payload = record {
   heading = heading;
   lost = nat_lt 0 air.losing;
   payload = payload;
-  shown = (showing (pair_of air node) heading payload).shown;
+  shown = (showing (pair_of air node) heading payload).nonces.shown;
 }
 
 -- a frame goes on the air; a mark that was left loses it
@@ -137,7 +119,7 @@ arriving air =
 
 -- how many new nonces were shown between the ends of a frame since it was on the air
 abbrev pub nonces_since : AirState → Flight → ℕ
-nonces_since air frame = (pair_of air frame.node).shown - frame.shown
+nonces_since air frame = (pair_of air frame.node).nonces.shown - frame.shown
 
 -- why the frame of a number is not repeated
 abbrev pub refusal_of : AirState → ℕ → Option IncludeRefusal

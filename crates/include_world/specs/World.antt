@@ -11,8 +11,8 @@ use Rattle.include_text.specs.declared.entry.IncludeEntry.{IncludeEntry}
 use Rattle.include_text.specs.declared.entry.IncludeEntry.TheVariants.{Said, Time, Heard, Lost, Key, Secure, Failed, Refused, Node}
 use Rattle.include_text.specs.declared.entry.IncludeRefusal.{IncludeRefusal}
 use Rattle.include_text.specs.declared.entry.IncludeRefusal.TheVariants.{Busy, Secure as IsSecure}
-use Rattle.include_world.specs.declared.flight.Heading.{Heading}
-use Rattle.include_world.specs.declared.flight.Heading.TheVariants.{Outward, Homeward}
+use Rattle.air_frames.specs.declared.frame.Heading.{Heading}
+use Rattle.air_frames.specs.declared.frame.Heading.TheVariants.{Outward, Homeward}
 use Rattle.include_world.specs.declared.air.Coming.{Coming}
 use Rattle.include_world.specs.Units.{units_of, in_order}
 use Rattle.include_world.specs.Air.{AirState, first_air, arriving, departing, air_entry, sending, sent_entries, landing, flying, losing_more, forgetting, refusal_of, flight_at}

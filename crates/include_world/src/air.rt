@@ -17,14 +17,12 @@ ghost use Rattle.include_world.specs.Air.{
   flight_at,
 };
 
-use crate::{Flight, Heading, Pair};
+use crate::{Flight, Pair};
+use air_frames::{Heading, MAX_NEW_NONCES};
 use include_text::{IncludeEntry, IncludeRefusal};
 use std::alloc::Global;
 use std::marker::Model;
 use zw_base::{List, NoMemory, NodeId, Payload, Replies, read_node};
-
-/// A frame is stale once so many new nonces were shown between its ends.
-const MAX_NEW_NONCES: u64 = 120;
 
 /// One place for each node number from 0 to 232; that of 0 is never used.
 const NODES: usize = 233;
@@ -126,10 +124,10 @@ impl Air {
     pub(crate) fn reserve(&mut self, node: NodeId, frames: u8) -> Result<(), NoMemory>
         ensures state { self.new.state ≡ self.old.state }
         ensures ok { OnOk result (frames ≤ self.new.room) }
-        ensures countable { OnOk result ((pair_of self.new.state node).shown + frames < 2 ^ 64) }
+        ensures countable { OnOk result ((pair_of self.new.state node).nonces.shown + frames < 2 ^ 64) }
         ensures grows { self.old.room ≤ self.new.room }
     {
-        if self.pairs[node.number() as usize].shown > u64::MAX - u64::from(frames) {
+        if self.pairs[node.number() as usize].nonces.shown() > u64::MAX - u64::from(frames) {
             return Err(NoMemory);
         }
         self.frames.reserve(frames as usize)
@@ -146,7 +144,7 @@ impl Air {
     )
         requires room { 0 < self.old.room }
         requires out_room { 0 < out.old.room }
-        requires countable { (pair_of self.old.state node).shown + 1 < 2 ^ 64 }
+        requires countable { (pair_of self.old.state node).nonces.shown + 1 < 2 ^ 64 }
         requires short { length payload.now ≤ 46 }
         ensures state { self.new.state ≡ departing self.old.state node heading payload.now }
         ensures room { self.new.room + 1 ≡ self.old.room }
@@ -154,13 +152,13 @@ impl Air {
         ensures out_room { out.new.room + 1 ≡ out.old.room }
     {
         let at = node.number() as usize;
-        self.pairs[at].show(heading, payload);
+        self.pairs[at].nonces.show(heading, payload);
         let flight = Flight {
             node,
             heading,
             lost: self.losing > 0,
             payload: copy_of(payload),
-            shown: self.pairs[at].shown,
+            shown: self.pairs[at].nonces.shown(),
         };
         self.losing = self.losing.saturating_sub(1);
         self.frames.put(flight);
@@ -186,7 +184,7 @@ impl Air {
     )
         requires room { 8 ≤ self.old.room }
         requires out_room { 8 ≤ out.old.room }
-        requires countable { (pair_of self.old.state node).shown + 8 < 2 ^ 64 }
+        requires countable { (pair_of self.old.state node).nonces.shown + 8 < 2 ^ 64 }
         ensures state { self.new.state ≡ sending self.old.state node heading replies.now }
         ensures outs { out.new.items ≡ out.old.items ++ sent_entries self.old.state node heading replies.now }
     {
@@ -245,7 +243,7 @@ impl Air {
         if number <= pair.forgotten {
             return Err(IncludeRefusal::Forgotten);
         }
-        let nonces = pair.shown.saturating_sub(flight.shown);
+        let nonces = pair.nonces.shown().saturating_sub(flight.shown);
         if nonces >= MAX_NEW_NONCES {
             return Err(IncludeRefusal::Stale(nonces));
         }

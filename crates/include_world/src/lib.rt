@@ -14,6 +14,6 @@ mod units;
 mod world;
 
 pub use air::Coming;
-pub use flight::{Flight, Heading, Pair};
+pub use flight::{Flight, Pair};
 pub use laws::what_is_said_is_so;
 pub use world::IncludeWorld;

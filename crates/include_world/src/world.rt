@@ -2,7 +2,7 @@
 
 ghost use Rattle.std.specs.Prelude.{◌≡◌, ℕ, ◌+◌, ◌-◌, ◌<◌, ◌≤◌, [], ◌∷◌, ◌++◌, List as Items, Option, Some, None, length, map, IfOk, OnOk, OnErr, is_some};
 ghost use Rattle.std.specs.List.{range_with_len};
-ghost use Rattle.include_world.specs.declared.flight.Heading.TheVariants.{Outward, Homeward};
+ghost use Rattle.air_frames.specs.declared.frame.Heading.TheVariants.{Outward, Homeward};
 ghost use Rattle.include_world.specs.Air.{arriving, flying, refusal_of};
 ghost use Rattle.include_world.specs.World.{
   IncludeEvent,
@@ -29,10 +29,10 @@ ghost use Rattle.include_text.specs.declared.entry.IncludeEntry.{IncludeEntry as
 ghost use Rattle.include_world.specs.Added.{Reached, TellsOn};
 ghost use Rattle.include_world.specs.Line.{IsLine, IsTick, IsTicks, ticks_of};
 
-use crate::Heading;
 use crate::air::{Air, Coming};
 use crate::entering::{put_refused, put_said, put_units};
 use crate::units::units_of;
+use air_frames::Heading;
 use include_text::{IncludeEntry, IncludeLine, IncludeRefusal};
 use inclusion::{AddFault, Includer, Joiner, SCHEME_GET};
 use std::alloc::Global;

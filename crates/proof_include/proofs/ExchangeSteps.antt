@@ -7,8 +7,8 @@ use Rattle.inclusion.specs.declared.exchange.Exchange.{Exchange}
 use Rattle.inclusion.specs.Messages.{message_of}
 use Rattle.inclusion.specs.Joining.{Joining, Joined, joiner_takes, fresh_joiner}
 use Rattle.inclusion.specs.Including.{Including, Included, quiet, is_secure, includer_takes, is_with, takes_message}
-use Rattle.include_world.specs.declared.flight.Heading.{Heading}
-use Rattle.include_world.specs.declared.flight.Heading.TheVariants.{Outward, Homeward}
+use Rattle.air_frames.specs.declared.frame.Heading.{Heading}
+use Rattle.air_frames.specs.declared.frame.Heading.TheVariants.{Outward, Homeward}
 use Rattle.include_world.specs.declared.flight.Flight.{Flight}
 use Rattle.include_world.specs.declared.air.Coming.{Coming}
 use Rattle.include_world.specs.Air.{AirState, pair_of, flight, departing, sending, no_flight}

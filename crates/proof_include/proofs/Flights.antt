@@ -3,7 +3,7 @@ use Rattle.std.proofs.Common.{◌≡◌, ℕ, ◌+◌, ◌-◌, ◌<◌, ◌≤�
 use Rattle.std.proofs.lemmas.List.{get_or_append_left, get_or_at, get_or-set_same, get_or-set_other, get_or_past}
 use Rattle.std.proofs.lemmas.Bool.{cases_lt, ltb-false, eqb-false, leb-false, true≢false, or_parts}
 use Rattle.include_text.specs.declared.entry.IncludeRefusal.{IncludeRefusal}
-use Rattle.include_world.specs.declared.flight.Heading.{Heading}
+use Rattle.air_frames.specs.declared.frame.Heading.{Heading}
 use Rattle.include_world.specs.declared.flight.Flight.{Flight}
 use Rattle.include_world.specs.declared.flight.Pair.{Pair}
 use Rattle.include_world.specs.Air.{AirState, pair_of, flight, departing, no_counts, no_flight, frame_at, is_forgotten, nonces_since, refusal_of, forgetting}
@@ -88,12 +88,12 @@ no_reason true b c x y z e = absurd cc
 
 -- one that is repeated was shown fewer than 120 new nonces ago
 pub repeated_flight : (node : ℕ) (P : ℕ → Flight → Type 0) (air : AirState) (number : ℕ) → refusal_of air number ≡ None → Flights node P air → (frame_at air number).node ≡ node
-    → ((pair_of air node).shown < (frame_at air number).shown + 120) × P (number - 1) (frame_at air number)
+    → ((pair_of air node).nonces.shown < (frame_at air number).shown + 120) × P (number - 1) (frame_at air number)
 repeated_flight node P air number none all is_node =
     let no = no_reason _ _ _ _ _ _ none in
     let parts = or_parts _ _ no.0 in
     let fresh : nonces_since air (frame_at air number) < 120 = leb-false 120 (nonces_since air (frame_at air number)) no.2 in
-    let same : (pair_of air (frame_at air number).node).shown ≡ (pair_of air node).shown = ap (λ (n : ℕ). (pair_of air n).shown) is_node in (
+    let same : (pair_of air (frame_at air number).node).nonces.shown ≡ (pair_of air node).nonces.shown = ap (λ (n : ℕ). (pair_of air n).nonces.shown) is_node in (
       omega (arith, fresh, same),
       flight_heard node P air number (let e = eqb-false number 0 parts.0 in omega (arith, e)) (ltb-false (length air.frames) number parts.1) no.1 all is_node,
     )

@@ -17,8 +17,8 @@ use Rattle.inclusion.specs.Sealing.{sealer_by, sent_by}
 use Rattle.inclusion.specs.Messages.{message_of, nonce_named, nonce_get, nonce_report, key_verify, temporary_key}
 use Rattle.inclusion.specs.Joining.{Joining}
 use Rattle.inclusion.specs.Including.{Including, Included, quiet, is_secure, asking, asks, has_asked, takes_scheme, gives_nonce, takes_nonce, takes_message, includer_takes, is_with, is_verified, held_in, verified, spending, sealing, to_host}
-use Rattle.include_world.specs.declared.flight.Heading.{Heading}
-use Rattle.include_world.specs.declared.flight.Heading.TheVariants.{Outward, Homeward}
+use Rattle.air_frames.specs.declared.frame.Heading.{Heading}
+use Rattle.air_frames.specs.declared.frame.Heading.TheVariants.{Outward, Homeward}
 use Rattle.include_world.proofs.AirFacts.{Each}
 use Rattle.include_world.proofs.KeyFacts.{HomeIs, report_is, no_some, spends, named_in_sealed, sealed_opens}
 use Rattle.include_world.proofs.HostFacts.{Setting}

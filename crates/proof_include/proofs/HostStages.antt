@@ -14,7 +14,7 @@ use Rattle.inclusion.specs.Sealing.{sealer_by, sent_by}
 use Rattle.inclusion.specs.Messages.{message_of, nonce_get, nonce_report, key_set, temporary_key}
 use Rattle.inclusion.specs.Joining.{Joining}
 use Rattle.inclusion.specs.Including.{Including, Included, quiet, is_secure, asking, asks, has_asked, takes_scheme, gives_nonce, takes_nonce, takes_sealed, takes_message, includer_takes, is_with, verified, spending, sealing}
-use Rattle.include_world.specs.declared.flight.Heading.TheVariants.{Outward, Homeward}
+use Rattle.air_frames.specs.declared.frame.Heading.TheVariants.{Outward, Homeward}
 use Rattle.include_world.proofs.KeyFacts.{HomeIs, no_some}
 use Rattle.proof_include.proofs.NearFacts.{way_taken, given_eight}
 use Rattle.proof_include.proofs.ShowFacts.{HomeShows, Ready, message_of_sealed}

@@ -12,7 +12,7 @@ use Rattle.include_text.specs.declared.line.IncludeLine.{IncludeLine}
 use Rattle.include_text.specs.declared.line.IncludeLine.TheVariants.{Add}
 use Rattle.include_text.specs.declared.entry.IncludeEntry.{IncludeEntry}
 use Rattle.include_world.specs.declared.flight.Pair.{Pair}
-use Rattle.include_world.specs.declared.flight.Heading.TheVariants.{Outward}
+use Rattle.air_frames.specs.declared.frame.Heading.TheVariants.{Outward}
 use Rattle.include_world.specs.Air.{AirState, pair_of, departing, first_air, no_counts}
 use Rattle.include_world.specs.World.{WorldState, IncludeEvent, Says, does, joiner_of, first_world, first_joiner, after_all, entries_all, AllDrawn, Did}
 use Rattle.include_world.specs.Line.{IsLine, IsTicks}
@@ -101,7 +101,7 @@ first_stands key node sixteen from to =
         exact = record {
           way = subst (λ (j : Joining). Way j.given (seen_of (first_world key).includer node)) (sym made) home;
           air = record {
-            last = subst (λ (p : Pair). LastIs (joiner_of (first_world key) node).given.given p.homeward) (sym pair) tt;
+            last = subst (λ (p : Pair). LastIs (joiner_of (first_world key) node).given.given p.nonces.homeward) (sym pair) tt;
             flights = λ i there is_node kept. absurd (omega arith);
           };
         };

@@ -14,7 +14,7 @@ use Rattle.s0_crypto.specs.Sealing.{keys_of, sealed_text, unsealed_at}
 use Rattle.inclusion.specs.Sealing.{sent_by}
 use Rattle.inclusion.specs.Messages.{message_of, nonce_named, scheme_report, nonce_get, nonce_report, temporary_key, key_set_in}
 use Rattle.inclusion.specs.Joining.{Joining, Joined, joiner_takes, takes_message, tells_scheme, gives_nonce, takes_nonce, takes_key, takes_for, from_host, silent}
-use Rattle.include_world.specs.declared.flight.Heading.TheVariants.{Outward, Homeward}
+use Rattle.air_frames.specs.declared.frame.Heading.TheVariants.{Outward, Homeward}
 use Rattle.air_frames.specs.Nonces.{nonce_in}
 use Rattle.include_world.proofs.AirFacts.{Each}
 use Rattle.proof_include.proofs.NearFacts.{Way, Alive, way_give}

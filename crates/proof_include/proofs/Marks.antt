@@ -11,8 +11,8 @@ use Rattle.include_text.specs.declared.entry.IncludeEntry.{IncludeEntry}
 use Rattle.include_text.specs.declared.entry.IncludeEntry.TheVariants.{Time}
 use Rattle.include_text.specs.declared.entry.IncludeRefusal.{IncludeRefusal}
 use Rattle.include_text.specs.declared.entry.IncludeRefusal.TheVariants.{Secure as HostSecure}
-use Rattle.include_world.specs.declared.flight.Heading.{Heading}
-use Rattle.include_world.specs.declared.flight.Heading.TheVariants.{Outward, Homeward}
+use Rattle.air_frames.specs.declared.frame.Heading.{Heading}
+use Rattle.air_frames.specs.declared.frame.Heading.TheVariants.{Outward, Homeward}
 use Rattle.include_world.specs.declared.flight.Flight.{Flight}
 use Rattle.include_world.specs.Air.{AirState, first_air, air_entry, departing, frame_at, heard_if, heard_of, refusal_of, sending, sent_entries}
 use Rattle.include_world.specs.World.{WorldState, Doing, IncludeEvent, Says, Passes, Lands, Ends, adds, begins, does, failed_entries, first_world, hears, hears_by, host_hears, joiner_of, key_entries, lands_by, lock_hears, refused, repeats, says, secure_entries, tells, after_all, entries_all}

@@ -7,8 +7,8 @@ use Rattle.s0_session.specs.Nonces.{account_of}
 use Rattle.inclusion.specs.declared.exchange.Exchange.{Exchange}
 use Rattle.inclusion.specs.Joining.{Joining, Joined, joiner_takes, fresh_joiner}
 use Rattle.inclusion.specs.Including.{Including, Included, includer_takes, is_secure, exchange_after}
-use Rattle.include_world.specs.declared.flight.Heading.{Heading}
-use Rattle.include_world.specs.declared.flight.Heading.TheVariants.{Outward, Homeward}
+use Rattle.air_frames.specs.declared.frame.Heading.{Heading}
+use Rattle.air_frames.specs.declared.frame.Heading.TheVariants.{Outward, Homeward}
 use Rattle.include_world.specs.declared.air.Coming.{Coming}
 use Rattle.include_world.specs.Air.{AirState, pair_of, departing, sending, arriving}
 use Rattle.include_world.specs.World.{WorldState, Doing, Passes, Lands, Ends, does, hears, hears_by, lock_hears, host_hears, lands_by, landed, joiner_of}

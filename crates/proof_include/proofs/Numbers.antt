@@ -7,12 +7,13 @@ use Rattle.std.proofs.lemmas.Bool.{cases_eq, cond_both, le-leb, ne_eqb}
 use Rattle.inclusion.specs.declared.message.Message.{Message}
 use Rattle.inclusion.specs.declared.message.Message.TheVariants.{SchemeGet, SchemeReport, NonceGet, NonceReport, Sealed, Other}
 use Rattle.inclusion.specs.Messages.{message_of, nonce_named, nonce_report}
-use Rattle.include_world.specs.declared.flight.Heading.{Heading}
-use Rattle.include_world.specs.declared.flight.Heading.TheVariants.{Outward, Homeward}
+use Rattle.air_frames.specs.declared.frame.Heading.{Heading}
+use Rattle.air_frames.specs.declared.frame.Heading.TheVariants.{Outward, Homeward}
 use Rattle.include_world.specs.declared.flight.Flight.{Flight}
 use Rattle.include_world.specs.declared.flight.Pair.{Pair}
-use Rattle.air_frames.specs.Nonces.{nonce_in, is_news}
-use Rattle.include_world.specs.Air.{AirState, pair_of, flight, departing, sending, showing, showing_nonce, no_counts}
+use Rattle.air_frames.specs.declared.nonces.Nonces.{Nonces}
+use Rattle.air_frames.specs.Nonces.{nonce_in, is_news, counting_nonce}
+use Rattle.include_world.specs.Air.{AirState, pair_of, flight, departing, sending, showing, no_counts}
 use Rattle.include_world.proofs.AirFacts.{Each, began_pairs}
 use Rattle.proof_include.proofs.Stages.{nonce_told}
 use Rattle.proof_include.proofs.Flights.{Flights, flights_departing, flights_map}
@@ -155,10 +156,10 @@ LastIs given None = Unit {0}
 LastIs given (Some nonce) = (length nonce ≡ 8) × (slice_index nonce 0 ≡ given % 256)
 
 abbrev pub tally : ℕ → ℕ → ℕ → ℕ → ℕ → AirState → Tally
-tally node given taken may most air = record { given = given; taken = taken; may = may; shown = (pair_of air node).shown; landed = air.landed; most = most }
+tally node given taken may most air = record { given = given; taken = taken; may = may; shown = (pair_of air node).nonces.shown; landed = air.landed; most = most }
 
 pub record AirCounts (node given taken may most : ℕ) (air : AirState) : Type 0 where
-  pub last : LastIs given (pair_of air node).homeward
+  pub last : LastIs given (pair_of air node).nonces.homeward
   pub flights : Flights node (Carries (tally node given taken may most air)) air
 
 -- nothing was sent
@@ -171,15 +172,19 @@ air_on node given taken may most taken' may' most' air more less later a = recor
       (record { given = omega arith; taken = more; may = less; shows = omega arith; landed = omega arith; most = later }) i f) a.flights;
 }
 
--- nonces that are shown count up
-shown_grows : (pair : Pair) (heading : Heading) (o : Option (List ℕ)) → pair.shown ≤ (showing_nonce pair heading o).shown
-shown_grows pair heading None = omega arith
-shown_grows pair Outward (Some nonce) = cond_both (is_news pair.outward nonce) (pair.shown + 1) pair.shown (λ n. pair.shown ≤ n) (λ e. omega arith) (λ e. omega arith)
-shown_grows pair Homeward (Some nonce) = cond_both (is_news pair.homeward nonce) (pair.shown + 1) pair.shown (λ n. pair.shown ≤ n) (λ e. omega arith) (λ e. omega arith)
+-- the counts after a nonce, or after a payload without one
+abbrev shown_as : Pair → Heading → Option (List ℕ) → Pair
+shown_as pair heading o = record pair { nonces = counting_nonce pair.nonces heading o }
 
-outward_keeps : (pair : Pair) (o : Option (List ℕ)) → (showing_nonce pair Outward o).homeward ≡ pair.homeward
-outward_keeps pair None = refl
-outward_keeps pair (Some nonce) = refl
+-- nonces that are shown count up
+shown_grows : (nonces : Nonces) (heading : Heading) (o : Option (List ℕ)) → nonces.shown ≤ (counting_nonce nonces heading o).shown
+shown_grows nonces heading None = omega arith
+shown_grows nonces Outward (Some nonce) = cond_both (is_news nonces.outward nonce) (nonces.shown + 1) nonces.shown (λ n. nonces.shown ≤ n) (λ e. omega arith) (λ e. omega arith)
+shown_grows nonces Homeward (Some nonce) = cond_both (is_news nonces.homeward nonce) (nonces.shown + 1) nonces.shown (λ n. nonces.shown ≤ n) (λ e. omega arith) (λ e. omega arith)
+
+outward_keeps : (nonces : Nonces) (o : Option (List ℕ)) → (counting_nonce nonces Outward o).homeward ≡ nonces.homeward
+outward_keeps nonces None = refl
+outward_keeps nonces (Some nonce) = refl
 
 pair_here : (node : ℕ) (air : AirState) (heading : Heading) (payload : List ℕ) → node < length air.pairs → pair_of (departing air node heading payload) node ≡ showing (pair_of air node) heading payload
 unfolding departing
@@ -201,9 +206,9 @@ air_away node given taken may most air at heading payload differ a =
     let old : Tally = tally node given taken may most air in
     let new : Tally = tally node given taken may most (departing air at heading payload) in
     let landed = landed_same air at heading payload in
-    let shown : (pair_of (departing air at heading payload) node).shown ≡ (pair_of air node).shown = ap (λ (p : Pair). p.shown) pair in
+    let shown : (pair_of (departing air at heading payload) node).nonces.shown ≡ (pair_of air node).nonces.shown = ap (λ (p : Pair). p.nonces.shown) pair in
     record {
-      last = subst (λ (p : Pair). LastIs given p.homeward) (sym pair) a.last;
+      last = subst (λ (p : Pair). LastIs given p.nonces.homeward) (sym pair) a.last;
       flights = flights_departing node (Carries old) (Carries new) air at heading payload
           (λ i f within. carries_on old new (record { given = omega arith; taken = omega arith; may = omega arith; shows = omega (arith, shown); landed = omega (arith, landed); most = omega arith }) i f)
           (λ e. absurd (differ (sym e))) a.flights;
@@ -222,7 +227,7 @@ Sends taken Outward payload = OfByte (byte_in Outward payload (message_of payloa
 
 -- a frame of the node, once it is known what it carries and shows
 goes_out : (node given taken may most given' : ℕ) (air : AirState) (heading : Heading) (payload : List ℕ) → node < length air.pairs → given ≤ given'
-    → given' + (pair_of air node).shown ≤ given + (showing (pair_of air node) heading payload).shown → LastIs given' (showing (pair_of air node) heading payload).homeward
+    → given' + (pair_of air node).nonces.shown ≤ given + (showing (pair_of air node) heading payload).nonces.shown → LastIs given' (showing (pair_of air node) heading payload).nonces.homeward
     → Carries (tally node given' taken may most (departing air node heading payload)) (length air.frames) (flight air node heading payload)
     → AirCounts node given taken may most air → AirCounts node given' taken may most (departing air node heading payload)
 goes_out node given taken may most given' air heading payload within more shows last new a =
@@ -230,9 +235,9 @@ goes_out node given taken may most given' air heading payload within more shows 
     let old : Tally = tally node given taken may most air in
     let next : Tally = tally node given' taken may most (departing air node heading payload) in
     let landed = landed_same air node heading payload in
-    let shown : (pair_of (departing air node heading payload) node).shown ≡ (showing (pair_of air node) heading payload).shown = ap (λ (p : Pair). p.shown) pair in
+    let shown : (pair_of (departing air node heading payload) node).nonces.shown ≡ (showing (pair_of air node) heading payload).nonces.shown = ap (λ (p : Pair). p.nonces.shown) pair in
     record {
-      last = subst (λ (p : Pair). LastIs given' p.homeward) (sym pair) last;
+      last = subst (λ (p : Pair). LastIs given' p.nonces.homeward) (sym pair) last;
       flights = flights_departing node (Carries old) (Carries next) air node heading payload
           (λ i f there. carries_on old next (record { given = more; taken = omega arith; may = omega arith; shows = omega (arith, shown, shows); landed = omega (arith, landed); most = omega arith }) i f)
           (λ e. new) a.flights;
@@ -245,16 +250,16 @@ none_carried t heading i shown (Some byte) e = absurd cc
 pub air_sends : (node given taken may most : ℕ) (air : AirState) (heading : Heading) (payload : List ℕ) → node < length air.pairs → given ≤ taken + 1 → may ≤ taken + 1 → Sends taken heading payload
     → AirCounts node given taken may most air → AirCounts node given taken may most (departing air node heading payload)
 air_sends node given taken may most air Homeward payload within ahead few s a =
-    let same : showing (pair_of air node) Homeward payload ≡ pair_of air node = ap (showing_nonce (pair_of air node) Homeward) s.1 in
-    let shown : (showing (pair_of air node) Homeward payload).shown ≡ (pair_of air node).shown = ap (λ (p : Pair). p.shown) same in
-    goes_out node given taken may most given air Homeward payload within (omega arith) (omega (arith, shown)) (subst (λ (p : Pair). LastIs given p.homeward) (sym same) a.last)
+    let same : showing (pair_of air node) Homeward payload ≡ pair_of air node = ap (shown_as (pair_of air node) Homeward) s.1 in
+    let shown : (showing (pair_of air node) Homeward payload).nonces.shown ≡ (pair_of air node).nonces.shown = ap (λ (p : Pair). p.nonces.shown) same in
+    goes_out node given taken may most given air Homeward payload within (omega arith) (omega (arith, shown)) (subst (λ (p : Pair). LastIs given p.nonces.homeward) (sym same) a.last)
     (none_carried (tally node given taken may most (departing air node Homeward payload)) Homeward (length air.frames) (flight air node Homeward payload).shown
     (byte_in Homeward payload (message_of payload)) s.0) a
 air_sends node given taken may most air Outward payload within ahead few s a =
-    let grows = shown_grows (pair_of air node) Outward (nonce_in payload) in
-    let shown : (pair_of (departing air node Outward payload) node).shown ≡ (showing (pair_of air node) Outward payload).shown = ap (λ (p : Pair). p.shown) (pair_here node air Outward payload within) in
+    let grows = shown_grows (pair_of air node).nonces Outward (nonce_in payload) in
+    let shown : (pair_of (departing air node Outward payload) node).nonces.shown ≡ (showing (pair_of air node) Outward payload).nonces.shown = ap (λ (p : Pair). p.nonces.shown) (pair_here node air Outward payload within) in
     goes_out node given taken may most given air Outward payload within (omega arith) (omega (arith, grows))
-    (subst (λ (o : Option (List ℕ)). LastIs given o) (sym (outward_keeps (pair_of air node) (nonce_in payload))) a.last)
+    (subst (λ (o : Option (List ℕ)). LastIs given o) (sym (outward_keeps (pair_of air node).nonces (nonce_in payload))) a.last)
     (of_byte (byte_in Outward payload (message_of payload)) (λ byte. byte ≡ taken % 256)
     (λ byte. Numbered (tally node given taken may most (departing air node Outward payload)) Outward (length air.frames) (flight air node Outward payload).shown byte)
     (λ byte is. record {
@@ -298,21 +303,21 @@ pub air_reports : (node given taken may most given' : ℕ) (air : AirState) (non
 air_reports node given taken may most given' air nonce within eight is more one below few a =
     let pair = pair_here node air Homeward (nonce_report nonce) within in
     let in_it = nonce_in_report nonce eight in
-    let is_shown : showing (pair_of air node) Homeward (nonce_report nonce) ≡ showing_nonce (pair_of air node) Homeward (Some nonce) = ap (showing_nonce (pair_of air node) Homeward) in_it in
-    let shown : (showing (pair_of air node) Homeward (nonce_report nonce)).shown ≡ cond (is_news (pair_of air node).homeward nonce) ((pair_of air node).shown + 1) (pair_of air node).shown
-    = ap (λ (p : Pair). p.shown) is_shown in
-    let counted : given' + (pair_of air node).shown ≤ given + (showing (pair_of air node) Homeward (nonce_report nonce)).shown = ⊎_elim
-    (λ same. let grows = shown_grows (pair_of air node) Homeward (nonce_in (nonce_report nonce)) in omega (arith, same, grows))
+    let is_shown : showing (pair_of air node) Homeward (nonce_report nonce) ≡ shown_as (pair_of air node) Homeward (Some nonce) = ap (shown_as (pair_of air node) Homeward) in_it in
+    let shown : (showing (pair_of air node) Homeward (nonce_report nonce)).nonces.shown ≡ cond (is_news (pair_of air node).nonces.homeward nonce) ((pair_of air node).nonces.shown + 1) (pair_of air node).nonces.shown
+    = ap (λ (p : Pair). p.nonces.shown) is_shown in
+    let counted : given' + (pair_of air node).nonces.shown ≤ given + (showing (pair_of air node) Homeward (nonce_report nonce)).nonces.shown = ⊎_elim
+    (λ same. let grows = shown_grows (pair_of air node).nonces Homeward (nonce_in (nonce_report nonce)) in omega (arith, same, grows))
     (λ differ.
     let next : given' ≡ given + 1 = omega (arith, differ, more, one) in
-    let news = next_is_news given (pair_of air node).homeward nonce eight (is ∙ ap (λ (n : ℕ). n % 256) next) a.last in
-    let counts : (showing (pair_of air node) Homeward (nonce_report nonce)).shown ≡ (pair_of air node).shown + 1
-    = shown ∙ ap (λ (b : Bool). cond b ((pair_of air node).shown + 1) (pair_of air node).shown) news in
+    let news = next_is_news given (pair_of air node).nonces.homeward nonce eight (is ∙ ap (λ (n : ℕ). n % 256) next) a.last in
+    let counts : (showing (pair_of air node) Homeward (nonce_report nonce)).nonces.shown ≡ (pair_of air node).nonces.shown + 1
+    = shown ∙ ap (λ (b : Bool). cond b ((pair_of air node).nonces.shown + 1) (pair_of air node).nonces.shown) news in
     omega (arith, next, counts))
     (cases_eq given' given) in
-    let at : (pair_of (departing air node Homeward (nonce_report nonce)) node).shown ≡ (showing (pair_of air node) Homeward (nonce_report nonce)).shown = ap (λ (p : Pair). p.shown) pair in
+    let at : (pair_of (departing air node Homeward (nonce_report nonce)) node).nonces.shown ≡ (showing (pair_of air node) Homeward (nonce_report nonce)).nonces.shown = ap (λ (p : Pair). p.nonces.shown) pair in
     goes_out node given taken may most given' air Homeward (nonce_report nonce) within more counted
-    (subst (λ (p : Pair). LastIs given' p.homeward) (sym is_shown) (eight, is))
+    (subst (λ (p : Pair). LastIs given' p.nonces.homeward) (sym is_shown) (eight, is))
     (subst (λ (m : Message). OfByte (byte_in Homeward (nonce_report nonce) m)
     (λ byte. Numbered (tally node given' taken may most (departing air node Homeward (nonce_report nonce))) Homeward (length air.frames) (flight air node Homeward (nonce_report nonce)).shown byte))
     (sym (nonce_told nonce eight))

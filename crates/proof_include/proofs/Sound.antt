@@ -12,8 +12,8 @@ use Rattle.include_text.specs.declared.line.IncludeLine.{IncludeLine}
 use Rattle.include_text.specs.declared.line.IncludeLine.TheVariants.{Add, Reset, Lose, Repeat, Tick}
 use Rattle.include_text.specs.declared.entry.IncludeRefusal.{IncludeRefusal}
 use Rattle.include_text.specs.declared.entry.IncludeRefusal.TheVariants.{Secure as HostSecure}
-use Rattle.include_world.specs.declared.flight.Heading.{Heading}
-use Rattle.include_world.specs.declared.flight.Heading.TheVariants.{Outward, Homeward}
+use Rattle.air_frames.specs.declared.frame.Heading.{Heading}
+use Rattle.air_frames.specs.declared.frame.Heading.TheVariants.{Outward, Homeward}
 use Rattle.include_world.specs.declared.flight.Flight.{Flight}
 use Rattle.include_world.specs.declared.flight.Pair.{Pair}
 use Rattle.include_world.specs.Air.{pair_of, no_counts, heard_of, frame_at, flight_at, heard_if, is_forgotten, arriving, refusal_of, forgetting, landing, departing, sending}
@@ -240,8 +240,8 @@ exact_adds key node most w at f x None e =
 exact_reset_here : (key : List ℕ) (node most : ℕ) (w : WorldState) → Fact key node w → Exact node most w → Exact node most (resets w node)
 exact_reset_here key node most w f x =
     let new_is : joiner_of (resets w node) node ≡ forgetful (joiner_of w node) = get_or-set_same w.joiners node (forgetful (joiner_of w node)) (fresh_joiner 1) f.locks in
-    let pair_is : (pair_of (forgetting w.air node) node).homeward ≡ (pair_of w.air node).homeward
-    = ap (λ (p : Pair). p.homeward) (get_or-set_same w.air.pairs node (let p : Pair = record (pair_of w.air node) { forgotten = length w.air.frames } in p) no_counts f.pairs) in
+    let pair_is : (pair_of (forgetting w.air node) node).nonces.homeward ≡ (pair_of w.air node).nonces.homeward
+    = ap (λ (p : Pair). p.nonces.homeward) (get_or-set_same w.air.pairs node (let p : Pair = record (pair_of w.air node) { forgotten = length w.air.frames } in p) no_counts f.pairs) in
     let seen : ℕ = seen_of w.includer node in
     let may : ℕ = may_of (resets w node).includer node in
     record {
@@ -263,11 +263,11 @@ exact_reset_elsewhere node most w at differ x =
     let may_same : may_of (resets w at).includer node ≡ may_of w.includer node = ap (λ (b : Bool). seen_of w.includer node + cond b 0 (may_in w.includer.exchange node)) secure_same in
     let old : Tally = tally node given seen (may_of w.includer node) most w.air in
     let new : Tally = tally node given seen may most (forgetting w.air at) in
-    let shown : (pair_of (forgetting w.air at) node).shown ≡ (pair_of w.air node).shown = ap (λ (p : Pair). p.shown) pair in
+    let shown : (pair_of (forgetting w.air at) node).nonces.shown ≡ (pair_of w.air node).nonces.shown = ap (λ (p : Pair). p.nonces.shown) pair in
     record {
       way = subst (λ (j : Joining). Way j.given seen) (sym same) x.way;
       air = subst (λ (j : Joining). AirCounts node j.given.given seen may most (forgetting w.air at)) (sym same) (record {
-        last = subst (λ (p : Pair). LastIs given p.homeward) (sym pair) x.air.last;
+        last = subst (λ (p : Pair). LastIs given p.nonces.homeward) (sym pair) x.air.last;
         flights = flights_map node (Carries old) (Carries new) (forgetting w.air at)
             (λ i f within. carries_on old new (record { given = omega arith; taken = omega arith; may = omega (arith, may_same); shows = omega (arith, shown); landed = omega arith; most = omega arith }) i f)
             (flights_remembered node (Carries old) w.air at differ x.air.flights);

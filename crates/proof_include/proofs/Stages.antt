@@ -13,8 +13,8 @@ use Rattle.s0_crypto.specs.Sealing.{keys_of, sealed_text}
 use Rattle.inclusion.specs.Sealing.{sealer_by, sent_by}
 use Rattle.inclusion.specs.Messages.{message_of, nonce_named, scheme_get, scheme_report, nonce_get, nonce_report, key_verify}
 use Rattle.inclusion.specs.Joining.{Joining, Joined, joiner_takes, takes_message, tells_scheme, gives_nonce, takes_nonce, takes_key, takes_for, takes_sealed, silent}
-use Rattle.include_world.specs.declared.flight.Heading.{Heading}
-use Rattle.include_world.specs.declared.flight.Heading.TheVariants.{Outward, Homeward}
+use Rattle.air_frames.specs.declared.frame.Heading.{Heading}
+use Rattle.air_frames.specs.declared.frame.Heading.TheVariants.{Outward, Homeward}
 use Rattle.include_world.proofs.KeyFacts.{OutIs, OneKey, Sets, no_some, takes_it}
 use Rattle.proof_include.proofs.NearFacts.{way_taken, given_eight}
 use Rattle.proof_include.proofs.ShowFacts.{OutShows, Ready, Waiting, message_of_sealed}

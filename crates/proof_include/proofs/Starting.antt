@@ -19,7 +19,7 @@ use Rattle.include_text.specs.declared.entry.IncludeEntry.TheVariants.{Said, Tim
 use Rattle.include_text.specs.declared.entry.IncludeRefusal.{IncludeRefusal}
 use Rattle.include_text.specs.declared.entry.IncludeRefusal.TheVariants.{Secure as HostSecure}
 use Rattle.include_world.specs.declared.flight.Pair.{Pair}
-use Rattle.include_world.specs.declared.flight.Heading.TheVariants.{Outward}
+use Rattle.air_frames.specs.declared.frame.Heading.TheVariants.{Outward}
 use Rattle.include_world.specs.Air.{AirState, pair_of, flight, departing, forgetting, refusal_of, flight_at, first_air, no_counts}
 use Rattle.include_world.specs.World.{WorldState, Doing, IncludeEvent, Says, Passes, Lands, Ends, does, says, adds, begins, refused, resets, repeats, joiner_of, first_world, first_joiner, after_all, entries_all, AllDrawn, AllSent, IsDrawn}
 use Rattle.include_world.specs.Added.{IsSecure, last_of, last_word, Reached}

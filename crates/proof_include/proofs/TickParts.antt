@@ -2,8 +2,8 @@
 use Rattle.std.proofs.Common.{◌≡◌, ℕ, zero, suc, ◌+◌, ◌-◌, ◌≤◌, Bool, true, false, List, [], ◌∷◌, ◌++◌, map, refl, ap, sym, subst, ◌∙◌, append_assoc, arith}
 use Rattle.inclusion.specs.Joining.{joiner_takes}
 use Rattle.inclusion.specs.Including.{includer_takes}
-use Rattle.include_world.specs.declared.flight.Heading.{Heading}
-use Rattle.include_world.specs.declared.flight.Heading.TheVariants.{Outward, Homeward}
+use Rattle.air_frames.specs.declared.frame.Heading.{Heading}
+use Rattle.air_frames.specs.declared.frame.Heading.TheVariants.{Outward, Homeward}
 use Rattle.include_world.specs.declared.flight.Flight.{Flight}
 use Rattle.include_world.specs.Air.{AirState, departing, frame_at, heard_if, heard_of, sending}
 use Rattle.include_world.specs.World.{WorldState, IncludeEvent, Passes, Lands, Ends, does, hears, hears_by, lands_by, joiner_of, after_all}

@@ -5,8 +5,8 @@ use Rattle.inclusion.specs.declared.exchange.Exchange.{Exchange}
 use Rattle.inclusion.specs.Messages.{message_of}
 use Rattle.inclusion.specs.Joining.{joiner_takes}
 use Rattle.inclusion.specs.Including.{is_secure, includer_takes, exchange_after}
-use Rattle.include_world.specs.declared.flight.Heading.{Heading}
-use Rattle.include_world.specs.declared.flight.Heading.TheVariants.{Outward, Homeward}
+use Rattle.air_frames.specs.declared.frame.Heading.{Heading}
+use Rattle.air_frames.specs.declared.frame.Heading.TheVariants.{Outward, Homeward}
 use Rattle.include_world.specs.declared.flight.Flight.{Flight}
 use Rattle.include_world.specs.declared.air.Coming.{Coming}
 use Rattle.include_world.specs.Air.{AirState, pair_of, departing, sending, no_flight, frame_at, flight_at, heard_if, is_forgotten, arriving, flying}

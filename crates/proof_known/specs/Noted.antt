@@ -6,7 +6,7 @@ use Rattle.zw_base.specs.PropertyOrder.{same_property}
 use Rattle.zw_base.specs.declared.property.Property.{Property}
 use Rattle.zw_base.specs.declared.property.Setting.{Setting}
 use Rattle.s0_crypto.specs.declared.key_pair.Keys.{Keys}
-use Rattle.s0_crypto.specs.Opening.{nonce_in}
+use Rattle.s0_crypto.specs.Opening.{sender_nonce_in}
 use Rattle.s0_crypto.specs.Seal.{Seals}
 use Rattle.class_info.specs.declared.report_status.ReportStatus.{ReportStatus}
 use Rattle.class_info.specs.declared.report_status.ReportStatus.TheVariants as statuses
@@ -99,7 +99,7 @@ NotesWhatWasTold transcript = Keeps may_note transcript
 pub record IsOpenedTo (keys : Keys) (node : ℕ) (payload : List ℕ) (such : Told → Bool) : Type 0 where
   pub nonce : List ℕ
   pub plain : List ℕ
-  pub seals : Seals keys (nonce_in payload) nonce (record { sender = node; receiver = controller }) plain payload
+  pub seals : Seals keys (sender_nonce_in payload) nonce (record { sender = node; receiver = controller }) plain payload
   pub tells : list_any such (messages_of (heard_at plain)) ≡ true
 
 -- where it is sealed

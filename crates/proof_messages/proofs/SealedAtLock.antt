@@ -14,7 +14,7 @@ use Rattle.supervision.specs.declared.device_book.Heard.TheVariants.{New, Again,
 use Rattle.s0_crypto.specs.declared.key_pair.Keys.{Keys}
 use Rattle.s0_crypto.specs.declared.ends.SealEnds.{SealEnds}
 use Rattle.s0_crypto.specs.Seal.{Seals, code_of}
-use Rattle.s0_crypto.specs.Opening.{nonce_in}
+use Rattle.s0_crypto.specs.Opening.{sender_nonce_in}
 use Rattle.s0_crypto.proofs.MessageLemmas.{length_of_layout, nonce_of_layout}
 use Rattle.s0_crypto.proofs.OpeningLemmas.{length-code_of, one_plain_text}
 use Rattle.s0_crypto.proofs.StreamLemmas.{length-ofb_from}
@@ -85,10 +85,10 @@ is_sealed_text keys own nonce ends plain eight =
     let many : 20 ≤ length bytes = omega (arith, size, more) in
     let place : length bytes - 9 ≡ length text + 10 = omega (arith, size) in
     let names : slice_index bytes (length bytes - 9) ≡ slice_index nonce 0 = ap (λ (n : ℕ). slice_index bytes n) place ∙ named_at own text code (slice_index nonce 0) eight last in
-    let own_is : nonce_in bytes ≡ own = nonce_of_layout own text code (slice_index nonce 0) eight refl in
+    let own_is : sender_nonce_in bytes ≡ own = nonce_of_layout own text code (slice_index nonce 0) eight refl in
     let seals : Seals keys own nonce ends plain bytes = record { cipher_text = text; enciphers = refl; layout = refl } in
-    let found : Seals keys (nonce_in bytes) nonce ends plain bytes = subst (λ (n : List ℕ). Seals keys n nonce ends plain bytes) (sym own_is) seals in
-    let found_eight : length (nonce_in bytes) ≡ 8 = ap length own_is ∙ eight in
+    let found : Seals keys (sender_nonce_in bytes) nonce ends plain bytes = subst (λ (n : List ℕ). Seals keys n nonce ends plain bytes) (sym own_is) seals in
+    let found_eight : length (sender_nonce_in bytes) ≡ 8 = ap length own_is ∙ eight in
     record {
       long = many;
       class = refl;

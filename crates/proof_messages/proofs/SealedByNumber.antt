@@ -6,7 +6,7 @@ use Rattle.std.proofs.lemmas.Bool.{eq-eqb}
 use Rattle.s0_crypto.specs.declared.key_pair.Keys.{Keys}
 use Rattle.s0_crypto.specs.declared.ends.SealEnds.{SealEnds}
 use Rattle.s0_crypto.specs.Seal.{Seals, code_of}
-use Rattle.s0_crypto.specs.Opening.{nonce_in, IsGood}
+use Rattle.s0_crypto.specs.Opening.{sender_nonce_in, IsGood}
 use Rattle.s0_crypto.proofs.MessageLemmas.{nonce_of_layout}
 use Rattle.s0_crypto.proofs.OpeningLemmas.{good_from_seals, length-code_of, one_plain_text}
 use Rattle.s0_crypto.proofs.StreamLemmas.{length-ofb_from}
@@ -42,12 +42,12 @@ seals_of keys own nonce ends plain = record { cipher_text = cipher_text_of keys 
 record IsMade (keys : Keys) (nonce : List ℕ) (ends : SealEnds) (plain payload : List ℕ) : Type 0 where
   text : IsText nonce payload
   good : IsGood keys nonce ends payload
-  only : (other : List ℕ) → Seals keys (nonce_in payload) nonce ends other payload → other ≡ plain
+  only : (other : List ℕ) → Seals keys (sender_nonce_in payload) nonce ends other payload → other ≡ plain
 
 made : (keys : Keys) (ends : SealEnds) (nonces : List (List ℕ)) (number : ℕ) (plain payload : List ℕ) (is : IsSealed keys ends nonces number plain payload) → IsMade keys is.nonce ends plain payload
 made keys ends nonces number plain payload is =
     let seals : Seals keys is.own is.nonce ends plain payload = subst (λ (p : List ℕ). Seals keys is.own is.nonce ends plain p) (sym is.text) (seals_of keys is.own is.nonce ends plain) in
-    let own_is : nonce_in payload ≡ is.own = nonce_of_layout is.own seals.cipher_text (code_of keys (is.own ++ is.nonce) ends seals.cipher_text) (slice_index is.nonce 0) is.eight seals.layout in
+    let own_is : sender_nonce_in payload ≡ is.own = nonce_of_layout is.own seals.cipher_text (code_of keys (is.own ++ is.nonce) ends seals.cipher_text) (slice_index is.nonce 0) is.eight seals.layout in
     record {
       text = subst (λ (p : List ℕ). IsText is.nonce p) (sym is.text) (is_text keys is.own is.nonce ends plain is.eight);
       good = good_from_seals keys is.own is.nonce ends plain payload is.eight seals;

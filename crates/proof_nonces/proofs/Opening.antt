@@ -6,7 +6,7 @@ use Rattle.std.proofs.lemmas.List.{get_or-set_same}
 use Rattle.zw_base.specs.declared.property.Setting.{Setting}
 use Rattle.zw_base.proofs.Each.{all-append, all-both, all-weaker}
 use Rattle.s0_crypto.specs.declared.key_pair.Keys.{Keys}
-use Rattle.s0_crypto.specs.Opening.{nonce_in}
+use Rattle.s0_crypto.specs.Opening.{sender_nonce_in}
 use Rattle.s0_crypto.specs.Seal.{Seals}
 use Rattle.s0_session.specs.declared.account.Account.{Account}
 use Rattle.s0_session.specs.Nonces.{account_of, given_of, live_of, unused}
@@ -376,7 +376,7 @@ module _ (keys : Keys) where
   spends_one : (drawn next : ℕ → ℕ → List ℕ) (openings : List Opened) (h : HostState) (event : HostEvent) (past : List Entry) (carried : Carried) (nonce plain : List ℕ) → h.keys ≡ keys → LiveSo drawn h.nonces
       → Agrees drawn next h.nonces → AllByRecursion (λ one. one.number ≤ spent_of h.nonces one.node) openings → AllByRecursion (λ one. length one.before < length (before_judged past)) openings
       → length (before_judged past) < length past → live_of h.nonces carried.node ≡ Some nonce → event ≡ Spends carried.node
-      → Seals h.keys (nonce_in carried.payload) nonce (ends_from carried.node) plain carried.payload → Grew next openings event (after h event).nonces past carried
+      → Seals h.keys (sender_nonce_in carried.payload) nonce (ends_from carried.node) plain carried.payload → Grew next openings event (after h event).nonces past carried
   spends_one drawn next openings h event past carried nonce plain same live agrees spent later shorter at is seals =
       let n : ℕ = carried.node in
       let given : ℕ = given_of h.nonces n in
@@ -402,8 +402,8 @@ module _ (keys : Keys) where
         spent = omega (arith, now);
         opens = record {
           plain = plain;
-          seals = subst (λ (x : List ℕ). Seals keys (nonce_in carried.payload) x (ends_from n) plain carried.payload) text
-              (subst (λ (k : Keys). Seals k (nonce_in carried.payload) nonce (ends_from n) plain carried.payload) same seals);
+          seals = subst (λ (x : List ℕ). Seals keys (sender_nonce_in carried.payload) x (ends_from n) plain carried.payload) text
+              (subst (λ (k : Keys). Seals k (sender_nonce_in carried.payload) nonce (ends_from n) plain carried.payload) same seals);
         };
       }
 

@@ -23,7 +23,7 @@ use Rattle.supervision.specs.Host.{told_of}
 use Rattle.supervision.specs.declared.host_node.Told.{Told as TheTold}
 use Rattle.supervision.specs.declared.host_node.Told.TheVariants as told
 use Rattle.s0_crypto.specs.declared.key_pair.Keys.{Keys}
-use Rattle.s0_crypto.specs.Opening.{nonce_in}
+use Rattle.s0_crypto.specs.Opening.{sender_nonce_in}
 use Rattle.s0_crypto.specs.Seal.{Seals}
 use Rattle.s0_session.specs.Nonces.{live_of}
 use Rattle.value_store.specs.Values.{count_with}
@@ -199,7 +199,7 @@ module _ (keys : Keys) (n : ℕ) (payload : List ℕ) where
               record {
                 nonce = nonce;
                 plain = to.plain;
-                seals = subst (λ (k : Keys). Seals k (nonce_in payload) nonce (ends_from n) to.plain payload) same to.seals;
+                seals = subst (λ (k : Keys). Seals k (sender_nonce_in payload) nonce (ends_from n) to.plain payload) same to.seals;
                 tells = ap (λ (k : Heard). list_any such (messages_of k)) to.tells ∙ any;
               },
             )) taken_so,

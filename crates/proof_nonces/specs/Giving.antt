@@ -2,7 +2,7 @@
 use Rattle.std.specs.Prelude.{◌≡◌, ℕ, ◌<◌, ◌≤◌, if◌then◌else◌, Bool, List, [], ◌∷◌, ◌++◌, length, filter, map, ⊤}
 use Rattle.std.specs.List.{AllByRecursion}
 use Rattle.s0_crypto.specs.declared.key_pair.Keys.{Keys}
-use Rattle.s0_crypto.specs.Opening.{nonce_in}
+use Rattle.s0_crypto.specs.Opening.{sender_nonce_in}
 use Rattle.s0_crypto.specs.Seal.{Seals}
 use Rattle.encap.specs.Opening.{begins_with}
 use Rattle.host_heard.specs.Telling.{heard_at}
@@ -72,7 +72,7 @@ pub record IsBefore (first later : Opened) : Type 0 where
 -- the node sealed it with these keys for this nonce
 pub record OpensFor (keys : Keys) (nonce : List ℕ) (carried : Carried) : Type 0 where
   pub plain : List ℕ
-  pub seals : Seals keys (nonce_in carried.payload) nonce (record { sender = carried.node; receiver = controller }) plain carried.payload
+  pub seals : Seals keys (sender_nonce_in carried.payload) nonce (record { sender = carried.node; receiver = controller }) plain carried.payload
 
 -- it is one of those that opened, for its nonce
 pub record IsOpenedOnce (keys : Keys) (drawn : ℕ → ℕ → List ℕ) (openings : List Opened) (before : List Entry) (carried : Carried) : Type 0 where

@@ -4,7 +4,7 @@ use Rattle.std.specs.Prelude.{Option, Some, None, Result, Ok, Err}
 use Rattle.std.specs.List.{AllByRecursion, flat_map}
 use Rattle.zw_base.specs.declared.property.Setting.{Setting}
 use Rattle.s0_crypto.specs.declared.key_pair.Keys.{Keys}
-use Rattle.s0_crypto.specs.Opening.{nonce_in}
+use Rattle.s0_crypto.specs.Opening.{sender_nonce_in}
 use Rattle.s0_crypto.specs.Seal.{Seals}
 use Rattle.s0_session.specs.Nonces.{live_of}
 use Rattle.serial_frame.specs.Frame.{FrameParts, checksum, framed, kind_code}
@@ -229,7 +229,7 @@ module _ (keys : Keys) (n : ℕ) (payload : List ℕ) where
     where
       opens : HostOpens h n nonce payload messages → OpensTo keys n payload messages
       opens to =
-          record { nonce = nonce; plain = to.plain; seals = subst (λ (k : Keys). Seals k (nonce_in payload) nonce (ends_from n) to.plain payload) same to.seals; tells = to.tells }
+          record { nonce = nonce; plain = to.plain; seals = subst (λ (k : Keys). Seals k (sender_nonce_in payload) nonce (ends_from n) to.plain payload) same to.seals; tells = to.tells }
 
   pub payload_goes : (past : List Entry) (h : HostState) → Ties past h → h.keys ≡ keys → (heard : Heard) (event : HostEvent) (left : List HostEvent) (some : List Entry)
       → PayloadEvents h n payload heard (event ∷ left) → AreTold (outs h event) some → Taking past h heard event left some

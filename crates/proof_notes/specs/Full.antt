@@ -4,7 +4,7 @@ use Rattle.std.specs.Prelude.{◌≡◌, ◌⊎◌, ◌&&◌, not, ℕ, Bool, tr
 use Rattle.std.specs.List.{AllByRecursion, flat_map}
 use Rattle.zw_base.specs.declared.property.Setting.{Setting}
 use Rattle.s0_crypto.specs.declared.key_pair.Keys.{Keys}
-use Rattle.s0_crypto.specs.Opening.{nonce_in}
+use Rattle.s0_crypto.specs.Opening.{sender_nonce_in}
 use Rattle.s0_crypto.specs.Seal.{Seals}
 use Rattle.class_info.specs.declared.report_status.ReportStatus.{ReportStatus}
 use Rattle.class_info.specs.declared.report_status.ReportStatus.TheVariants as statuses
@@ -92,7 +92,7 @@ MessagesNotes hearing past (message ∷ more) some =
 pub record OpensTo (keys : Keys) (node : ℕ) (payload : List ℕ) (messages : List Told) : Type 0 where
   pub nonce : List ℕ
   pub plain : List ℕ
-  pub seals : Seals keys (nonce_in payload) nonce (record { sender = node; receiver = controller }) plain payload
+  pub seals : Seals keys (sender_nonce_in payload) nonce (record { sender = node; receiver = controller }) plain payload
   pub tells : heard_at plain ≡ Messages messages
 
 -- what a payload has noted: a sealed one is not read, its nonce is not kept as spent, or it opens

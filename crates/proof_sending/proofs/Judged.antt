@@ -14,7 +14,7 @@ use Rattle.serial_frame.specs.declared.unit.Unit.TheVariants.{Ack, Nak, Can, Fra
 use Rattle.serial_link.specs.declared.turn.Turn.{Turn}
 use Rattle.s0_crypto.specs.declared.key_pair.Keys.{Keys}
 use Rattle.s0_crypto.specs.Seal.{Seals}
-use Rattle.s0_crypto.specs.Opening.{nonce_in}
+use Rattle.s0_crypto.specs.Opening.{sender_nonce_in}
 use Rattle.chip_functions.specs.declared.fault.BodyFault.{BodyFault}
 use Rattle.chip_functions.specs.declared.response.Response.{Response}
 use Rattle.chip_functions.specs.declared.notice.Notice.{Notice}
@@ -211,7 +211,7 @@ module _ (laws : Laws) (Holds : Reason → Type 0) (keys : Keys) where
     opened h nonce payload events named tells (inr (inr (messages, rest, to, are, taken_so))) =
         goes_same h events (Spends n ∷ rest) are (λ stands may.
         let heard : AreHeardOf Holds n messages
-        = tells.sealed nonce to.plain messages (named_eight payload (live_of h.nonces n) nonce named (all_at HasEight h.nonces n unused stands.1.waiting.eight tt)) (subst (λ (k : Keys). Seals k (nonce_in payload) nonce (ends_from n) to.plain payload) stands.1.waiting.same to.seals) to.tells in
+        = tells.sealed nonce to.plain messages (named_eight payload (live_of h.nonces n) nonce named (all_at HasEight h.nonces n unused stands.1.waiting.eight tt)) (subst (λ (k : Keys). Seals k (sender_nonce_in payload) nonce (ends_from n) to.plain payload) stands.1.waiting.same to.seals) to.tells in
         ((tt, tt), all_taken (after h (Spends n)) payload true messages rest (said_all n to.plain messages to.tells heard) taken_so))
 
     sealed_goes : (h : HostState) (payload : List ℕ) (nonce : Option (List ℕ)) (events : List HostEvent) → named_by payload (live_of h.nonces n) ≡ nonce → PayloadTells Holds keys n payload → SealedEvents h n payload nonce events → Goes h events

@@ -15,7 +15,7 @@ use Rattle.serial_frame.specs.declared.item.Item.TheVariants.{Good, Refused}
 use Rattle.serial_frame.specs.declared.unit.Unit.TheVariants.{Ack, Nak, Can, Framed}
 use Rattle.s0_crypto.specs.declared.ends.SealEnds.{SealEnds}
 use Rattle.s0_crypto.specs.declared.key_pair.Keys.{Keys}
-use Rattle.s0_crypto.specs.Opening.{nonce_in}
+use Rattle.s0_crypto.specs.Opening.{sender_nonce_in}
 use Rattle.s0_crypto.specs.Seal.{Seals}
 use Rattle.chip_functions.specs.declared.fault.BodyFault.{BodyFault}
 use Rattle.chip_functions.specs.declared.notice.Notice.{Notice}
@@ -107,9 +107,9 @@ frame_brought past f text has is request status source payload read =
 -- ---- what it tells
 
 -- what is sealed shows eight bytes of its sender
-nonce_eight : (keys : Keys) (nonce : List ℕ) (ends : SealEnds) (plain payload : List ℕ) → Seals keys (nonce_in payload) nonce ends plain payload → length (nonce_in payload) ≡ 8
+nonce_eight : (keys : Keys) (nonce : List ℕ) (ends : SealEnds) (plain payload : List ℕ) → Seals keys (sender_nonce_in payload) nonce ends plain payload → length (sender_nonce_in payload) ≡ 8
 nonce_eight keys nonce ends plain payload seals =
-    let size = sealed_length keys (nonce_in payload) nonce ends plain payload seals in
+    let size = sealed_length keys (sender_nonce_in payload) nonce ends plain payload seals in
     let long : 12 ≤ length payload = omega (arith, size) in
     simp (length-take, length-drop) (omega (arith, long))
 
@@ -132,12 +132,12 @@ module _ (listing : List Entry → ℕ → List ℕ) (key : List ℕ) (past : Li
     sealed = λ nonce plain messages eight seals heard. all_of (IsHeardOf Holds node) messages (λ message has. told_of node message (inr (record {
       payload = payload;
       brought = brought;
-      own = nonce_in payload;
+      own = sender_nonce_in payload;
       nonce = nonce;
       plain = plain;
       own_eight = nonce_eight (keys_of key) nonce (ends_from node) plain payload seals;
       eight = eight;
-      text = sealed_is (keys_of key) (nonce_in payload) nonce (ends_from node) plain payload seals;
+      text = sealed_is (keys_of key) (sender_nonce_in payload) nonce (ends_from node) plain payload seals;
       tells = has_in (heard_at plain) messages message heard has;
     })));
   }

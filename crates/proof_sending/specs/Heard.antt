@@ -6,7 +6,7 @@ use Rattle.serial_frame.specs.declared.item.Item.{Item}
 use Rattle.serial_frame.specs.declared.item.Item.TheVariants.{Good}
 use Rattle.serial_frame.specs.declared.unit.Unit.TheVariants.{Framed}
 use Rattle.s0_crypto.specs.declared.key_pair.Keys.{Keys}
-use Rattle.s0_crypto.specs.Opening.{nonce_in}
+use Rattle.s0_crypto.specs.Opening.{sender_nonce_in}
 use Rattle.s0_crypto.specs.Seal.{Seals}
 use Rattle.chip_functions.specs.Notice.{notice_of}
 use Rattle.chip_functions.specs.declared.notice.Notice.TheVariants.{ApplicationCommandHandler}
@@ -35,7 +35,7 @@ AreHeardOf Holds node messages = AllByRecursion (IsHeardOf Holds node) messages
 -- so for what a payload tells, and for what it opens to with these keys under a nonce of eight bytes
 pub record PayloadTells (Holds : Reason → Type 0) (keys : Keys) (node : ℕ) (payload : List ℕ) : Type 0 where
   pub plainly : (messages : List Told) → heard_at payload ≡ Messages messages → AreHeardOf Holds node messages
-  pub sealed : (nonce plain : List ℕ) (messages : List Told) → length nonce ≡ 8 → Seals keys (nonce_in payload) nonce (ends_from node) plain payload
+  pub sealed : (nonce plain : List ℕ) (messages : List Told) → length nonce ≡ 8 → Seals keys (sender_nonce_in payload) nonce (ends_from node) plain payload
       → heard_at plain ≡ Messages messages → AreHeardOf Holds node messages
 
 -- so where an item that is judged brings a payload: a request of the chip

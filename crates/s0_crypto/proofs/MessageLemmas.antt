@@ -2,7 +2,7 @@
 use Rattle.std.proofs.Common.{◌≡◌, ℕ, ◌+◌, ◌-◌, ◌<◌, ◌≤◌, List, [], ◌∷◌, ◌++◌, length, take, drop, slice_index, get_or, refl, ap, sym, ◌∙◌, arith, append_assoc, length-append}
 use Rattle.std.proofs.lemmas.List.{take_at, drop_at, take-append-drop, drop-drop, drop_more}
 use Rattle.std.proofs.lemmas.List.FromFn.{fill_by_all}
-use Rattle.s0_crypto.specs.Opening.{nonce_in, cipher_text_in, code_in}
+use Rattle.s0_crypto.specs.Opening.{sender_nonce_in, cipher_text_in, code_in}
 use Rattle.aes_block.proofs.Tables.{joined}
 
 pub length_of_layout : (nonce text code : List ℕ) (named : ℕ) {bytes : List ℕ} → length nonce ≡ 8 → length code ≡ 8
@@ -10,8 +10,8 @@ pub length_of_layout : (nonce text code : List ℕ) (named : ℕ) {bytes : List 
 length_of_layout nonce text code named n c e = ap length e ∙ simp length-append (omega arith)
 
 pub nonce_of_layout : (nonce text code : List ℕ) (named : ℕ) {bytes : List ℕ} → length nonce ≡ 8
-    → bytes ≡ 0x98 ∷ 0x81 ∷ (nonce ++ (text ++ named ∷ code)) → nonce_in bytes ≡ nonce
-nonce_of_layout nonce text code named n e = ap nonce_in e ∙ take_at nonce (text ++ named ∷ code) 8 n
+    → bytes ≡ 0x98 ∷ 0x81 ∷ (nonce ++ (text ++ named ∷ code)) → sender_nonce_in bytes ≡ nonce
+nonce_of_layout nonce text code named n e = ap sender_nonce_in e ∙ take_at nonce (text ++ named ∷ code) 8 n
 
 pub text_of_layout : (nonce text code : List ℕ) (named : ℕ) (bytes : List ℕ) → length nonce ≡ 8 → length code ≡ 8
     → bytes ≡ 0x98 ∷ 0x81 ∷ (nonce ++ (text ++ named ∷ code)) → cipher_text_in bytes ≡ text
@@ -32,7 +32,7 @@ code_of_layout nonce text code named bytes n c e =
 -- from the parts
 pub layout_of_parts : (bytes : List ℕ) (named : ℕ) → 20 ≤ length bytes → take 2 bytes ≡ 0x98 ∷ 0x81 ∷ []
     → slice_index bytes (length bytes - 9) ≡ named
-    → bytes ≡ 0x98 ∷ 0x81 ∷ (nonce_in bytes ++ (cipher_text_in bytes ++ named ∷ code_in bytes))
+    → bytes ≡ 0x98 ∷ 0x81 ∷ (sender_nonce_in bytes ++ (cipher_text_in bytes ++ named ∷ code_in bytes))
 layout_of_parts bytes named long header name =
     let n : ℕ = length bytes - 9 - 10 in
     let past : 10 + (length bytes - 9 - 10) ≡ length bytes - 9 = omega arith in
@@ -43,8 +43,8 @@ layout_of_parts bytes named long header name =
     let text : drop 10 bytes ≡ cipher_text_in bytes ++ named ∷ code_in bytes
     = sym (take-append-drop (length bytes - 9 - 10) (drop 10 bytes))
     ∙ ap (λ l. cipher_text_in bytes ++ l) (drop-drop (length bytes - 9 - 10) 10 bytes ∙ ap (λ k. drop k bytes) past ∙ tail) in
-    let rest : drop 2 bytes ≡ nonce_in bytes ++ (cipher_text_in bytes ++ named ∷ code_in bytes)
-    = sym (take-append-drop 8 (drop 2 bytes)) ∙ ap (λ l. nonce_in bytes ++ l) (drop-drop 8 2 bytes ∙ text) in
+    let rest : drop 2 bytes ≡ sender_nonce_in bytes ++ (cipher_text_in bytes ++ named ∷ code_in bytes)
+    = sym (take-append-drop 8 (drop 2 bytes)) ∙ ap (λ l. sender_nonce_in bytes ++ l) (drop-drop 8 2 bytes ∙ text) in
     sym (take-append-drop 2 bytes) ∙ ap (λ l. l ++ drop 2 bytes) header ∙ ap (λ l. 0x98 ∷ 0x81 ∷ l) rest
 
 -- the layout, as it is built

@@ -8,7 +8,7 @@ use Rattle.s0_crypto.specs.declared.fault.SealFault.{SealFault}
 use Rattle.s0_crypto.specs.declared.fault.SealFault.TheVariants.{BadCode, Sequence}
 use Rattle.s0_crypto.specs.Modes.{chained, cbc_mac, key_block, ofb_from, stream_byte}
 use Rattle.s0_crypto.specs.Seal.{Seals, covered, code_of}
-use Rattle.s0_crypto.specs.Opening.{nonce_in, cipher_text_in, code_wanted, sequence_in, vector_of, IsCoded, IsBadlyCoded, HasOtherSequence, IsGood}
+use Rattle.s0_crypto.specs.Opening.{sender_nonce_in, cipher_text_in, code_wanted, sequence_in, vector_of, IsCoded, IsBadlyCoded, HasOtherSequence, IsGood}
 use Rattle.s0_crypto.proofs.MessageLemmas.{length_of_layout, nonce_of_layout, text_of_layout, code_of_layout, layout_of_parts}
 use Rattle.s0_crypto.proofs.StreamLemmas.{length-ofb_from, first_zero, ofb_injective, opened_text}
 
@@ -25,7 +25,7 @@ length-code_of keys vector ends text =
     length-take-le 8 (chained keys.code (covered vector ends text) ((length (covered vector ends text) + 15) / 16)) (omega arith)
 
 -- the sender's nonce and the cipher text of what was sealed
-sealed_nonce : (keys : Keys) (sn rn : List ℕ) (ends : SealEnds) (plain bytes : List ℕ) → length sn ≡ 8 → Seals keys sn rn ends plain bytes → nonce_in bytes ≡ sn
+sealed_nonce : (keys : Keys) (sn rn : List ℕ) (ends : SealEnds) (plain bytes : List ℕ) → length sn ≡ 8 → Seals keys sn rn ends plain bytes → sender_nonce_in bytes ≡ sn
 sealed_nonce keys sn rn ends plain bytes n s = nonce_of_layout sn s.cipher_text _ _ n s.layout
 
 sealed_text : (keys : Keys) (sn rn : List ℕ) (ends : SealEnds) (plain bytes : List ℕ) → length sn ≡ 8 → Seals keys sn rn ends plain bytes
@@ -53,22 +53,22 @@ good_from_seals keys sn rn ends plain bytes n s =
     }
 
 -- two plain texts of one message are one
-pub one_plain_text : (keys : Keys) (sn rn : List ℕ) (ends : SealEnds) (p q bytes : List ℕ) → length sn ≡ 8 → length (nonce_in bytes) ≡ 8
-    → Seals keys (nonce_in bytes) rn ends p bytes → Seals keys sn rn ends q bytes → p ≡ q
+pub one_plain_text : (keys : Keys) (sn rn : List ℕ) (ends : SealEnds) (p q bytes : List ℕ) → length sn ≡ 8 → length (sender_nonce_in bytes) ≡ 8
+    → Seals keys (sender_nonce_in bytes) rn ends p bytes → Seals keys sn rn ends q bytes → p ≡ q
 one_plain_text keys sn rn ends p q bytes n m s t =
     ofb_injective keys.encrypt (sn ++ rn) p q
     (ap (λ v. ofb_from keys.encrypt (v ++ rn) 0 (0 ∷ p)) (sym (sealed_nonce keys sn rn ends q bytes n t))
-    ∙ sym (sealed_text keys (nonce_in bytes) rn ends p bytes m s) ∙ sealed_text keys sn rn ends q bytes n t)
+    ∙ sym (sealed_text keys (sender_nonce_in bytes) rn ends p bytes m s) ∙ sealed_text keys sn rn ends q bytes n t)
 
 -- the code that the code computes
-pub wanted_is : (keys : Keys) (rn : List ℕ) (ends : SealEnds) (bytes : List ℕ) {nonce vector want : List ℕ} → nonce ≡ nonce_in bytes → vector ≡ nonce ++ rn
+pub wanted_is : (keys : Keys) (rn : List ℕ) (ends : SealEnds) (bytes : List ℕ) {nonce vector want : List ℕ} → nonce ≡ sender_nonce_in bytes → vector ≡ nonce ++ rn
     → want ≡ take 8 (cbc_mac keys.code (covered vector ends (cipher_text_in bytes))) → want ≡ code_wanted keys rn ends bytes
 unfolding code_of
 wanted_is keys rn ends bytes nonce_is vector_is want_is =
     want_is ∙ ap (λ v. take 8 (cbc_mac keys.code (covered v ends (cipher_text_in bytes)))) (vector_is ∙ ap (λ n. n ++ rn) nonce_is)
 
 -- the first key block, and the sequence byte that the code computes
-pub block_is : (key rn bytes : List ℕ) {nonce vector block : List ℕ} → nonce ≡ nonce_in bytes → vector ≡ nonce ++ rn → block ≡ aes key vector
+pub block_is : (key rn bytes : List ℕ) {nonce vector block : List ℕ} → nonce ≡ sender_nonce_in bytes → vector ≡ nonce ++ rn → block ≡ aes key vector
     → block ≡ key_block key (vector_of rn bytes) 1
 unfolding key_block
 block_is key rn bytes nonce_is vector_is encrypted = encrypted ∙ ap (aes key) (vector_is ∙ ap (λ n. n ++ rn) nonce_is)
@@ -138,7 +138,7 @@ sealed_not_other keys rn ends bytes b sn plain has n s = never_good keys rn ends
 -- a good message seals what it is opened to
 pub seals_from_parts : (keys : Keys) (rn : List ℕ) (ends : SealEnds) (bytes plain : List ℕ) → IsGood keys rn ends bytes
     → take 2 bytes ≡ 0x98 ∷ 0x81 ∷ [] → slice_index bytes (length bytes - 9) ≡ slice_index rn 0
-    → plain ≡ ofb_from keys.encrypt (vector_of rn bytes) 1 (take (length (cipher_text_in bytes) - 1) (drop 1 (cipher_text_in bytes))) → Seals keys (nonce_in bytes) rn ends plain bytes
+    → plain ≡ ofb_from keys.encrypt (vector_of rn bytes) 1 (take (length (cipher_text_in bytes) - 1) (drop 1 (cipher_text_in bytes))) → Seals keys (sender_nonce_in bytes) rn ends plain bytes
 seals_from_parts keys rn ends bytes plain good header named plain_is =
     let some : 0 < length (cipher_text_in bytes) = simp (length-take, length-drop) (omega (arith, good.coded.long)) in
     let split : cipher_text_in bytes ≡ slice_index (cipher_text_in bytes) 0 ∷ drop 1 (cipher_text_in bytes) = drop_more (cipher_text_in bytes) 0 0 some in
@@ -147,7 +147,7 @@ seals_from_parts keys rn ends bytes plain good header named plain_is =
       enciphers = split ∙ opened_text keys.encrypt (vector_of rn bytes) (slice_index (cipher_text_in bytes) 0) (drop 1 (cipher_text_in bytes)) plain good.zero
           (plain_is ∙ ap (ofb_from keys.encrypt (vector_of rn bytes) 1) (take_rest (cipher_text_in bytes) 1));
       layout = layout_of_parts bytes (slice_index rn 0) good.coded.long header named
-          ∙ ap (λ code. 0x98 ∷ 0x81 ∷ (nonce_in bytes ++ (cipher_text_in bytes ++ slice_index rn 0 ∷ code))) (sym good.coded.code);
+          ∙ ap (λ code. 0x98 ∷ 0x81 ∷ (sender_nonce_in bytes ++ (cipher_text_in bytes ++ slice_index rn 0 ∷ code))) (sym good.coded.code);
     }
 
 -- what a test of two codes says
@@ -159,7 +159,7 @@ is_same told is_true = told.0 is_true
 
 -- the parts that the code computes, where the codes differ
 pub badly : (keys : Keys) (rn : List ℕ) (ends : SealEnds) (bytes : List ℕ) {nonce vector want got : List ℕ} {b : Bool} → 20 ≤ length bytes
-    → nonce ≡ nonce_in bytes → vector ≡ nonce ++ rn → want ≡ take 8 (cbc_mac keys.code (covered vector ends (cipher_text_in bytes))) → got ≡ take (length bytes - (length bytes - 8)) (drop (length bytes - 8) bytes)
+    → nonce ≡ sender_nonce_in bytes → vector ≡ nonce ++ rn → want ≡ take 8 (cbc_mac keys.code (covered vector ends (cipher_text_in bytes))) → got ≡ take (length bytes - (length bytes - 8)) (drop (length bytes - 8) bytes)
     → IsTrue b ↔ (want ≡ got) → b ≡ false → IsBadlyCoded keys rn ends bytes want got
 badly keys rn ends bytes long nonce_is vector_is want_is got_is told is_false = record {
   long = long;
@@ -170,7 +170,7 @@ badly keys rn ends bytes long nonce_is vector_is want_is got_is told is_false = 
 
 -- the parts that the code computes, where the codes agree
 pub coded : (keys : Keys) (rn : List ℕ) (ends : SealEnds) (bytes : List ℕ) {nonce vector want got : List ℕ} {b : Bool} → 20 ≤ length bytes
-    → nonce ≡ nonce_in bytes → vector ≡ nonce ++ rn → want ≡ take 8 (cbc_mac keys.code (covered vector ends (cipher_text_in bytes))) → got ≡ take (length bytes - (length bytes - 8)) (drop (length bytes - 8) bytes)
+    → nonce ≡ sender_nonce_in bytes → vector ≡ nonce ++ rn → want ≡ take 8 (cbc_mac keys.code (covered vector ends (cipher_text_in bytes))) → got ≡ take (length bytes - (length bytes - 8)) (drop (length bytes - 8) bytes)
     → IsTrue b ↔ (want ≡ got) → b ≡ true → IsCoded keys rn ends bytes
 coded keys rn ends bytes long nonce_is vector_is want_is got_is told is_true = record {
   long = long;

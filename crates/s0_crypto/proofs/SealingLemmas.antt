@@ -9,7 +9,7 @@ use Rattle.std.proofs.lemmas.List.{length-take}
 use Rattle.s0_crypto.specs.declared.key_pair.Keys.{Keys}
 use Rattle.s0_crypto.specs.declared.ends.SealEnds.{SealEnds}
 use Rattle.s0_crypto.specs.Seal.{Seals, code_of}
-use Rattle.s0_crypto.specs.Opening.{nonce_in, code_wanted, code_in, sequence_in, IsGood, IsBadlyCoded, HasOtherSequence}
+use Rattle.s0_crypto.specs.Opening.{sender_nonce_in, code_wanted, code_in, sequence_in, IsGood, IsBadlyCoded, HasOtherSequence}
 use Rattle.s0_crypto.proofs.OpeningLemmas.{good_from_seals, seals_from_parts, header_of}
 use Rattle.s0_crypto.specs.Sealing.{plain_in, is_good, unsealed_at, sealed_text}
 
@@ -47,14 +47,14 @@ pub other_sequence : (keys : Keys) (nonce : List ℕ) (ends : SealEnds) (bytes :
 other_sequence keys nonce ends bytes byte s = stays_shut keys nonce ends bytes (λ g. s.not_zero (s.is_sequence ∙ g.zero))
 
 pub opened_is : (keys : Keys) (nonce : List ℕ) (ends : SealEnds) (bytes plain : List ℕ) → 20 ≤ length bytes → slice_index bytes 0 ≡ 0x98 → slice_index bytes 1 ≡ 0x81
-    → slice_index bytes (length bytes - 9) ≡ slice_index nonce 0 → Seals keys (nonce_in bytes) nonce ends plain bytes
+    → slice_index bytes (length bytes - 9) ≡ slice_index nonce 0 → Seals keys (sender_nonce_in bytes) nonce ends plain bytes
     → ((own other : List ℕ) → length own ≡ 8 → Seals keys own nonce ends other bytes → plain ≡ other)
     → Some plain ≡ unsealed_at keys nonce ends bytes
 opened_is keys nonce ends bytes plain long class command named seals only =
-    let eight : length (nonce_in bytes) ≡ 8 = simp (length-take, length-drop) (omega arith) in
-    let good = good_from_seals keys (nonce_in bytes) nonce ends plain bytes eight seals in
+    let eight : length (sender_nonce_in bytes) ≡ 8 = simp (length-take, length-drop) (omega arith) in
+    let good = good_from_seals keys (sender_nonce_in bytes) nonce ends plain bytes eight seals in
     let again = seals_from_parts keys nonce ends bytes (plain_in keys nonce bytes) good (header_of bytes long class command) named refl in
-    ap Some (only (nonce_in bytes) (plain_in keys nonce bytes) eight again) ∙ sym (opens_to keys nonce ends bytes good)
+    ap Some (only (sender_nonce_in bytes) (plain_in keys nonce bytes) eight again) ∙ sym (opens_to keys nonce ends bytes good)
 
 -- ---- what is sealed
 

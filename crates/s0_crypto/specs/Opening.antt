@@ -7,8 +7,8 @@ use Rattle.s0_crypto.specs.Modes.{stream_byte}
 use Rattle.s0_crypto.specs.Seal.{code_of}
 
 -- the sender's nonce in a message
-abbrev pub nonce_in : List ℕ → List ℕ
-nonce_in bytes = slice_range bytes 2 10
+abbrev pub sender_nonce_in : List ℕ → List ℕ
+sender_nonce_in bytes = slice_range bytes 2 10
 
 -- the cipher text in a message
 abbrev pub cipher_text_in : List ℕ → List ℕ
@@ -20,7 +20,7 @@ code_in bytes = drop (length bytes - 8) bytes
 
 -- the vector of a message, for a nonce of its receiver
 abbrev pub vector_of : List ℕ → List ℕ → List ℕ
-vector_of receiver_nonce bytes = nonce_in bytes ++ receiver_nonce
+vector_of receiver_nonce bytes = sender_nonce_in bytes ++ receiver_nonce
 
 -- the code that a message should have
 abbrev pub code_wanted : Keys → List ℕ → SealEnds → List ℕ → List ℕ

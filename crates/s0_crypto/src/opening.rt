@@ -3,7 +3,7 @@
 ghost use Rattle.std.specs.Prelude.{◌≡◌, ℕ, ◌-◌, ◌≤◌, ◌<◌, ◌↔◌, List, length, slice_index, IfOk, IsErrOf, IsTrue, MatchResult};
 ghost use Rattle.s0_crypto.specs.Modes.{key_block, ofb_from};
 ghost use Rattle.s0_crypto.specs.Seal.{Seals};
-ghost use Rattle.s0_crypto.specs.Opening.{nonce_in, IsBadlyCoded, HasOtherSequence, IsGood};
+ghost use Rattle.s0_crypto.specs.Opening.{sender_nonce_in, IsBadlyCoded, HasOtherSequence, IsGood};
 ghost use Rattle.s0_crypto.specs.Sealing.{keys_of, unsealed_at};
 
 use crate::code::code;
@@ -64,7 +64,7 @@ pub fn unseal(
 ) -> Result<Bytes, SealFault>
     requires header { 20 ≤ length bytes.now → (slice_index bytes.now 0 ≡ 0x98) × (slice_index bytes.now 1 ≡ 0x81) }
     requires named { 20 ≤ length bytes.now → slice_index bytes.now (length bytes.now - 9) ≡ slice_index receiver_nonce 0 }
-    ensures opened { IfOk result (λ plain. Seals keys.now (nonce_in bytes.now) receiver_nonce ends.now plain bytes.now) }
+    ensures opened { IfOk result (λ plain. Seals keys.now (sender_nonce_in bytes.now) receiver_nonce ends.now plain bytes.now) }
 
     // What was sealed opens to its plain text and no other, unless there is no memory.
     ensures sealed { (sender_nonce plain : List ℕ) → length sender_nonce ≡ 8

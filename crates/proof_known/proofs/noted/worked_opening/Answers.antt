@@ -4,7 +4,7 @@ use Rattle.std.specs.Prelude.{slice_index}
 use Rattle.proof_transcript.proofs.Deciding.{kept}
 use Rattle.proof_transcript.proofs.Computing.{computing}
 use Rattle.s0_crypto.specs.declared.key_pair.Keys.{Keys}
-use Rattle.s0_crypto.specs.Opening.{nonce_in}
+use Rattle.s0_crypto.specs.Opening.{sender_nonce_in}
 use Rattle.s0_crypto.specs.Seal.{code_of}
 use Rattle.host_heard.specs.declared.told.Told.{Told}
 use Rattle.proof_transcript.specs.law_transcript.Nodes.{controller}
@@ -20,7 +20,7 @@ no_seal (byte ∷ own) cipher code first is = cc
 
 no_opening : (keys : Keys) (node : ℕ) (such : Told → Bool) → IsOpenedTo keys node (152 ∷ 129 ∷ []) such → ⊥
 no_opening keys node such opens =
-    let own : List ℕ = nonce_in (152 ∷ 129 ∷ []) in
+    let own : List ℕ = sender_nonce_in (152 ∷ 129 ∷ []) in
     no_seal own opens.seals.cipher_text (code_of keys (own ++ opens.nonce) (record { sender = node; receiver = controller }) opens.seals.cipher_text) (slice_index opens.nonce 0) opens.seals.layout
 
 pub returns-clause-openly : goal.returns-clause-openly

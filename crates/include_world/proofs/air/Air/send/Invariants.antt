@@ -8,5 +8,5 @@ invariant-loop-at l = record {
   outs : l.out.items ++ sent_entries l.self.state l.node l.heading (drop l.at l.replies) ≡ l.fn.out.items ++ sent_entries l.fn.self.state l.node l.heading l.replies;
   room : l.fn.self.room ≤ l.self.room + l.at;
   out_room : l.fn.out.room ≤ l.out.room + l.at;
-  count : (pair_of l.self.state l.node).shown ≤ (pair_of l.fn.self.state l.node).shown + l.at;
+  count : (pair_of l.self.state l.node).nonces.shown ≤ (pair_of l.fn.self.state l.node).nonces.shown + l.at;
 }
