@@ -3,8 +3,7 @@
 ghost use Rattle.std.specs.Prelude.{◌≡◌, ◌++◌, OnOk, codes, decimal, string_bytes};
 ghost use Rattle.zw_base.specs.PropertyWord.{name_word, property_word};
 
-use crate::{Name, NodeId, Property};
-use itoa::Buffer;
+use crate::{Name, NodeId, Property, push_number};
 use std::alloc::AllocError;
 
 impl Property {
@@ -13,7 +12,7 @@ impl Property {
     pub fn write(self, text: &mut String) -> Result<(), AllocError>
         ensures { OnOk result (string_bytes text.new ≡ string_bytes text.old ++ property_word self) }
     {
-        push_number(text, self.end.number())?;
+        push_number(text, u64::from(self.end.number()))?;
         text.push_str("/")?;
         self.name.write(text)
     }
@@ -39,20 +38,12 @@ impl Name {
     }
 }
 
-/// A number.
-fn push_number(text: &mut String, n: u8) -> Result<(), AllocError>
-    ensures { OnOk result (string_bytes text.new ≡ string_bytes text.old ++ decimal n) }
-{
-    let mut digits = Buffer::new();
-    text.push_str(digits.format(n))
-}
-
 /// A name and its number.
 fn push_named(text: &mut String, name: &str, n: u8) -> Result<(), AllocError>
     ensures { OnOk result (string_bytes text.new ≡ string_bytes text.old ++ (name.now ++ decimal n)) }
 {
     text.push_str(name)?;
-    push_number(text, n)
+    push_number(text, u64::from(n))
 }
 
 /// A member of a group.
