@@ -1,7 +1,8 @@
 -- What two functions have in common with a table of their values.
-use Rattle.std.proofs.Common.{◌≡◌, ℕ, ◌+◌, ◌*◌, ◌-◌, ◌<◌, ◌≤◌, List, [], ◌∷◌, ◌++◌, refl, map, bit_xor, get_or, ap, sym, ◌∙◌, arith}
+use Rattle.std.proofs.Common.{◌≡◌, ℕ, ◌+◌, ◌-◌, ◌<◌, ◌≤◌, List, [], ◌∷◌, ◌++◌, refl, map, get_or, ap, sym, ◌∙◌, arith}
 use Rattle.std.specs.List.{range_with_len}
 use Rattle.std.proofs.lemmas.List.FromFn.{get_or-map-range_with_len}
+use Rattle.aes_block.specs.declared.doubling.TheConstants.{DOUBLED}
 use Rattle.aes_block.specs.declared.substitution.TheConstants.{SUBSTITUTION}
 use Rattle.aes_block.specs.Field.{product, inverse, affine, substituted, times_x}
 
@@ -44,12 +45,10 @@ pub substitution_at : (a : ℕ) → a < 256 → get_or SUBSTITUTION a 0 ≡ subs
 substitution_at a byte =
     ap (λ xs. get_or xs a 0) (sym substitution_table) ∙ get_or-map-range_with_len substituted 0 256 a a 0 byte (omega arith)
 
--- doubling by shifting out the highest bit, at each byte that has it
-doubled_tables : map (λ k. bit_xor (2 * k) 0x1B) (range_with_len 0 128) ≡ map (λ k. times_x (k + 128)) (range_with_len 0 128)
-doubled_tables = refl
+-- the table of the products with x
+doubled_table : map times_x (range_with_len 0 256) ≡ DOUBLED
+doubled_table = refl
 
--- doubling by shifting out the highest bit
-pub doubled_high : (a : ℕ) → 128 ≤ a → a < 256 → bit_xor (2 * (a - 128)) 0x1B ≡ times_x a
-doubled_high a high low =
-    same_from_tables (λ k. bit_xor (2 * k) 0x1B) (λ k. times_x (k + 128)) 0 128 (a - 128) (omega arith) (omega arith) doubled_tables
-    ∙ ap times_x (let e : a - 128 + 128 ≡ a = omega arith in e)
+-- each entry
+pub doubled_at : (a : ℕ) → a < 256 → get_or DOUBLED a 0 ≡ times_x a
+doubled_at a byte = ap (λ xs. get_or xs a 0) (sym doubled_table) ∙ get_or-map-range_with_len times_x 0 256 a a 0 byte (omega arith)

@@ -3,8 +3,9 @@
 ghost use Rattle.std.specs.Prelude.{◌≡◌, ℕ};
 ghost use Rattle.aes_block.specs.Cipher.{aes};
 
+use crate::doubling::double;
 use crate::key_schedule::next_round_key;
-use crate::state::{add_round_key, double, mix_columns, shift_rows, sub_bytes};
+use crate::state::{add_round_key, mix_columns, shift_rows, sub_bytes};
 use std::marker::Model;
 
 /// The rounds of AES-128 (FIPS 197, section 5).

@@ -5,6 +5,7 @@
 #![tactic(auto)]
 
 mod cipher;
+mod doubling;
 mod field;
 mod key_schedule;
 mod state;

@@ -1,21 +1,10 @@
 //! The four transformations of a state (FIPS 197, sections 5.1.1 to 5.1.4). A state is 16 bytes, column after column.
 
 ghost use Rattle.std.specs.Prelude.{◌≡◌};
-ghost use Rattle.aes_block.specs.Field.{times_x};
 ghost use Rattle.aes_block.specs.Cipher.{sub_bytes, shift_rows, mix_columns, add_round_key, mixed};
 
+use crate::doubling::double;
 use crate::substitution::substitute;
-
-/// The product of a byte with x.
-pub(crate) fn double(byte: u8) -> u8
-    ensures { result ≡ times_x byte }
-{
-    if byte < 128 {
-        2 * byte
-    } else {
-        (2 * (byte - 128)) ^ 0x1B
-    }
-}
 
 /// SubBytes of a state.
 pub(crate) fn sub_bytes(s: [u8; 16]) -> [u8; 16]

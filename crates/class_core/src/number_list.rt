@@ -14,6 +14,9 @@ use zw_base::NoMemory;
 /// The most numbers of a list: its count is one byte.
 pub const MAX_NUMBERS: usize = 255;
 
+/// The room that is made at the first number.
+const FIRST_ROOM: usize = 64;
+
 /// At most 255 numbers of one size. Contracts see the size and the numbers.
 #[derive(Debug, Drop)]
 pub struct NumberList {
@@ -63,7 +66,18 @@ impl NumberList {
         ensures ok { OnOk result (self.new ≡ record self.old { items = self.old.items ++ number ∷ [] }) }
         ensures err { OnErr result (self.new ≡ self.old) }
     {
+        self.make_room()?;
         self.numbers.push(number)?;
+        Ok(())
+    }
+
+    /// Where there are no numbers yet, makes room for as many as most lists have.
+    fn make_room(&mut self) -> Result<(), NoMemory>
+        ensures { self.new ≡ self.old }
+    {
+        if self.numbers.is_empty() {
+            self.numbers.reserve(FIRST_ROOM)?;
+        }
         Ok(())
     }
 

@@ -154,7 +154,7 @@ fn parameters(
     requires { first + length values.now ≤ 256 }
     ensures { IfOk result (λ settings. settings ≡ configured end first values.now) }
 {
-    let mut settings = Vec::new(alloc);
+    let mut settings = Vec::with_capacity(alloc, values.len())?;
     for (i, value) in values.iter().enumerate() {
         let parameter = (usize::from(first) + i) as u8;
         settings.push(setting(end, Name::Config(parameter), *value))?;
@@ -171,7 +171,7 @@ fn members(
 ) -> Result<Sequence<Setting>, NoMemory>
     ensures { IfOk result (λ settings. settings ≡ memberships end value nodes.now) }
 {
-    let mut settings = Vec::new(alloc);
+    let mut settings = Vec::with_capacity(alloc, nodes.len())?;
     for node in nodes {
         settings.push(setting(end, Name::Member(GROUP, *node), value))?;
     }

@@ -56,7 +56,7 @@ pub fn level_with(settings: &[Setting], before: u32) -> u32
     level
 }
 
-/// Where the search for a property begins, if a setting was put last at that place: there, where it comes after that setting.
+/// Where the search for a property begins, if a setting was put last at that place: after it, where it comes after that setting.
 fn begin_at(settings: &[Setting], last: usize, property: &Property) -> usize
     requires { IsLed settings.now last }
     ensures within { result ≤ length settings.now }
@@ -66,7 +66,7 @@ fn begin_at(settings: &[Setting], last: usize, property: &Property) -> usize
         return 0;
     }
     match compare(property, &settings[last].property) {
-        Ordering::Greater => last,
+        Ordering::Greater => last + 1,
         Ordering::Less | Ordering::Equal => 0,
     }
 }
@@ -114,7 +114,8 @@ pub fn merge(
 ) -> Result<Sequence<Setting>, NoMemory>
     ensures { IfOk result (λ all. all ≡ merged settings.now more.now) }
 {
-    let mut all = Vec::from_slice(alloc, settings)?;
+    let mut all = Vec::with_capacity(alloc, settings.len().max(more.len()))?;
+    all.extend_from_slice(settings)?;
     let mut last = 0;
     for setting in more {
         last = place(&mut all, *setting, last)?;

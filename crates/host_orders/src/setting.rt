@@ -69,10 +69,14 @@ fn put_configs(
     requires { offset + length values.now ≤ 256 }
     ensures { OnOk result (out.new.items ≡ out.old.items ++ config_settings end offset values.now) }
 {
+    out.reserve(values.len())?;
     let mut parameter = u32::from(offset);
     for value in values {
         let name = Name::Config(parameter as u8);
-        put(out, Property { end, name }, u32::from(*value))?;
+        out.put(Setting {
+            property: Property { end, name },
+            value: u32::from(*value),
+        });
         parameter += 1;
     }
     Ok(())
@@ -120,8 +124,9 @@ pub fn properties_of(alloc: Global, made: &[Setting]) -> Result<List<Property>, 
     ensures { IfOk result (λ properties. properties.items ≡ properties_in made.now) }
 {
     let mut properties = List::new(alloc);
+    properties.reserve(made.len())?;
     for one in made {
-        properties.push(one.property)?;
+        properties.put(one.property);
     }
     Ok(properties)
 }

@@ -201,8 +201,8 @@ fn perform(
     tell_act(core, node, first, device, &replies, told)
 }
 
-/// A device ticks. One that changes and sends nothing costs no more than that; else both are told and entered. The same
-/// replies, of which there are none before and after, serve each device.
+/// A device ticks. One that changes nothing sends nothing, and costs no more than that; else both are told and entered. The
+/// same replies, of which there are none before and after, serve each device.
 fn tick_one(
     core: &mut OutsideCore,
     device: &mut Box<dyn Device>,
@@ -219,7 +219,7 @@ fn tick_one(
     ensures err { OnErr result (HasActed core.old (state device.old) (state device.new) (Ticks [])) }
 {
     let made = tick_device(device, replies)?;
-    if made == 0 && replies.len() == 0 {
+    if made == 0 {
         return Ok(());
     }
     let first = changes_of(device) - made;

@@ -106,12 +106,13 @@ pub(crate) fn tell_change(
 fn tell_settings(node: NodeId, change: &Change, told: &mut List<Entry>) -> Result<(), NoMemory>
     ensures { OnOk result (told.new.items ≡ told.old.items ++ change_entries node (Some change.now)) }
 {
+    told.reserve(change.settings.len())?;
     for setting in change.settings.as_slice() {
-        told.push(Entry::Dev {
+        told.put(Entry::Dev {
             node,
             by: change.by,
             setting: *setting,
-        })?;
+        });
     }
     Ok(())
 }

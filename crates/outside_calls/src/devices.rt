@@ -128,7 +128,18 @@ pub(crate) fn changes_of(device: &Box<dyn Device>) -> u64
     device.changes()
 }
 
-/// A device ticks. The answer is how many changes it made.
+/// The device in a box ticks. The answer is how many changes it made.
+fn tick_in_box(device: &mut Box<dyn Device>, replies: &mut Replies) -> Result<u64, NoMemory>
+    requires { replies.old ≡ [] }
+    ensures ok { OnOk result (state device.new ≡ device_after (state device.old) (Ticks [])) }
+    ensures replies { OnOk result (replies.new ≡ device_replies (state device.old) (Ticks [])) }
+    ensures made { IfOk result (λ made. length (state device.new).journal ≡ length (state device.old).journal + made) }
+    ensures err { OnErr result (state device.new ≡ state device.old) }
+{
+    device.tick(replies)
+}
+
+/// A device ticks. The answer is how many changes it made. One that makes none sends nothing.
 pub(crate) fn tick_device(
     device: &mut Box<dyn Device>,
     replies: &mut Replies,
@@ -137,9 +148,11 @@ pub(crate) fn tick_device(
     ensures ok { OnOk result (state device.new ≡ device_after (state device.old) (Ticks [])) }
     ensures replies { OnOk result (replies.new ≡ device_replies (state device.old) (Ticks [])) }
     ensures made { IfOk result (λ made. length (state device.new).journal ≡ length (state device.old).journal + made) }
+    ensures quiet { IfOk result (λ made. made ≡ 0 → replies.new ≡ []) }
     ensures err { OnErr result (state device.new ≡ state device.old) }
 {
-    device.tick(replies)
+    let made = tick_in_box(device, replies)?;
+    Ok(made)
 }
 
 /// A device does something.

@@ -6,6 +6,9 @@ use crate::NoMemory;
 use std::alloc::Global;
 use std::marker::Model;
 
+/// The least room that a copy of some bytes is given: the least memory that is handed out holds as much.
+const LEAST_ROOM: usize = 24;
+
 /// A list of bytes. Contracts see the list.
 #[derive(Debug, Drop)]
 pub struct Bytes {
@@ -32,9 +35,9 @@ impl Bytes {
     pub fn from_slice(alloc: Global, bytes: &[u8]) -> Result<Bytes, NoMemory>
         ensures { IfOk result (λ copy. copy ≡ bytes.now) }
     {
-        Ok(Bytes {
-            bytes: Vec::from_slice(alloc, bytes)?,
-        })
+        let mut copy = Vec::with_capacity(alloc, room_for(bytes.len()))?;
+        copy.extend_from_slice(bytes)?;
+        Ok(Bytes { bytes: copy })
     }
 
     pub fn len(&self) -> usize
@@ -72,4 +75,9 @@ impl Bytes {
     {
         self.bytes.as_slice()
     }
+}
+
+/// The room that a copy of so many bytes is given. No bytes take no memory.
+fn room_for(len: usize) -> usize {
+    if len == 0 { 0 } else { len.max(LEAST_ROOM) }
 }

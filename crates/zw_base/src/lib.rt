@@ -8,6 +8,7 @@
 
 mod bytes;
 mod crc;
+mod digits;
 mod end_point;
 mod fixed_draw;
 mod list;
@@ -27,6 +28,7 @@ mod standard;
 
 pub use bytes::Bytes;
 pub use crc::crc_ccitt;
+pub use digits::push_number;
 pub use end_point::{EndPoint, read_end};
 pub use fixed_draw::FixedDraw;
 pub use list::List;

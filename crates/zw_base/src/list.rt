@@ -73,6 +73,17 @@ impl<T> List<T> {
         self.values.push_reserved(item);
     }
 
+    /// Puts all of these items at the end, for which there is room.
+    pub fn put_all(&mut self, more: List<T>)
+    where
+        T: Drop,
+        requires { length more.items ≤ self.old.room }
+        ensures { self.new.items ≡ self.old.items ++ more.items }
+    {
+        let mut values = more.into_items();
+        let _ = self.values.append(&mut values);
+    }
+
     /// Adds an item at the end.
     pub fn push(&mut self, item: T) -> Result<(), NoMemory>
     where
