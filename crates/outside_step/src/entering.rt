@@ -77,7 +77,5 @@ pub fn put_all(told: List<Entry>, out: &mut List<Entry>)
     requires { length told.items ≤ out.old.room }
     ensures { out.new.items ≡ out.old.items ++ told.items }
 {
-    for entry in told.into_items() {
-        out.put(entry);
-    }
+    out.put_all(told);
 }

@@ -6,9 +6,9 @@ ghost use Rattle.hex.specs.Hex.{encode_upper};
 ghost use Rattle.zw_text.specs.Entry.{ends_word, number_words};
 ghost use Rattle.zw_print.specs.Lists.{list_text};
 
-use crate::print_parts::{push_count, push_number};
+use crate::print_parts::push_count;
 use std::alloc::{AllocError, Global};
-use zw_base::NodeId;
+use zw_base::{NodeId, push_number};
 
 /// `air I A>B via R HEX`
 pub fn print_air(

@@ -7,9 +7,8 @@ ghost use Rattle.zw_base.specs.PropertyWord.{property_word};
 ghost use Rattle.zw_words.specs.Texts.{side_word};
 ghost use Rattle.zw_text.specs.Entry.{by_word, done_word, ended_word, failed_word, fault_word, number_word, refusal_words};
 
-use itoa::Buffer;
 use std::alloc::{AllocError, Global};
-use zw_base::{By, Bytes, NoMemory, NodeId, Property, Setting};
+use zw_base::{By, Bytes, NoMemory, NodeId, Property, Setting, push_number};
 use zw_text::{Done, Ended, LineFault, Refusal, Side};
 
 /// A word, a space, bytes and an end.
@@ -36,14 +35,6 @@ pub fn print_count(text: &mut String, word: &str, n: u64) -> Result<(), AllocErr
 {
     text.push_str(word)?;
     push_count(text, n)
-}
-
-/// A number.
-pub fn push_number(text: &mut String, n: u64) -> Result<(), AllocError>
-    ensures { OnOk result (string_bytes text.new ≡ string_bytes text.old ++ decimal n) }
-{
-    let mut digits = Buffer::new();
-    text.push_str(digits.format(n))
 }
 
 /// A space and a number.
