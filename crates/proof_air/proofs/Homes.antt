@@ -50,7 +50,7 @@ picked_has (x ∷ xs) one (inr later) = inr (picked_has xs one later)
 
 -- ---- the transcript grows
 
-get_stays : {A : Type 0} (xs ys : List A) (at : ℕ) (x : A) → slice_get xs at ≡ Some x → slice_get (xs ++ ys) at ≡ Some x
+pub get_stays : {A : Type 0} (xs ys : List A) (at : ℕ) (x : A) → slice_get xs at ≡ Some x → slice_get (xs ++ ys) at ≡ Some x
 get_stays [] ys at x is = absurd cc
 get_stays (first ∷ xs) ys zero x is = is
 get_stays (first ∷ xs) ys (suc at) x is = get_stays xs ys at x is

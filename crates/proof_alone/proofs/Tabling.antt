@@ -1,6 +1,6 @@
 -- The tables of a host alone are what its transcript shows, at each phase.
-use Rattle.std.proofs.Common.{◌≡◌, ℕ, true, false, inl, inr, List, [], ◌∷◌, ◌++◌, map, refl, sym, ap, ◌∙◌, subst, append-nil, append_assoc}
-use Rattle.std.specs.Prelude.{Option, Some, None, IsSome}
+use Rattle.std.proofs.Common.{◌≡◌, ℕ, inl, inr, List, [], ◌∷◌, ◌++◌, map, refl, sym, ap, ◌∙◌, subst, append-nil, append_assoc}
+use Rattle.std.specs.Prelude.{Option, Some}
 use Rattle.zw_base.proofs.Each.{all-append}
 use Rattle.serial_frame.specs.Items.{unit_text}
 use Rattle.serial_frame.specs.declared.unit.Unit.{Unit as LineUnit}
@@ -18,17 +18,16 @@ use Rattle.proof_line.specs.host_model.May.{May as MayHost}
 use Rattle.proof_line.specs.host_model.Outs.{answers, outs}
 use Rattle.proof_line.specs.host_model.declared.out.HostOut.{HostOut}
 use Rattle.proof_line.specs.host_model.declared.out.HostOut.TheVariants.{Note, Write}
-use Rattle.proof_line.specs.world_model.State.{Machine, with_texts}
+use Rattle.proof_line.specs.world_model.State.{Machine}
 use Rattle.proof_line.specs.world_model.Events as world
 use Rattle.proof_line.specs.world_model.Events.{Event, Host_does, OpensFrom}
 use Rattle.proof_line.specs.proof_host.Entries.{IsAside, entries_at, notes_of}
 use Rattle.proof_line.specs.proof_host.Facts.{Facts, StartsAs}
 use Rattle.proof_line.specs.proof_host.Laws.{MayStand}
-use Rattle.proof_line.specs.Asking.{HostAsks}
 use Rattle.proof_line.specs.Restarts.{IsHeld, KeepsWell, StartsWell}
 use Rattle.proof_line.proofs.Aside.{Asides}
 use Rattle.proof_line.proofs.FactsKept.{asides_keep}
-use Rattle.proof_line.proofs.FirstHosts.{first_asks, opened_asks}
+use Rattle.proof_line.proofs.FirstHosts.{first_asks}
 use Rattle.proof_line.proofs.Hosts.{event_asks, of_joined}
 use Rattle.proof_line.proofs.Notes.{Puts, Trailing, puts_at}
 use Rattle.proof_line.specs.proof_walk.ByLine.{IsAsked}
@@ -39,6 +38,7 @@ use Rattle.proof_alone.specs.Runs.{Walk}
 use Rattle.proof_alone.specs.Tables.{AreInOrder, IsInOrder, KnowsTables, TieTables, to_come}
 use Rattle.proof_alone.proofs.Apart.{AreOfLine, marks_are, missed_are}
 use Rattle.proof_alone.proofs.InOrder.{asked_in_order, asked_puts, behind_in_order, event_in_part, is_asked, none_to_come, tick_in_order}
+use Rattle.proof_line.proofs.Runs.{opens_asks, still_told}
 
 -- ---- entries that speak of no command
 
@@ -87,14 +87,6 @@ event_told h event told none are =
 rest_stands : (before past told : List Entry) → EachAfter MayStand before (past ++ told) → EachAfter MayStand (before ++ past) told
 rest_stands before [] told all = subst (λ (l : List Entry). EachAfter MayStand l told) (sym (append-nil before)) all
 rest_stands before (e ∷ past) told all = subst (λ (l : List Entry). EachAfter MayStand l told) (append_assoc before (e ∷ []) past) (rest_stands (before ++ e ∷ []) past told all.1)
-
-still_told : (records : Option (List (List ℕ))) (texts : List (List ℕ)) → IsSome records → IsSome (with_texts records texts)
-still_told None texts told = let bad : false ≡ true = told in absurd cc
-still_told (Some before) texts told = refl
-
-opens_asks : (keys : Keys) (records : Option (List (List ℕ))) (state : HostState) → IsSome records → OpensFrom keys records state → HostAsks state
-opens_asks keys None state told opens = let bad : false ≡ true = told in absurd cc
-opens_asks keys (Some texts) state told (records, are, legal, is) = subst HostAsks (sym is) (opened_asks keys records)
 
 -- ---- steps
 

@@ -28,7 +28,7 @@ use Rattle.proof_alone.proofs.Hearing.{event_notes}
 
 -- ---- entries that tell no time
 
-passing_untimed : (start : Passing) (told : List Entry) → AreUntimed told → folded passing_step start told ≡ start
+pub passing_untimed : (start : Passing) (told : List Entry) → AreUntimed told → folded passing_step start told ≡ start
 passing_untimed start [] all = refl
 passing_untimed start (entry.Said words ∷ told) all = absurd all.0
 passing_untimed start (e ∷ told) all = passing_untimed start told all.1

@@ -5,7 +5,7 @@ mod Sent
 mod Keeping
 mod Replies
 mod Frames
-mod Places
+pub mod Places
 mod Hearing
 mod Telling
 mod Numbers
@@ -15,7 +15,7 @@ mod Walking
 mod Whole
 mod Awake
 mod Now
-mod Listening
+pub mod Listening
 mod Together
 mod Had
 mod Clocks
@@ -46,3 +46,4 @@ pub use Rattle.proof_air.proofs.Entered
 pub use Rattle.proof_air.proofs.ChangesOutside
 pub use Rattle.proof_routes.proofs.Walks
 pub use Rattle.proof_routes.proofs.Books
+pub use Rattle.proof_routes.proofs.First

@@ -42,7 +42,7 @@ stands_there (first ∷ olds) (new ∷ news) (suc place) old same stood =
     let rest = stands_there olds news place old same.1 stood in record { device = rest.device; stands = rest.stands }
 
 -- a node without a device has no place
-no_place : (node : ℕ) (devices : List State) → device_of node devices ≡ None → place_of node devices ≡ None
+pub no_place : (node : ℕ) (devices : List State) → device_of node devices ≡ None → place_of node devices ≡ None
 no_place node [] none = refl
 no_place node (first ∷ devices) none = by (first.node == node) (λ there. no_place node devices there) none
   where

@@ -165,7 +165,7 @@ chip_comes w Collides done = absurd done
 
 -- ---- what the chip learns of links
 
-abbrev IsLinked : ChipEvent → Type 0
+abbrev pub IsLinked : ChipEvent → Type 0
 IsLinked (Linked a b live) = Unit {0}
 IsLinked _ = ⊥
 
@@ -174,11 +174,11 @@ linked_port [] s linked = refl
 linked_port (Linked a b live ∷ events) s linked = linked_port events (after s (Linked a b live)) linked.1
 linked_port (event ∷ events) s linked = absurd linked.0
 
-all_linked : (links : ℕ → ChipEvent) → ((n : ℕ) → IsLinked (links n)) → (l : List ℕ) → AllByRecursion IsLinked (map links l)
+pub all_linked : (links : ℕ → ChipEvent) → ((n : ℕ) → IsLinked (links n)) → (l : List ℕ) → AllByRecursion IsLinked (map links l)
 all_linked links are [] = tt
 all_linked links are (n ∷ l) = (are n, all_linked links are l)
 
-pairs_linked : (air : AirState) (l : List ℕ) → AllByRecursion IsLinked (flat_map (λ (node : ℕ). pairs_of air node) l)
+pub pairs_linked : (air : AirState) (l : List ℕ) → AllByRecursion IsLinked (flat_map (λ (node : ℕ). pairs_of air node) l)
 pairs_linked air [] = tt
 pairs_linked air (node ∷ l) = all-append IsLinked (pairs_of air node) (flat_map (λ (n : ℕ). pairs_of air n) l) (all_linked _ (λ n. tt) _) (pairs_linked air l)
 

@@ -2,7 +2,7 @@ mod Units
 mod Counting
 pub mod Standing
 pub mod Marking
-mod Colliding
+pub mod Colliding
 pub mod Asking
 pub mod Telling
 pub mod Holding
@@ -64,6 +64,7 @@ pub use Rattle.proof_world.proofs.EndedItems
 pub use Rattle.proof_world.proofs.Events
 pub use Rattle.proof_world.proofs.Outer
 pub use Rattle.proof_world.proofs.Ways
+pub use Rattle.proof_world.proofs.Runs
 pub use Rattle.proof_world.proofs.First
 pub use Rattle.proof_walk.proofs.Times
 pub use Rattle.proof_walk.proofs.HostNotes

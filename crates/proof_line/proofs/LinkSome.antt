@@ -1,5 +1,5 @@
 -- In a line bytes are taken only where there are some.
-use Rattle.std.proofs.Common.{◌≡◌, ℕ, zero, suc, ◌+◌, ◌-◌, Bool, true, false, List, [], ◌∷◌, length, map, refl, sym, ◌∙◌, subst}
+use Rattle.std.proofs.Common.{◌≡◌, ℕ, ◌-◌, Bool, true, false, List, [], ◌∷◌, length, map, refl, sym, ◌∙◌, subst}
 use Rattle.std.specs.List.{AllByRecursion}
 use Rattle.zw_text.specs.declared.line.Line.{Line}
 use Rattle.zw_text.specs.declared.line.Line.TheVariants as lines
@@ -7,24 +7,20 @@ use Rattle.proof_world.specs.host_model.Events.{HostEvent}
 use Rattle.proof_world.specs.host_model.Ticking.{tick_events}
 use Rattle.proof_walk.specs.outside_model.State.{is_stalled}
 use Rattle.proof_walk.specs.outside_model.Events.{OuterEvent, Chip_takes}
-use Rattle.proof_walk.specs.outside_model.Schedules.{Arrivals, DeviceTicks, Givings, TakesBy as ChipTakesBy}
+use Rattle.proof_walk.specs.outside_model.Schedules.{TakesBy as ChipTakesBy}
 use Rattle.proof_walk.specs.world_model.State.{Machine}
 use Rattle.proof_walk.specs.world_model.Events.{Event, Outside_does, Host_does, Host_takes, Decoder_ticks, happens}
 use Rattle.proof_walk.specs.world_model.Did.{AllAlong}
 use Rattle.proof_walk.specs.world_model.Settling.{IsChipPart, IsHostPart, TakesBy}
 use Rattle.proof_walk.specs.world_model.Lines.{IsEffect}
 use Rattle.proof_walk.specs.world_model.Prefixes.{IsLineBefore}
-use Rattle.proof_walk.proofs.Along.{along}
+use Rattle.proof_walk.proofs.Along.{TakesNone, along, arrivals_none, device_ticks_none, givings_none}
 use Rattle.proof_walk.proofs.Pieces.{Of, Pieces, of_line_before, of_none, of_then}
 use Rattle.proof_world.specs.proof_serial.Line.{AllWriteWell, AreLines}
 use Rattle.proof_world.specs.proof_serial.Host.{AllAskWell}
 use Rattle.proof_walk.specs.ByLine.{CoversLine, OfEffect}
 use Rattle.proof_walk.proofs.ByLine.{effect_asks}
 use Rattle.proof_line.specs.Linked.{IsOrderly, TakesSome}
-
-abbrev TakesNone : OuterEvent → Type 0
-TakesNone (Chip_takes count rest ways) = ⊥
-TakesNone event = Unit {0}
 
 abbrev All : Machine → List Event → Type 0
 All = AllAlong TakesSome
@@ -58,19 +54,6 @@ covers_line line = tt
 
 as_events : (m : Machine) (events are : List Event) → events ≡ are → All m are → All m events
 as_events m events are is all = subst (λ (l : List Event). All m l) (sym is) all
-
-arrivals_none : (count : ℕ) (inner : List OuterEvent) → Arrivals count inner → AllByRecursion TakesNone inner
-arrivals_none zero inner is = subst (λ (l : List OuterEvent). AllByRecursion TakesNone l) (sym is) tt
-arrivals_none (suc count) inner (drawn, route, rest, are, more) = subst (λ (l : List OuterEvent). AllByRecursion TakesNone l) (sym are) (tt, arrivals_none count rest more)
-
-givings_none : (count : ℕ) (inner : List OuterEvent) → Givings count inner → AllByRecursion TakesNone inner
-givings_none zero inner is = subst (λ (l : List OuterEvent). AllByRecursion TakesNone l) (sym is) tt
-givings_none (suc count) inner (route, rest, are, more) = subst (λ (l : List OuterEvent). AllByRecursion TakesNone l) (sym are) (tt, givings_none count rest more)
-
-device_ticks_none : (place count : ℕ) (inner : List OuterEvent) → DeviceTicks place count inner → AllByRecursion TakesNone inner
-device_ticks_none place zero inner is = subst (λ (l : List OuterEvent). AllByRecursion TakesNone l) (sym is) tt
-device_ticks_none place (suc count) inner (drawn, route, rest, are, more) =
-    subst (λ (l : List OuterEvent). AllByRecursion TakesNone l) (sym are) (tt, device_ticks_none (place + 1) count rest more)
 
 -- ---- where bytes are taken
 

@@ -15,12 +15,9 @@ use Rattle.proof_waking.specs.law_transcript.Restarts.{begins_refused, is_restar
 use Rattle.proof_waking.specs.law_time.Judged.{is_data}
 use Rattle.proof_waking.specs.law_time.Requests.{Asked, Since, asked, asked_after, asked_from, asked_nothing, copies, found_at, is_copy, is_new, last_copy, since_last, up_to_first, with_entry}
 use Rattle.proof_requests.specs.Standing.{GoesOn, with_entries}
+use Rattle.proof_waking.proofs.Apart.{same_refused}
 
 -- ---- one transcript behind another
-
-same_refused : (e : Entry) (past told : List Entry) → begins_refused (e ∷ (past ++ told)) ≡ begins_refused (e ∷ past)
-same_refused (entry.Refused refusal) past told = refl
-same_refused e past told = refl
 
 -- an entry does so much whatever stands after it, but for a refusal
 same_after : (past : List Entry) (a : Asked) (e : Entry) (rest other : List Entry) → begins_refused rest ≡ begins_refused other → asked_after past a e rest ≡ asked_after past a e other

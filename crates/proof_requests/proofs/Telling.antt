@@ -23,13 +23,9 @@ use Rattle.proof_requests.specs.Standing.{prior_of, GoesOn, IsAside, Standing, f
 use Rattle.proof_requests.specs.Asking.{AsksNothing, AsksSo, Doing, TieAsked, WasAsked}
 use Rattle.proof_requests.proofs.Growing.{NoFrame, asked_anew, asked_copy, asked_in_vain, asked_new, asked_on, asked_said}
 use Rattle.proof_requests.proofs.Standing.{come_at, stands_answered, stands_aside, stands_copied, stands_judged, stands_lost}
+use Rattle.proof_waking.proofs.Timing.{passing_untimed}
 
 -- ---- time
-
-passing_untimed : (start : Passing) (told : List Entry) → AreUntimed told → folded passing_step start told ≡ start
-passing_untimed start [] all = refl
-passing_untimed start (entry.Said words ∷ told) all = absurd all.0
-passing_untimed start (e ∷ told) all = passing_untimed start told all.1
 
 pub clock_same : (past told : List Entry) → AreUntimed told → clock (past ++ told) ≡ clock past
 clock_same past told all =

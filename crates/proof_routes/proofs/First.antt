@@ -53,7 +53,7 @@ repeater_is devices node = ap (λ (j : Bool). listens_at devices node && j) (joi
     by false true = refl
     by false false = refl
 
-none_are : (node : ℕ) → slice_index_or (replicate 233 false) node false ≡ false
+pub none_are : (node : ℕ) → slice_index_or (replicate 233 false) node false ≡ false
 none_are node = by (cases_lt node 233)
   where
     by : (node < 233) ⊎ (233 ≤ node) → slice_index_or (replicate 233 false) node false ≡ false

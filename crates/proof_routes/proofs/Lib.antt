@@ -12,7 +12,7 @@ mod Outer
 mod Setting
 mod Remembering
 mod Listeners
-mod First
+pub mod First
 pub mod Passages
 mod Sending
 mod Mute

@@ -44,7 +44,7 @@ hops_same : (one other : Network) → IsSame one other → (a : ℕ) (over : Lis
 hops_same one other same a [] b hops = subst IsTrue (same.hears a b) hops
 hops_same one other same a (c ∷ over) b hops = (subst IsTrue (same.hears a c) hops.0, hops_same one other same c over b hops.1)
 
-walk_same : (one other : Network) → IsSame one other → (to : ℕ) (over : List ℕ) → Walk one to over → Walk other to over
+pub walk_same : (one other : Network) → IsSame one other → (to : ℕ) (over : List ℕ) → Walk one to over → Walk other to over
 walk_same one other same to over walk = record {
   few = walk.few;
   different = walk.different;

@@ -1,5 +1,5 @@
 -- Which events of a host enter neither a success nor an interview that ended well: all but the end of a session with success and such an interview.
-use Rattle.std.proofs.Common.{ℕ, Bool, List, [], ◌∷◌, ◌+◌, ◌++◌, length}
+use Rattle.std.proofs.Common.{ℕ, Bool, List, ◌+◌, ◌++◌}
 use Rattle.std.specs.List.{AllByRecursion}
 use Rattle.zw_base.proofs.Each.{all-append}
 use Rattle.zw_base.specs.declared.property.Setting.{Setting}
@@ -9,24 +9,12 @@ use Rattle.zw_text.specs.declared.entry.Entry.TheVariants.{Interviewed, Out}
 use Rattle.host_keep.specs.declared.final_status.FinalStatus.TheVariants as final
 use Rattle.proof_world.specs.host_model.State.{HostState}
 use Rattle.proof_world.specs.host_model.Outs.{held_entries, noted, outs, stored_entries, answers}
-use Rattle.proof_world.specs.host_model.Events.{HostEvent, Accepts, Cancels, Interviews, Finishes}
-use Rattle.proof_world.specs.host_model.declared.out.HostOut.{HostOut}
-use Rattle.proof_world.specs.host_model.declared.out.HostOut.TheVariants.{Write, Note}
+use Rattle.proof_world.specs.host_model.Events.{HostEvent, Accepts, Interviews, Finishes}
 use Rattle.proof_once.specs.proof_host.Entries.{entries_at, notes_of}
-use Rattle.proof_world.proofs.HostOuts.{OutsAre, OwnIs, SharedAre, outs_are, session_are}
+use Rattle.proof_world.proofs.HostOuts.{OwnIs, SharedAre, answers_are, outs_are, session_are}
+pub use Rattle.proof_world.proofs.Notes.{notes_are}
 
 -- ---- the entries of an event
-
--- what is noted
-pub notes_are : (Is : Entry → Type 0) (puts : List HostOut) → OutsAre Is puts → AllByRecursion Is (notes_of puts)
-notes_are Is [] are = tt
-notes_are Is (Write unit ∷ puts) are = notes_are Is puts are.1
-notes_are Is (Note entry ∷ puts) are = (are.0, notes_are Is puts are.1)
-
-answers_are : (Is : Entry → Type 0) (h : HostState) (event : HostEvent) → OwnIs Is event → AllByRecursion Is (answers h event)
-answers_are Is h (Accepts order carriage) own = (own (length h.commands + 1), tt)
-answers_are Is h (Cancels command) own = (own, tt)
-answers_are Is h event own = tt
 
 pub entries_are : (Is : Entry → Type 0) → SharedAre Is → (h : HostState) (event : HostEvent) → OwnIs Is event → AllByRecursion Is (entries_at h event)
 entries_are Is shared h event own =
@@ -58,7 +46,7 @@ shared_routine = record {
 
 -- after the end of a session
 pub after_routine : (n : ℕ) (settings : List Setting) (held : Bool) → AreRoutine (notes_of (noted (stored_entries n settings ++ held_entries n held)))
-after_routine n settings held = notes_are IsRoutine (noted (stored_entries n settings ++ held_entries n held)) (session_are IsRoutine shared_routine n settings held)
+after_routine n settings held = notes_are IsRoutine (noted (stored_entries n settings ++ held_entries n held)) (session_are IsRoutine n settings held (λ setting. tt) tt)
 
 -- neither is what it does
 abbrev pub DoesRoutine : HostEvent → Type 0

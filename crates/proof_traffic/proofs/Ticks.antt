@@ -32,10 +32,10 @@ use Rattle.proof_device.specs.world_model.Prefixes.{SettlesPrefix, OutsideTickPr
 use Rattle.proof_traffic.specs.OnAir.{on_air, hosts_on_air}
 use Rattle.proof_traffic.specs.Course.{Follows, Goes}
 use Rattle.proof_traffic.proofs.Parts.{Laws}
-use Rattle.proof_traffic.proofs.Arrivals.{outward-append}
+use Rattle.proof_traffic.proofs.Arrivals.{Homes, outward-append}
 use Rattle.proof_traffic.proofs.Flights.{flights_are}
 use Rattle.proof_traffic.proofs.ChipNotices.{Given, given_first, device_calls, ticks_calls}
-use Rattle.proof_traffic.proofs.ArrivedFrames.{Homes, arrives_home}
+use Rattle.proof_traffic.proofs.ArrivedFrames.{arrives_home}
 use Rattle.proof_traffic.proofs.CourseSteps.{Fair, AllFair, fair_first, fair_later, GoesOf, goes_nowhere, goes_both, goes_parts, goes_then, goes_as, goes_none, goes_then_prefix}
 use Rattle.proof_traffic.proofs.Outside.{IsFree, free_goes, outside_goes}
 use Rattle.proof_traffic.proofs.EventParts.{Parts, outside_parts, arrivals_free, givings_give, IsGiving as GivesOne, device_ticks_free, all_first}

@@ -22,7 +22,7 @@ use Rattle.proof_waking.specs.Judged.{TieFrames, frames_of}
 
 -- ---- since the host started
 
-same_refused : (e : Entry) (past told : List Entry) → begins_refused (e ∷ (past ++ told)) ≡ begins_refused (e ∷ past)
+pub same_refused : (e : Entry) (past told : List Entry) → begins_refused (e ∷ (past ++ told)) ≡ begins_refused (e ∷ past)
 same_refused (entry.Refused refusal) past told = refl
 same_refused e past told = refl
 

@@ -3,7 +3,6 @@ use Rattle.std.proofs.Common.{◌≡◌, ℕ, ◌==◌, Bool, true, false, if◌
 use Rattle.std.specs.List.{AllByRecursion, flat_map}
 use Rattle.std.proofs.lemmas.Bool.{eqb-true}
 use Rattle.zw_base.proofs.Each.{all-append}
-use Rattle.zw_base.specs.declared.property.Setting.{Setting}
 use Rattle.zw_text.specs.declared.entry.Done.{Done as HowDone}
 use Rattle.zw_text.specs.declared.entry.Entry.{Entry}
 use Rattle.zw_text.specs.declared.entry.Entry.TheVariants as entry
@@ -11,18 +10,13 @@ use Rattle.zw_text.specs.Transcript.{done_at, requests_done}
 use Rattle.law_time.specs.Rests.{interview_end}
 use Rattle.chip_functions.specs.declared.notice.Update.{Update}
 use Rattle.chip_functions.specs.declared.notice.Update.TheVariants.{Received}
-use Rattle.chip_functions.specs.declared.response.Response.TheVariants.{GetRoutingInfo, IsFailedNode as failed_node}
-use Rattle.serial_frame.specs.declared.item.Item.{Item}
-use Rattle.serial_frame.specs.declared.item.Item.TheVariants.{Good, Refused}
-use Rattle.serial_frame.specs.declared.item.Refusal.TheVariants.{Stray, BadLength, BadSum, BadKind, Aborted}
-use Rattle.serial_frame.specs.declared.unit.Unit.TheVariants.{Ack, Nak, Can, Framed}
 use Rattle.serial_link.specs.State.{copy_due, tick_side}
 use Rattle.host_requests.specs.Next.{at_update, end_from, end_of, is_update_of}
 use Rattle.host_requests.specs.Events.{end_at, interviewed_from}
 use Rattle.host_requests.specs.Events.RequestsEvent.{Fails, Updates}
 use Rattle.host_requests.specs.declared.end.End.{End}
 use Rattle.host_requests.specs.declared.end.How.{How}
-use Rattle.host_requests.specs.declared.end.How.TheVariants.{AtResponse, AtUpdate}
+use Rattle.host_requests.specs.declared.end.How.TheVariants.{AtUpdate}
 use Rattle.host_requests.specs.declared.next.Next.TheVariants.{GoesOn, Ends}
 use Rattle.host_requests.specs.declared.task.Task.{Task}
 use Rattle.host_requests.specs.declared.task.Task.TheVariants.{Plain, NoMore, Second, Neighbours, IsFailed}
@@ -30,19 +24,18 @@ use Rattle.host_requests.specs.declared.task.Purpose.{Purpose}
 use Rattle.host_requests.specs.declared.task.Purpose.TheVariants.{Housekeeping, Attempt, Abort}
 use Rattle.host_requests.specs.declared.under_way.Progress.{Progress}
 use Rattle.host_requests.specs.declared.under_way.UnderWay.{UnderWay}
-use Rattle.host_node.specs.Steps.{attempt_end, falls_asleep, tick_end}
-use Rattle.host_node.specs.declared.attempt.AttemptEnd.{AttemptEnd}
-use Rattle.host_node.specs.declared.attempt.AttemptEnd.TheVariants.{NoneRan, Again, Unanswered}
-use Rattle.host_model.specs.State.{HostState, command_at, node_of}
-use Rattle.host_model.specs.Sessions.{open_command, settings_with}
-use Rattle.host_model.specs.Ends.{PartEnd, Good as well, Passed_over, Bad, part_end, done_of, asleep_entry, out_entry, attempt_entries, part_entries, neighbours_entry, failed_entry, end_entries, end_entries_if}
-use Rattle.host_model.specs.After.{gives_up, is_full, is_held, line_ticked, requests_do}
-use Rattle.host_model.specs.Events.{HostEvent, Accepts, Cancels, Hears, Requests_do, Interviews, Interview_unkept, Unreads, Is_unkept, Reports_old, Finishes, Offers, Gives, Spends_unread, Notifies, Resends, Hears_value, Has_no_room, Line_ticks, Node_ticks, Drops_no_more, Begins, Begin_unkept}
+use Rattle.host_node.specs.Steps.{falls_asleep}
+use Rattle.host_model.specs.State.{HostState, node_of}
+use Rattle.host_model.specs.Ends.{part_end, done_of, asleep_entry, part_entries, neighbours_entry, failed_entry, end_entries, end_entries_if}
+use Rattle.host_model.specs.After.{gives_up, line_ticked, requests_do}
+use Rattle.host_model.specs.Events.{HostEvent, Accepts, Cancels, Requests_do, Interviews, Interview_unkept, Finishes, Line_ticks, Node_ticks}
 use Rattle.host_model.specs.May.{May, IsInterviewed}
-use Rattle.host_model.specs.Outs.{answer_to, dropped_if, ended_of, failing_entries, held_entries, noted, request_entries, stored_entries}
+use Rattle.host_model.specs.Outs.{answers, failing_entries, noted, outs, request_entries}
 use Rattle.proof_walk.specs.proof_host.Entries.{entries_at, notes_of}
 use Rattle.proof_work.specs.Tasks.{KeepsInterview, ended, ended_if, errand_of, errands, interview_of, interviews, task_ended, task_of}
 use Rattle.proof_walk.proofs.Effects.{notes_noted, copy_notes}
+use Rattle.proof_world.proofs.Notes.{notes_are}
+use Rattle.proof_walk.proofs.HostOuts.{AttemptsAre, MayPut, asleep_is, failed_is, neighbours_are, outs_put, part_are}
 
 -- an entry that tells of no end of an errand or interview
 abbrev IsOther : Entry → Type 0
@@ -56,57 +49,8 @@ AreOther entries = AllByRecursion IsOther entries
 
 -- ---- entries of others
 
-asleep_other : (fell : Bool) (n : ℕ) → AreOther (asleep_entry fell n)
-asleep_other true n = (tt, tt)
-asleep_other false n = tt
-
-out_other : (command : Option ℕ) → AreOther (out_entry command)
-out_other None = tt
-out_other (Some command) = (tt, tt)
-
-attempt_other : (n : ℕ) (end : AttemptEnd) (command : Option ℕ) → AreOther (attempt_entries n end command)
-attempt_other n NoneRan command = tt
-attempt_other n Again command = tt
-attempt_other n (Unanswered fell) command = all-append IsOther (out_entry command) (asleep_entry fell n) (out_other command) (asleep_other fell n)
-
-part_other : (h : HostState) (n : ℕ) (end : PartEnd) → AreOther (part_entries h n end)
-part_other h n well = tt
-part_other h n Passed_over = tt
-part_other h n Bad = attempt_other n (attempt_end (node_of h n)) (open_command (node_of h n))
-
-neighbours_other : (n : ℕ) (how : How) → AreOther (neighbours_entry n how)
-neighbours_other n (AtResponse (GetRoutingInfo nodes)) = (tt, tt)
-neighbours_other n _ = tt
-
-failed_other : (n : ℕ) (how : How) → AreOther (failed_entry n how)
-failed_other n (AtResponse (failed_node failed)) = (tt, tt)
-failed_other n _ = tt
-
-dropped_other : (full : Bool) (n : ℕ) → AreOther (dropped_if full n)
-dropped_other true n = (tt, tt)
-dropped_other false n = tt
-
-held_other : (n : ℕ) (held : Bool) → AreOther (held_entries n held)
-held_other n true = (tt, tt)
-held_other n false = tt
-
-stored_other : (n : ℕ) (settings : List Setting) → AreOther (stored_entries n settings)
-stored_other n [] = tt
-stored_other n (setting ∷ settings) = (tt, stored_other n settings)
-
-noted_other : (entries : List Entry) → AreOther entries → AreOther (notes_of (noted entries))
-noted_other entries are = subst AreOther (sym (notes_noted entries)) are
-
-answer_other : (item : Item) → AreOther (notes_of (answer_to item))
-answer_other (Good (Framed f)) = tt
-answer_other (Good Ack) = tt
-answer_other (Good Nak) = tt
-answer_other (Good Can) = tt
-answer_other (Refused (BadSum want got)) = tt
-answer_other (Refused (BadKind x)) = tt
-answer_other (Refused (Stray x)) = tt
-answer_other (Refused (BadLength n)) = tt
-answer_other (Refused Aborted) = tt
+other_attempts : AttemptsAre IsOther
+other_attempts = record { unanswered = λ command. tt; asleep = λ n. tt }
 
 -- an event at which no request ends
 abbrev EndsNone : HostEvent → Type 0
@@ -116,36 +60,22 @@ EndsNone (Interview_unkept n update) = ⊥
 EndsNone Line_ticks = ⊥
 EndsNone event = Unit {0}
 
+other_put : (event : HostEvent) → EndsNone event → MayPut IsOther event
+other_put (Requests_do event moment) none = absurd none
+other_put (Interviews n listens classes update) none = absurd none
+other_put Line_ticks none = absurd none
+other_put (Node_ticks n) none = other_attempts
+other_put (Finishes n session id command status wake_request) none = (tt, (λ setting. tt), tt)
+other_put event none = tt
+
+answers_other : (h : HostState) (event : HostEvent) → AreOther (answers h event)
+answers_other h (Accepts order carriage) = (tt, tt)
+answers_other h (Cancels command) = (tt, tt)
+answers_other h event = tt
+
 event_other : (h : HostState) (event : HostEvent) → EndsNone event → AreOther (entries_at h event)
-event_other h (Accepts order carriage) none = (tt, tt)
-event_other h (Cancels command) none = (tt, tt)
-event_other h (Hears item) none = answer_other item
-event_other h (Requests_do event moment) none = absurd none
-event_other h (Interviews n listens classes update) none = absurd none
-event_other h (Interview_unkept n update) none = absurd none
-event_other h (Unreads n payload) none = (tt, tt)
-event_other h (Is_unkept n) none = (tt, tt)
-event_other h (Reports_old n id) none = (tt, tt)
-event_other h (Finishes n session id command status wake_request) none =
-    noted_other (entry.Out command (ended_of status) ∷ (stored_entries n (settings_with status (command_at h.commands command)) ++ held_entries n (is_held h n wake_request))) (
-      tt,
-      all-append IsOther (stored_entries n (settings_with status (command_at h.commands command))) (held_entries n (is_held h n wake_request))
-          (stored_other n (settings_with status (command_at h.commands command))) (held_other n (is_held h n wake_request)),
-    )
-event_other h (Offers n) none = noted_other (dropped_if (is_full h) n) (dropped_other (is_full h) n)
-event_other h (Gives n drawn) none = noted_other (dropped_if (is_full h) n) (dropped_other (is_full h) n)
-event_other h (Spends_unread n payload) none = (tt, tt)
-event_other h (Notifies n) none = (tt, tt)
-event_other h (Resends n payload) none = noted_other (dropped_if (is_full h) n) (dropped_other (is_full h) n)
-event_other h (Hears_value n setting) none = (tt, tt)
-event_other h (Has_no_room n property) none = (tt, tt)
-event_other h Line_ticks none = absurd none
-event_other h (Node_ticks n) none =
-    noted_other (attempt_entries n (tick_end (node_of h n)) (open_command (node_of h n))) (attempt_other n (tick_end (node_of h n)) (open_command (node_of h n)))
-event_other h (Drops_no_more n) none = (tt, tt)
-event_other h (Begins n session command) none = (tt, tt)
-event_other h (Begin_unkept n) none = (tt, tt)
-event_other h event none = tt
+event_other h event none =
+    all-append IsOther (answers h event) (notes_of (outs h event)) (answers_other h event) (notes_are IsOther (outs h event) (outs_put IsOther h event (other_put event none)))
 
 -- no interview ends well at it
 abbrev IsNoInterview : HostEvent → Type 0
@@ -189,14 +119,14 @@ module _ {A B : Type 0} (view : Entry → List A) (part : Task → List B) (tell
 
   task_told : (h : HostState) (task : Task) (how : How) → Told (end_entries h (record { purpose = Housekeeping task; how = how })) (task ∷ [])
   task_told h (Plain n payload) how = told_one (entry.Done n (done_of how)) (Plain n payload) (tells.done n payload (done_of how))
-  task_told h (NoMore n) how = told_silent (asleep_entry (falls_asleep (node_of h n)) n) (NoMore n) (asleep_other (falls_asleep (node_of h n)) n) tt
+  task_told h (NoMore n) how = told_silent (asleep_entry (falls_asleep (node_of h n)) n) (NoMore n) (asleep_is IsOther other_attempts (falls_asleep (node_of h n)) n) tt
   task_told h (Second n) how = told_one (entry.InterviewFailed n) (Second n) (tells.failed n)
-  task_told h (Neighbours n) how = told_silent (neighbours_entry n how) (Neighbours n) (neighbours_other n how) tt
-  task_told h (IsFailed n) how = told_silent (failed_entry n how) (IsFailed n) (failed_other n how) tt
+  task_told h (Neighbours n) how = told_silent (neighbours_entry n how) (Neighbours n) (neighbours_are IsOther (λ m nodes. tt) n how) tt
+  task_told h (IsFailed n) how = told_silent (failed_entry n how) (IsFailed n) (failed_is IsOther (λ m is_failed. tt) n how) tt
   task_told h task how = told_silent [] task tt tt
 
   end_told : (h : HostState) (purpose : Purpose) (how : How) → Told (end_entries h (record { purpose = purpose; how = how })) (task_of purpose)
-  end_told h (Attempt n more payload) how = told_none (part_entries h n (part_end more how)) (part_other h n (part_end more how))
+  end_told h (Attempt n more payload) how = told_none (part_entries h n (part_end more how)) (part_are IsOther other_attempts h n (part_end more how))
   end_told h (Housekeeping task) how = task_told h task how
   end_told h Abort how = refl
 

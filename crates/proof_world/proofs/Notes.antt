@@ -1,5 +1,6 @@
 -- What the host puts out at an event is entered as it notes it, after what speaks of no command.
 use Rattle.std.proofs.Common.{◌≡◌, ℕ, ◌&&◌, ◌||◌, not, Bool, true, false, if◌then◌else◌, Option, Some, None, List, [], ◌∷◌, ◌++◌, map, refl, ap, sym, ◌∙◌, subst, append_assoc, append-nil}
+use Rattle.std.specs.List.{AllByRecursion}
 use Rattle.zw_base.proofs.Each.{all-append}
 use Rattle.zw_text.specs.declared.entry.Entry.{Entry}
 use Rattle.zw_text.specs.declared.entry.Entry.TheVariants.{Time}
@@ -19,6 +20,7 @@ use Rattle.proof_device.specs.outside_model.State.{Outside, OuterState}
 use Rattle.proof_device.specs.outside_model.Events.{Host_writes, Host_notes, Host_begins, happens, entries, outcome, devices_after, ticked_entry}
 use Rattle.proof_device.specs.outside_model.Did.{entries_all}
 use Rattle.proof_device.specs.world_model.State.{begun_in, noted_by, routed}
+use Rattle.proof_device.proofs.HostOuts.{OutsAre}
 use Rattle.proof_host.specs.Entries.{IsAside, note_of, notes_of, entries_at}
 use Rattle.proof_world.proofs.Aside.{Asides, ticked_aside, write_aside}
 
@@ -28,6 +30,12 @@ pub record Puts (puts : List HostOut) : Type 0 where
   pub units : List LineUnit
   pub entries : List Entry
   pub are : puts ≡ map Write units ++ map Note entries
+
+-- all that is noted is so
+pub notes_are : (Is : Entry → Type 0) (puts : List HostOut) → OutsAre Is puts → AllByRecursion Is (notes_of puts)
+notes_are Is [] are = tt
+notes_are Is (Write unit ∷ puts) are = notes_are Is puts are.1
+notes_are Is (Note entry ∷ puts) are = (are.0, notes_are Is puts are.1)
 
 puts_notes : (entries : List Entry) → Puts (noted entries)
 puts_notes entries = record { units = []; entries = entries; are = refl }

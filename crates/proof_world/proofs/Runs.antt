@@ -59,7 +59,7 @@ pub still_told : (records : Option (List (List ℕ))) (texts : List (List ℕ)) 
 still_told None texts told = let bad : false ≡ true = told in absurd cc
 still_told (Some before) texts told = refl
 
-opens_asks : (keys : Keys) (records : Option (List (List ℕ))) (state : HostState) → IsSome records → OpensFrom keys records state → HostAsks state
+pub opens_asks : (keys : Keys) (records : Option (List (List ℕ))) (state : HostState) → IsSome records → OpensFrom keys records state → HostAsks state
 opens_asks keys None state told opens = let bad : false ≡ true = told in absurd cc
 opens_asks keys (Some texts) state told (records, are, legal, is) = subst HostAsks (sym is) (opened_asks keys records)
 

@@ -68,7 +68,7 @@ IsOfEffect line m event = Unit {0}
 
 -- ---- events outside that take nothing
 
-abbrev TakesNone : OuterEvent → Type 0
+abbrev pub TakesNone : OuterEvent → Type 0
 TakesNone (Chip_takes count rest ways) = ⊥
 TakesNone event = Unit {0}
 
@@ -76,15 +76,15 @@ takes_none : (m : Machine) (event : OuterEvent) → TakesNone event → OuterTak
 takes_none m (Chip_takes count rest ways) none = absurd none
 takes_none m _ none = tt
 
-arrivals_none : (count : ℕ) (inner : List OuterEvent) → Arrivals count inner → AllByRecursion TakesNone inner
+pub arrivals_none : (count : ℕ) (inner : List OuterEvent) → Arrivals count inner → AllByRecursion TakesNone inner
 arrivals_none zero inner is = subst (λ (l : List OuterEvent). AllByRecursion TakesNone l) (sym is) tt
 arrivals_none (suc count) inner (drawn, route, rest, are, more) = subst (λ (l : List OuterEvent). AllByRecursion TakesNone l) (sym are) (tt, arrivals_none count rest more)
 
-givings_none : (count : ℕ) (inner : List OuterEvent) → Givings count inner → AllByRecursion TakesNone inner
+pub givings_none : (count : ℕ) (inner : List OuterEvent) → Givings count inner → AllByRecursion TakesNone inner
 givings_none zero inner is = subst (λ (l : List OuterEvent). AllByRecursion TakesNone l) (sym is) tt
 givings_none (suc count) inner (route, rest, are, more) = subst (λ (l : List OuterEvent). AllByRecursion TakesNone l) (sym are) (tt, givings_none count rest more)
 
-device_ticks_none : (place count : ℕ) (inner : List OuterEvent) → DeviceTicks place count inner → AllByRecursion TakesNone inner
+pub device_ticks_none : (place count : ℕ) (inner : List OuterEvent) → DeviceTicks place count inner → AllByRecursion TakesNone inner
 device_ticks_none place zero inner is = subst (λ (l : List OuterEvent). AllByRecursion TakesNone l) (sym is) tt
 device_ticks_none place (suc count) inner (drawn, route, rest, are, more) =
     subst (λ (l : List OuterEvent). AllByRecursion TakesNone l) (sym are) (tt, device_ticks_none (place + 1) count rest more)
