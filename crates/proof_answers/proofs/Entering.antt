@@ -19,10 +19,10 @@ use Rattle.law_wire.specs.Given.{Given, before_results, callback_of, given, give
 use Rattle.outside_model.specs.Devices.{State}
 use Rattle.outside_model.specs.State.{OuterState}
 use Rattle.proof_chip.proofs.Airing.{same_last}
-use Rattle.proof_chip.proofs.Answered.{GivesNone}
+use Rattle.proof_chip.proofs.Answered.{GivesNone, still_settled}
 use Rattle.proof_chip.proofs.Passing.{IsOther, others_no_ack}
 use Rattle.proof_chip.proofs.Picking.{shown_both}
-use Rattle.proof_chip.proofs.Replying.{none_filtered, settled_same}
+use Rattle.proof_chip.proofs.Replying.{none_filtered}
 use Rattle.proof_chip.proofs.Settling.{AreIdle, IsIdle, asked_still, given_still, idle_others, idle_settled, outward_still}
 use Rattle.proof_answers.specs.Owing.{Ends, Owed, asked_in_tick, come, comes_within, due_before, informs, is_of_tick, owed_by, owed_in, owed_now, owed_of}
 use Rattle.proof_answers.specs.Telling.{IsUnder, called_by, told_by}
@@ -102,14 +102,6 @@ module _ (course : Course) where
   ended_none past (entry.Lost frame) none = absurd none
   ended_none past (entry.Unheard frame) none = absurd none
   ended_none past e none = refl
-
-  still_settled : (past : List Entry) (e : Entry) → GivesNone e → settled_clock (past ++ e ∷ []) ≡ settled_clock past
-  still_settled past (entry.Said words) none = absurd none
-  still_settled past (entry.Time tick) none = absurd none
-  still_settled past (entry.Heard frame) none = absurd none
-  still_settled past (entry.Lost frame) none = absurd none
-  still_settled past (entry.Unheard frame) none = absurd none
-  still_settled past e none = settled_same past e tt refl (λ all. refl)
 
   none_due : (past : List Entry) (e : Entry) → GivesNone e → came_due course past e ≡ []
   none_due past e none = none_filtered (settled_clock past) (settled_clock (past ++ e ∷ [])) (still_settled past e none) (asked course past)

@@ -1,7 +1,6 @@
 -- At first the chip has nothing for its host.
-use Rattle.std.proofs.Common.{◌≡◌, ◌⊎◌, ◌≤◌, ◌<◌, ℕ, false, List, [], slice_index_or, replicate, refl, sym, subst, inl, inr}
-use Rattle.std.proofs.lemmas.Bool.{cases_lt}
-use Rattle.std.proofs.lemmas.List.{length-replicate, get_or-replicate, get_or_past}
+use Rattle.std.proofs.Common.{ℕ, false, List, [], refl}
+use Rattle.std.proofs.lemmas.List.{length-replicate}
 use Rattle.std.specs.Prelude.{Option}
 use Rattle.serial_link.specs.Rules.{SideObeys}
 use Rattle.s0_crypto.specs.declared.key_pair.Keys.{Keys}
@@ -13,13 +12,7 @@ use Rattle.world_model.specs.State.{first_machine}
 use Rattle.proof_devices.specs.proof_air.proof_walk.Phases.{Between}
 use Rattle.proof_chip.proofs.Growing.{serves_none}
 use Rattle.proof_answers.specs.Telling.{KnowTells}
-
-none_are : (node : ℕ) → slice_index_or (replicate 233 false) node false ≡ false
-none_are node = by (cases_lt node 233)
-  where
-    by : (node < 233) ⊎ (233 ≤ node) → slice_index_or (replicate 233 false) node false ≡ false
-    by (inl within) = get_or-replicate 233 node false false within
-    by (inr past) = get_or_past (replicate 233 false) node false (subst (λ (n : ℕ). n ≤ node) (sym (length-replicate 233 false)) past)
+use Rattle.proof_devices.proofs.First.{none_are}
 
 pub tells_first : (keys : Keys) (records : Option (List (List ℕ))) (devices : List State) → SideObeys [] no_port.port.side → KnowTells devices [] Between [] (first_machine keys records devices)
 unfolding first_outer none_marked

@@ -1,14 +1,12 @@
 -- The information of a node that the chip is given is what the transcript says: its list where the node is joined, has a way and its device is awake, else that it did not come.
-use Rattle.std.proofs.Common.{◌≡◌, ◌≢◌, ℕ, suc, ◌==◌, ◌&&◌, Bool, true, false, IsTrue, if◌then◌else◌, inl, inr, List, [], ◌∷◌, refl, sym, ap, ◌∙◌, subst, arith}
+use Rattle.std.proofs.Common.{◌≡◌, ◌≢◌, ℕ, suc, ◌==◌, ◌&&◌, Bool, true, false, if◌then◌else◌, inl, inr, List, [], ◌∷◌, refl, sym, ap, ◌∙◌, subst, arith}
 use Rattle.std.proofs.lemmas.Bool.{eqb-true}
-use Rattle.std.proofs.lemmas.List.Elements.{All-weaker}
 use Rattle.std.specs.Prelude.{Option, Some, None, is_some, slice_get}
 use Rattle.std.specs.Option.{option_map}
 use Rattle.zw_base.specs.declared.profile.Profile.{Profile}
 use Rattle.route_table.specs.declared.route.Route.{Route}
-use Rattle.route_table.specs.Network.{Network, repeats}
 use Rattle.route_table.specs.Route.{via}
-use Rattle.route_table.specs.Walk.{Hops, Walk}
+use Rattle.route_table.specs.Walk.{Walk}
 use Rattle.serial_frame.specs.declared.unit.Unit.TheVariants.{Framed}
 use Rattle.serial_frame.specs.Items.{unit_text}
 use Rattle.chip_functions.specs.declared.notice.Notice.TheVariants.{ApplicationUpdate}
@@ -32,26 +30,11 @@ use Rattle.proof_devices.specs.proof_device.GoingOn.{AreSame}
 use Rattle.proof_devices.proofs.DevicePlaces.{go_same}
 use Rattle.proof_devices.specs.Living.{IsNow, Lived, Simply, Tie}
 use Rattle.proof_devices.specs.proof_routes.Networks.{Tie as Networks}
-use Rattle.proof_devices.proofs.Walks.{IsSame, air_same, same_turned}
+use Rattle.proof_devices.proofs.Walks.{IsSame, air_same, same_turned, walk_same}
+use Rattle.proof_devices.proofs.Places.{same_place}
+use Rattle.proof_devices.proofs.Listening.{no_place}
 
 -- ---- places
-
-no_place : (node : ℕ) (devices : List State) → device_of node devices ≡ None → place_of node devices ≡ None
-no_place node [] none = refl
-no_place node (first ∷ devices) none = by (first.node == node) (λ there. no_place node devices there) none
-  where
-    by : (b : Bool) → (device_of node devices ≡ None → place_of node devices ≡ None) → (if b then Some first else device_of node devices) ≡ None
-        → (if b then Some 0 else option_map suc (place_of node devices)) ≡ None
-    by true later none = absurd cc
-    by false later none = ap (option_map suc) (later none)
-
-same_place : (node : ℕ) (olds news : List State) → AreSame olds news → place_of node news ≡ place_of node olds
-same_place node [] [] same = refl
-same_place node [] (new ∷ news) same = absurd same
-same_place node (old ∷ olds) [] same = absurd same
-same_place node (old ∷ olds) (new ∷ news) same =
-    ap (λ (n : ℕ). if n == node then Some 0 else option_map suc (place_of node news)) same.0.node
-    ∙ ap (λ (o : Option ℕ). if old.node == node then Some 0 else option_map suc o) (same_place node olds news same.1)
 
 -- the first device of a node, and what it is now
 record Stands (node : ℕ) (olds news : List State) (old : State) : Type 0 where
@@ -91,21 +74,6 @@ stands_for node (first ∷ olds) (now ∷ news) old same found = by (first.node 
           stands = rest.stands;
           kind = rest.kind;
         }
-
--- ---- ways
-
-hops_same : (one other : Network) → IsSame one other → (a : ℕ) (over : List ℕ) (b : ℕ) → Hops one a over b → Hops other a over b
-hops_same one other same a [] b hops = subst IsTrue (same.hears a b) hops
-hops_same one other same a (c ∷ over) b hops = (subst IsTrue (same.hears a c) hops.0, hops_same one other same c over b hops.1)
-
-walk_same : (one other : Network) → IsSame one other → (to : ℕ) (over : List ℕ) → Walk one to over → Walk other to over
-walk_same one other same to over walk = record {
-  few = walk.few;
-  different = walk.different;
-  inner = walk.inner;
-  marked = All-weaker (λ n. IsTrue (repeats one n)) (λ n. IsTrue (repeats other n)) (λ n marked. subst IsTrue (same.repeat n) marked) over walk.marked;
-  hops = hops_same one other same 1 over to walk.hops;
-}
 
 -- ---- what is told
 

@@ -47,7 +47,7 @@ use Rattle.proof_chip.proofs.Answered.{GivesNone}
 use Rattle.proof_chip.proofs.Going.{apart_goes}
 use Rattle.proof_chip.proofs.Items.{Now, number_puts, one_item, quiet_rests}
 use Rattle.proof_chip.proofs.Putting.{Puts}
-use Rattle.proof_chip.proofs.Judged.{decided, goes_back, judged_nodes, none_passed, passed_at}
+use Rattle.proof_chip.proofs.Judged.{decided, goes_back, judged_nodes, none_passed, passed_at, put_shows}
 use Rattle.proof_chip.proofs.Judges.{both_none, item_keeps, items_of, items_same, silent_item}
 use Rattle.proof_chip.proofs.Keeping.{number_apart}
 use Rattle.proof_chip.proofs.Passing.{ShowsNone, shown_all}
@@ -63,15 +63,6 @@ use Rattle.proof_answers.proofs.Moving.{map_so, now_numbered, now_on, now_settle
 use Rattle.proof_answers.proofs.Standing.{SameOwing, now_as}
 
 -- ---- what the chip knows of nodes
-
-put_shows : (e : Entry) → IsPut e → ShowsNone e
-put_shows (entry.Written by_chip unit) put = (tt, refl)
-put_shows (entry.Dropped side) put = (tt, refl)
-put_shows (entry.Garbled side unit) put = (tt, refl)
-put_shows (entry.Overrun side) put = (tt, refl)
-put_shows (entry.Air frame sender receiver repeaters payload) put = (tt, refl)
-put_shows entry.ChipFull put = (tt, refl)
-put_shows e put = absurd put
 
 gives_no_ack : (e : Entry) → GivesNone e → IsNoAck e
 gives_no_ack (entry.Written by_chip unit) none = none

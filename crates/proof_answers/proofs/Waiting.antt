@@ -26,7 +26,7 @@ use Rattle.proof_chip.proofs.Parts.{Laws}
 use Rattle.proof_chip.proofs.Asides.{IsHosts, IsSteady}
 use Rattle.proof_chip.proofs.Mild.{outcome_sending}
 use Rattle.proof_chip.proofs.Steady.{hosts_chip, hosts_stay, hosts_within, steady_mild, steady_stays, steady_within}
-use Rattle.proof_chip.proofs.Learning.{IsLinked, all_linked, pairs_linked}
+use Rattle.proof_chip.proofs.Colliding.{IsLinked, all_linked, pairs_linked}
 use Rattle.proof_answers.proofs.Standing.{SameOwing}
 
 -- ---- the nodes that failed

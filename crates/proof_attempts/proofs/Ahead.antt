@@ -1,12 +1,8 @@
 -- A fold that looks ahead for a refusal alone, over one list behind another.
-use Rattle.std.proofs.Common.{◌≡◌, false, List, [], ◌∷◌, ◌++◌, refl, sym, ap, ◌∙◌, append-nil, append_assoc}
+use Rattle.std.proofs.Common.{◌≡◌, false, List, [], ◌∷◌, ◌++◌, sym, ap, ◌∙◌, append-nil, append_assoc}
 use Rattle.zw_text.specs.declared.entry.Entry.{Entry}
-use Rattle.zw_text.specs.declared.entry.Entry.TheVariants as entry
 use Rattle.proof_work.specs.law_transcript.Restarts.{begins_refused}
-
-same_refused : (e : Entry) (past told : List Entry) → begins_refused (e ∷ (past ++ told)) ≡ begins_refused (e ∷ past)
-same_refused (entry.Refused refusal) past told = refl
-same_refused e past told = refl
+use Rattle.proof_requests.proofs.proof_waking_Apart.{same_refused}
 
 -- each step has the entries before it and those after it
 module _ {S : Type 0} (step : List Entry → S → Entry → List Entry → S)

@@ -10,12 +10,11 @@ use Rattle.zw_text.specs.declared.entry.Refusal.{Refusal}
 use Rattle.zw_text.specs.declared.entry.Entry.{Entry}
 use Rattle.zw_text.specs.declared.entry.Entry.TheVariants as entry
 use Rattle.zw_text.specs.Transcript.{folded, line_of, time_of}
-use Rattle.zw_text.proofs.Views.{folded-append}
 use Rattle.proof_work.specs.law_transcript.Restarts.{begins_refused, is_restart}
 use Rattle.proof_work.specs.law_time.Holds.{hold_from, hold_step, held_until}
 use Rattle.proof_work.specs.law_time.Interviews.{listens}
 use Rattle.proof_work.specs.law_time.Judged.{last_of}
-use Rattle.proof_work.specs.law_time.Moments.{Passing, clock, later_of, passing_step}
+use Rattle.proof_work.specs.law_time.Moments.{clock, later_of}
 use Rattle.host_node.specs.State.{NodeState, needs_tick}
 use Rattle.host_model.specs.State.{HostState, first_host, node_of}
 use Rattle.host_model.specs.Events.{HostEvent, Hears, Line_ticks, Node_ticks, Requests_do}
@@ -29,7 +28,7 @@ use Rattle.proof_work.specs.Work.{HostWork, MayBeTold, times_told}
 use Rattle.proof_work.specs.proof_walk.ByLine.{IsAsked}
 use Rattle.proof_work.specs.proof_walk.Outside.{IsHostNote}
 use Rattle.proof_work.proofs.HostNotes.{NoteOuts, all_outs_note}
-use Rattle.proof_work.proofs.Untimed.{AreUntimed, IsUntimed, same_time}
+use Rattle.proof_work.proofs.Untimed.{AreUntimed, IsUntimed}
 use Rattle.proof_requests.specs.proof_alone.State.{HostMachine}
 use Rattle.proof_requests.specs.proof_alone.Steps.{AreTold, IsAskedBy}
 use Rattle.proof_requests.specs.proof_alone.Phases.{Phase, Resting, Asked, Risen, Ticking, Open, Behind, Sleeping, Submitting, GoesBy, IsNumbered, Turns}
@@ -48,6 +47,7 @@ use Rattle.proof_attempts.proofs.Releasing.{event_goes}
 use Rattle.proof_attempts.proofs.Telling.{IsAnswered, IsSteady, IsUnheld, same_releases, steady_or_answered, told_releases, told_unheld}
 use Rattle.proof_attempts.proofs.Ticking.{waits_tick}
 use Rattle.proof_attempts.proofs.Working.{in_order}
+use Rattle.proof_requests.proofs.Telling.{clock_same}
 
 -- ---- how the hold grows
 
@@ -83,15 +83,6 @@ in_vain n past words refusal = held_joined n past (entry.Said words ∷ (entry.R
     by false = refl
 
 -- ---- the clock
-
-untimed_passing : (start : Passing) (told : List Entry) → AreUntimed told → folded passing_step start told ≡ start
-untimed_passing start [] all = refl
-untimed_passing start (entry.Said words ∷ told) all = absurd all.0
-untimed_passing start (e ∷ told) all = untimed_passing start told all.1
-
-same_clock : (past told : List Entry) → AreUntimed told → clock (past ++ told) ≡ clock past
-same_clock past told all =
-    ap₂ (λ (p : Passing) (t : ℕ). later_of p.before t) (folded-append passing_step (record { before = 0; asked = 0 }) past told ∙ untimed_passing (passing past) told all) (same_time past told all)
 
 later_is : (a b t : ℕ) → a ≤ t → b ≤ t → (t ≡ a) ⊎ (t ≡ b) → later_of a b ≡ t
 later_is a b t under over is = by (nat_lt a b) refl is
@@ -141,7 +132,7 @@ now_first past e told at (inl same) = inl same
 now_first past e told at (inr all) = inr all.0
 
 now_rest : (past : List Entry) (e : Entry) (told : List Entry) (at : ℕ) → IsUntimed e → IsNow past (e ∷ told) at → IsNow (past ++ e ∷ []) told at
-now_rest past e told at untimed (inl same) = inl (same ∙ sym (same_clock past (e ∷ []) (untimed, tt)))
+now_rest past e told at untimed (inl same) = inl (same ∙ sym (clock_same past (e ∷ []) (untimed, tt)))
 now_rest past e told at untimed (inr all) = inr all.1
 
 releases_first : (n : ℕ) (releases : ℕ → Bool) (past : List Entry) (e : Entry) (told : List Entry) → Releases n releases past (e ∷ told)

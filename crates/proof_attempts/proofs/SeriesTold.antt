@@ -11,19 +11,19 @@ use Rattle.zw_text.specs.declared.entry.Entry.TheVariants as entry
 use Rattle.zw_text.specs.Transcript.{folded, session_at}
 use Rattle.zw_text.proofs.Views.{folded-append}
 use Rattle.proof_work.specs.law_time.Judged.{last_of}
-use Rattle.proof_work.specs.law_time.Moments.{Passing, clock, later_of, now_at, passing_step}
+use Rattle.proof_work.specs.law_time.Moments.{clock, now_at}
 use Rattle.proof_work.specs.law_time.Sessions.{Series as SeriesTold, is_last_command, series_by_end, series_step, with_time}
 use Rattle.host_model.specs.declared.out.HostOut.{HostOut}
 use Rattle.host_model.specs.declared.out.HostOut.TheVariants.{Note, Write}
 use Rattle.proof_work.specs.proof_host.Entries.{notes_of}
-use Rattle.proof_work.proofs.Untimed.{AreUntimed, IsUntimed, same_time}
+use Rattle.proof_work.proofs.Untimed.{AreUntimed, IsUntimed}
 use Rattle.proof_requests.specs.proof_alone.Steps.{AreTold, IsOfUnit}
-use Rattle.proof_requests.specs.proof_alone.Time.{passing}
 use Rattle.proof_requests.proofs.proof_waking_Apart.{IsWordless}
 use Rattle.proof_attempts.specs.Series.{series_so_far}
 use Rattle.proof_attempts.specs.Since.{IsLoose}
 use Rattle.proof_attempts.proofs.SeriesSteps.{series_one, waits_on}
 use Rattle.proof_attempts.proofs.Telling.{same_sessions_by}
+use Rattle.proof_requests.proofs.Telling.{clock_same}
 
 -- ---- entries
 
@@ -74,15 +74,6 @@ now_untimed past e untimed = refl
 
 -- ---- one entry after another
 
-untimed_passing : (start : Passing) (told : List Entry) → AreUntimed told → folded passing_step start told ≡ start
-untimed_passing start [] all = refl
-untimed_passing start (entry.Said words ∷ told) all = absurd all.0
-untimed_passing start (e ∷ told) all = untimed_passing start told all.1
-
-pub same_clock : (past told : List Entry) → AreUntimed told → clock (past ++ told) ≡ clock past
-same_clock past told all =
-    ap₂ (λ (p : Passing) (t : ℕ). later_of p.before t) (folded-append passing_step (record { before = 0; asked = 0 }) past told ∙ untimed_passing (passing past) told all) (same_time past told all)
-
 -- at its time, by any entry
 pub one_told : (n : ℕ) (past : List Entry) (e : Entry) (s : SeriesTold) (now : ℕ) → IsWordless e → now_at past e ≡ now → with_time n past now (series_so_far n past) ≡ s → NoneDue (series_step n past s e []) now
     → with_time n (past ++ e ∷ []) now (series_so_far n (past ++ e ∷ [])) ≡ series_step n past s e []
@@ -112,7 +103,7 @@ calm_told n past (e ∷ told) s last now wordless untimed calm same at none is =
     let one = one_told n past e s now wordless.0 (now_untimed past e untimed.0 ∙ sym at) is (subst (λ (t : SeriesTold). NoneDue t now) (sym steps) still) ∙ steps in
     subst (λ (l : List Entry). with_time n l now (series_so_far n l) ≡ folded (end_step last now) (end_step last now s e) told) (append_assoc past (e ∷ []) told)
     (calm_told n (past ++ e ∷ []) told (end_step last now s e) last now wordless.1 untimed.1 calm.1 (same_last n past e last calm.0 same)
-    (at ∙ sym (same_clock past (e ∷ []) (untimed.0, tt))) still one)
+    (at ∙ sym (clock_same past (e ∷ []) (untimed.0, tt))) still one)
 
 pub calm_series : (n : ℕ) (past told : List Entry) (s : SeriesTold) (last : ℕ → Bool) (now : ℕ) → AllByRecursion IsWordless told → AreUntimed told → AllByRecursion IsCalm told
     → ((command : ℕ) → is_last_command n past command ≡ last command) → IsAt past told now → NoneDue s now → with_time n past now (series_so_far n past) ≡ s

@@ -50,7 +50,7 @@ GivesNone (entry.Unheard frame) = ⊥
 GivesNone (entry.Written by_chip unit) = is_ack unit ≡ false
 GivesNone e = Unit {0}
 
-still_settled : (past : List Entry) (e : Entry) → GivesNone e → settled_clock (past ++ e ∷ []) ≡ settled_clock past
+pub still_settled : (past : List Entry) (e : Entry) → GivesNone e → settled_clock (past ++ e ∷ []) ≡ settled_clock past
 still_settled past (entry.Said words) none = absurd none
 still_settled past (entry.Time tick) none = absurd none
 still_settled past (entry.Heard frame) none = absurd none

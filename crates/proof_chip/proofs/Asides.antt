@@ -27,7 +27,7 @@ use Rattle.proof_air.proofs.Entered.{IsChange, IsCleared, IsMark, IsShown, all_c
 use Rattle.proof_air.specs.proof_walk.Outside.{IsNote, IsSimple}
 use Rattle.proof_chip.proofs.Settling.{IsIdle}
 use Rattle.proof_chip.proofs.Telling.{IsAside}
-use Rattle.proof_chip.proofs.Learning.{discovers_port, joins_port}
+use Rattle.proof_line.proofs.Colliding.{discovers_port, joins_port}
 
 -- neither of a unit of the chip or a frame of the controller, nor a line, the number of a tick or a fate
 abbrev pub IsUnrelated : Entry → Type 0

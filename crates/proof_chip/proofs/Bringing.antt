@@ -42,13 +42,9 @@ use Rattle.proof_chip.proofs.Growing.{Holds, holds, told}
 use Rattle.proof_chip.proofs.Judged.{goes_back}
 use Rattle.proof_chip.proofs.Ordering.{began, each_front}
 use Rattle.proof_chip.proofs.Telling.{AreAside, IsAside}
+use Rattle.proof_air.proofs.Homes.{get_stays}
 
 -- ---- what was heard, as the transcript grows
-
-get_stays : {A : Type 0} (xs ys : List A) (at : ℕ) (x : A) → slice_get xs at ≡ Some x → slice_get (xs ++ ys) at ≡ Some x
-get_stays [] ys at x is = absurd cc
-get_stays (first ∷ xs) ys zero x is = is
-get_stays (first ∷ xs) ys (suc at) x is = get_stays xs ys at x is
 
 abbrev home_at : List AirFrame → ℕ → List Carried
 home_at all number = homeward (if nat_lt 0 number then slice_get all (number - 1) else None)

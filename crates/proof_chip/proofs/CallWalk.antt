@@ -22,8 +22,8 @@ use Rattle.proof_line.specs.proof_traffic.Flights.{Fly}
 use Rattle.proof_line.specs.proof_traffic.Facts.{flying_in, one_if}
 use Rattle.proof_line.specs.proof_traffic.OnAir.{hosts_on_air, on_air}
 use Rattle.proof_line.specs.proof_traffic.OutsideTraffic.{flags, no_routes_due, of_frame, outward, without_frame}
-use Rattle.proof_line.proofs.ArrivedFrames.{Homes, arrives_home}
-use Rattle.proof_line.proofs.Arrivals.{NoNexting, outward-append}
+use Rattle.proof_line.proofs.ArrivedFrames.{arrives_home}
+use Rattle.proof_line.proofs.Arrivals.{Homes, NoNexting, outward-append}
 use Rattle.proof_line.proofs.ChipNotices.{Given, given_first}
 use Rattle.proof_line.proofs.Flights.{flights_are}
 use Rattle.proof_line.proofs.Parts.{Laws}

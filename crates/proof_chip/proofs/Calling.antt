@@ -58,7 +58,7 @@ use Rattle.proof_line.proofs.Parts.{Laws}
 use Rattle.proof_air.specs.proof_walk.Outside.{CoversOuter, nothing}
 use Rattle.proof_air.specs.Logs.{Tie}
 use Rattle.proof_chip.specs.Calling.{LeavesCalls, Waits}
-use Rattle.proof_chip.proofs.Learning.{IsLinked, all_linked, pairs_linked}
+use Rattle.proof_line.proofs.Colliding.{IsLinked, all_linked, pairs_linked}
 
 -- ---- each call, through steps of the course of requests
 

@@ -42,7 +42,8 @@ use Rattle.proof_air.proofs.Homes.{next_home, next_stands, shown_so, went_so, ag
 use Rattle.proof_line.specs.proof_traffic.Flights.{Fly}
 use Rattle.proof_line.specs.proof_traffic.OnAir.{on_air}
 use Rattle.proof_line.specs.proof_traffic.OutsideTraffic.{one_outward, outward}
-use Rattle.proof_line.proofs.ArrivedFrames.{Homes, arrives_home}
+use Rattle.proof_line.proofs.ArrivedFrames.{arrives_home}
+use Rattle.proof_line.proofs.Arrivals.{Homes}
 use Rattle.proof_line.proofs.ChipNotices.{arrived_air}
 use Rattle.proof_line.proofs.Flights.{flights_are}
 use Rattle.proof_line.proofs.Parts.{Laws}

@@ -56,7 +56,7 @@ use Rattle.proof_chip.proofs.Telling.{IsPut, puts_put}
 
 -- ---- entries
 
-put_shows : (e : Entry) → IsPut e → ShowsNone e
+pub put_shows : (e : Entry) → IsPut e → ShowsNone e
 put_shows (entry.Written by_chip unit) put = (tt, refl)
 put_shows (entry.Dropped side) put = (tt, refl)
 put_shows (entry.Garbled side unit) put = (tt, refl)

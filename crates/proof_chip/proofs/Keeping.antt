@@ -20,8 +20,6 @@ use Rattle.host_model.specs.State.{HostState}
 use Rattle.host_model.specs.Events.{HostEvent}
 use Rattle.host_model.specs.Did.{outs_all}
 use Rattle.host_model.specs.Outs.{answers}
-use Rattle.host_model.specs.declared.out.HostOut.{HostOut}
-use Rattle.host_model.specs.declared.out.HostOut.TheVariants.{Write, Note}
 use Rattle.outside_model.specs.State.{OuterState, Outcome, Outside, outside, tells}
 use Rattle.outside_model.specs.Devices.{MayAct, MayActByHand, acts_at, acts_by_hand, device_set, set_by_hand}
 use Rattle.outside_model.specs.Events.{OuterEvent, Begins_line, Begins_tick, Host_writes, Host_takes as host_takes, Host_notes, Host_begins, Chip_takes, Arrives, Gives, Device_ticks, Chip_ticks, Repeats, Wakes_device, Sets_device, Shows, Joins, Discovers, Links, Loses, Loses_acks, Marks_loss, Marks_change, Clears_pipe, Collides_next, Stalls, Cuts, devices_after, has_entered, is_own, mesh_of, outcome, repeats, stamp, steps, ticked_entry, May as MayOutside, entries as entries_outside, happens as happens_outside}
@@ -38,6 +36,7 @@ use Rattle.proof_chip.proofs.Asides.{NotHome}
 use Rattle.proof_chip.proofs.Homing.{IsBrought, brought_on, step_so}
 use Rattle.proof_line.proofs.ChipAccounts.{event_steps, outer_steps, repeat_steps, steps_account, steps_by}
 use Rattle.proof_chip.proofs.Going.{AreApart, apart_goes, collides_goes, results_go, simple_goes, tick_goes}
+use Rattle.proof_air.proofs.Machines.{any_units}
 
 abbrev pub TakesNone : Event → Type 0
 TakesNone (Outside_does (Chip_takes count rest ways)) = ⊥
@@ -46,11 +45,6 @@ TakesNone event = Unit {0}
 pub number_apart : (b : Bool) (clock : ℕ) → AreApart (if b then entry.Time clock ∷ [] else [])
 number_apart true clock = ((tt, tt), tt)
 number_apart false clock = tt
-
-pub any_units : (outs : List HostOut) → UnitsAre (λ unit. Unit {0}) outs
-any_units [] = tt
-any_units (Write unit ∷ outs) = (tt, any_units outs)
-any_units (Note note ∷ outs) = any_units outs
 
 not_own : false ≡ true → ⊥
 not_own is = cc

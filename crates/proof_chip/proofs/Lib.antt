@@ -78,3 +78,4 @@ pub use Rattle.proof_line.proofs.ChipNotices
 pub use Rattle.proof_line.proofs.Flights
 pub use Rattle.proof_line.proofs.SpokenLines
 pub use Rattle.proof_line.proofs.LinkSome
+pub use Rattle.proof_line.proofs.Colliding

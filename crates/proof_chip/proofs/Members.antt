@@ -45,7 +45,8 @@ use Rattle.proof_air.proofs.Machines.{machine_keeps}
 use Rattle.proof_air.proofs.Times.{does_chip, each_keeps}
 use Rattle.proof_chip.specs.Knowing.{AnyEntry, KnownNodes, KnowsNodes, SameNodes}
 use Rattle.proof_chip.proofs.Judged.{judged_nodes}
-use Rattle.proof_chip.proofs.Learning.{Any, IsLinked, all_linked, any_each, covers_any, pairs_linked}
+use Rattle.proof_chip.proofs.Learning.{Any, any_each, covers_any}
+use Rattle.proof_line.proofs.Colliding.{IsLinked, all_linked, pairs_linked}
 
 -- ---- the chip
 

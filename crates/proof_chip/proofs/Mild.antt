@@ -41,8 +41,8 @@ use Rattle.proof_air.proofs.Machines.{answers_keep, any_told, outs_keep}
 use Rattle.proof_air.proofs.Times.{does_chip, outcome_time}
 use Rattle.proof_chip.specs.Sending.{IsMild}
 use Rattle.proof_chip.proofs.Acting.{repeats_are}
-use Rattle.proof_chip.proofs.Keeping.{any_units}
-use Rattle.proof_chip.proofs.Learning.{IsLinked, all_linked, pairs_linked}
+use Rattle.proof_air.proofs.Machines.{any_units}
+use Rattle.proof_line.proofs.Colliding.{IsLinked, all_linked, pairs_linked}
 
 -- the chip has the same under way, and the clock is the same
 abbrev pub IsAlike : OuterState → OuterState → Type 0

@@ -1,6 +1,6 @@
 -- The frames that the chip has begun and the places of those that were dropped, by the transcript and by which of its units are first copies: a course that goes on tells the same of the
 -- entries so far.
-use Rattle.std.proofs.Common.{◌≡◌, ◌≤◌, ℕ, zero, suc, ◌+◌, Bool, true, false, if◌then◌else◌, List, [], ◌∷◌, ◌++◌, length, drop, refl, sym, ap, ap₂, ◌∙◌, subst, append-nil, append_assoc, length-append, arith}
+use Rattle.std.proofs.Common.{◌≡◌, ◌≤◌, ℕ, zero, suc, ◌+◌, Bool, true, false, if◌then◌else◌, List, [], ◌∷◌, ◌++◌, length, drop, refl, sym, ap, ap₂, ◌∙◌, subst, append_assoc, length-append, arith}
 use Rattle.std.specs.Prelude.{slice_index_or}
 use Rattle.std.specs.List.{AllByRecursion}
 use Rattle.zw_words.specs.declared.side.Side.TheVariants.{Host as by_host, Chip as by_chip}
@@ -11,15 +11,9 @@ use Rattle.zw_text.proofs.Views.{shown-append}
 use Rattle.law_transcript.specs.Lists.{shown_after}
 use Rattle.law_wire.specs.Asked.{Course}
 use Rattle.law_wire.specs.Answering.{begun, begun_at, drops, dropped_at, most_waiting}
+pub use Rattle.proof_air.proofs.Shown.{shown_both}
 
 -- ---- what entries show, judged by those before them
-
-pub shown_both : {A B : Type 0} (shows : List A → A → List B) (before xs ys : List A) → shown_after shows before (xs ++ ys) ≡ shown_after shows before xs ++ shown_after shows (before ++ xs) ys
-shown_both {A} {B} shows before [] ys = ap (λ (l : List A). shown_after shows l ys) (sym (append-nil before))
-shown_both {A} {B} shows before (x ∷ xs) ys =
-    ap (λ (l : List B). shows before x ++ l)
-    (shown_both shows (before ++ x ∷ []) xs ys ∙ ap (λ (l : List A). shown_after shows (before ++ x ∷ []) xs ++ shown_after shows l ys) (append_assoc before (x ∷ []) xs))
-    ∙ sym (append_assoc (shows before x) (shown_after shows (before ++ x ∷ []) xs) (shown_after shows (before ++ x ∷ xs) ys))
 
 -- ---- units that are first copies
 
