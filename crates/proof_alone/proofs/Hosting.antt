@@ -188,7 +188,7 @@ module _ (W : Type 0) (at : W → OuterState) (put : W → List HostOut → List
       subst (λ (l : List HostEvent). Then pumped Resting past records h [] w l) (sym are)
       (then_both pumped Resting past records h [] w first more
       (submits_run pumped more (past ++ told w h first) (kept records h first) (after_all h first) [] (later w h first) submits (may_rest h first more both)
-      (lets_run pumped first past records h [] w tt lets (may_first h first more both) (turned refl (may_pump stage [] refl) refl run))))
+      (lets_run pumped first past records h [] w tt lets (may_first h first more both) (turned refl (may_pump stage [] refl, tt) refl run))))
 
   -- a tick, and the pump that follows
   pub tick_and_pump : (pumped : List HostEvent) (past : List Entry) (records : Option (List (List ℕ))) (h : HostState) (w : W) → Pumps (after_all h (tick_events h)) pumped

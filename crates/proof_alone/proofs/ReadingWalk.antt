@@ -227,7 +227,7 @@ module _ (start : HostMachine) where
       comes next (Sleeping passes ticks) event taken past m event_is next_is may fine
       (λ may_it fine_it.
       part_over NoneCame AreFrames (all_judged Looked items) Looked alone.Open alone.Sleeping ticks (past ++ entries m taken) (happens m taken)
-      (λ came none. (refl, may_pump (all_judged Looked items) came none, subst AreFrames (sym none) tt)) (sym (all_pump items Looked))
+      (λ came none. (refl, (may_pump (all_judged Looked items) came none, subst AreFrames (sym none) tt), subst AreFrames (sym none) tt)) (sym (all_pump items Looked))
       (takes_reads start Looked tt (OnlyThen has_moved m) ticks past m rest items done may_it fine_it reads))
   event_keeps here next past m event goes may fine marks reads = absurd goes
 
@@ -244,7 +244,7 @@ module _ (start : HostMachine) where
   settles : (has_moved : Bool) (left : ℕ) (past : List Entry) (m : Machine) → IsStill (is_stalled m.outside.outer) m.outside.outer.to_host.bytes
       → ReadsWith (OnlyThen has_moved m) start Looked alone.Open left past m → Reads start Looked alone.Sleeping left past m
   settles has_moved left past m still reads =
-      turned Looked Looked alone.Open alone.Sleeping left past m (λ came only. (refl, tt)) refl
+      turned Looked Looked alone.Open alone.Sleeping left past m (λ came only. (refl, (tt, only))) refl
       (record { up = reads.up; down = reads.down; carried = reads.carried; frames = reads.frames; rests = reads.rests; only = by has_moved reads.only still; run = reads.run })
     where
       by : (moved : Bool) → OnlyThen moved m (good_units reads.down) → IsStill (is_stalled m.outside.outer) m.outside.outer.to_host.bytes → AreFrames (good_units reads.down)
@@ -260,7 +260,7 @@ module _ (start : HostMachine) where
   turn_keeps (Begun line) next past m (inr (ticks, line_is, next_is)) reads =
       to next (To_tick ticks) past m next_is
       (Fresh, turned Fresh Fresh (alone.Asked (lines.Tick ticks)) alone.Resting ticks past m (λ came only. (inr (ticks, refl, refl), tt)) refl (subst (λ (l : Line). Reads start Fresh (alone.Asked l) (ticks_of l) past m) line_is reads))
-  turn_keeps (Doing line []) next past m next_is reads = to next (Sleeping 64 0) past m next_is (turned Fresh Looked alone.Open alone.Sleeping 0 past m (λ came only. (refl, tt)) refl (effect_done start past m line reads))
+  turn_keeps (Doing line []) next past m next_is reads = to next (Sleeping 64 0) past m next_is (turned Fresh Looked alone.Open alone.Sleeping 0 past m (λ came only. (refl, (tt, only))) refl (effect_done start past m line reads))
   turn_keeps (To_tick zero) next past m next_is reads = to next Between past m next_is reads
   turn_keeps (Ticked ticks) next past m next_is reads = to next _ past m next_is reads
   turn_keeps (Arriving zero ticks) next past m next_is reads = to next _ past m next_is reads
@@ -268,7 +268,7 @@ module _ (start : HostMachine) where
   turn_keeps (Ticking_devices place zero ticks) next past m next_is reads = to next _ past m next_is reads
   turn_keeps (Ticking_host [] ticks) next past m next_is reads =
       to next (Sleeping 64 ticks) past m next_is
-      (turned Fresh Looked alone.Open alone.Sleeping ticks past m (λ came only. (refl, tt)) refl
+      (turned Fresh Looked alone.Open alone.Sleeping ticks past m (λ came only. (refl, (tt, only))) refl
       (turned Fresh Fresh (alone.Ticking []) alone.Open ticks past m (λ came only. (refl, tt)) refl reads.1))
   turn_keeps (Sleeping passes ticks) next past m (wants, next_is) reads =
       to next (Submitting passes ticks) past m next_is (turned Looked Looked alone.Sleeping alone.Submitting ticks past m (λ came only. ((wants, refl, only), tt)) refl reads)

@@ -4,7 +4,7 @@ use Rattle.std.specs.Prelude.{◌≡◌, List, []}
 use Rattle.serial_frame.specs.declared.unit.Unit.{Unit as LineUnit}
 use Rattle.zw_text.specs.declared.entry.Entry.{Entry}
 use Rattle.proof_alone.specs.State.{HostMachine}
-use Rattle.proof_alone.specs.Steps.{Step, Comes, Misses, Says, Says_nothing, Begins_tick, Judges}
+use Rattle.proof_alone.specs.Steps.{AreFrames, Step, Comes, Misses, Says, Says_nothing, Begins_tick, Judges}
 use Rattle.proof_alone.specs.Phases.{Phase, Open}
 use Rattle.proof_alone.specs.Runs.{Knowledge, Run}
 use Rattle.proof_alone.specs.Runs.Run.{Begins, Turned, Stepped}
@@ -72,8 +72,9 @@ StepsWell stage (Comes unit) = MayMeet stage
 StepsWell stage (Misses text marks) = MayMeet stage
 StepsWell stage step = Unit {0}
 
+-- a pump begins only where no answer is left to be judged
 abbrev pub TurnsWell : Stage → Phase → HostMachine → Type 0
-TurnsWell stage Open m = MayPump stage m.came
+TurnsWell stage Open m = MayPump stage m.came × AreFrames m.came
 TurnsWell stage here m = Unit {0}
 
 abbrev pub Careful : {start : HostMachine} {here : Phase} {told : List Entry} {m : HostMachine} → Run start here told m → Type 0

@@ -451,7 +451,7 @@ pace_turn (Ticking (first ∷ left)) next stage past m is well pace = absurd is
 pace_turn Open next stage past m is well pace = record {
   at_once = pace.at_once ∙ sym (pumped_reading stage);
   left = λ reads. pace.left (sym (pumped_reading stage) ∙ reads);
-  first = pumped_first stage past m well pace.first;
+  first = pumped_first stage past m well.0 pace.first;
   at = where_same Sleeping next (stage_pumped stage) is (pumped_where stage);
 }
 pace_turn (Behind []) next stage past m is well pace = same_pace (Behind []) next stage past m (where_on (Behind []) next stage (inr is)) pace
