@@ -25,6 +25,8 @@ mod Interviewed
 mod Walked
 mod Counted
 mod Rested
+mod GivesUp
+mod Given
 mod Carries
 mod Acked
 mod Quiet

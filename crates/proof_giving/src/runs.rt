@@ -5,6 +5,7 @@ ghost use Rattle.s0_crypto.specs.declared.key_pair.Keys.{Keys};
 ghost use Rattle.zw_text.specs.declared.entry.Entry.{Entry};
 ghost use Rattle.host_heard.specs.declared.told.Told.{Told};
 ghost use Rattle.law_transcript.specs.Units.{Carried};
+ghost use Rattle.law_time.specs.Moments.{KeepsAfter};
 ghost use Rattle.law_time.specs.Unanswered.{none_to_give_up};
 ghost use Rattle.proof_queue.specs.proof_attempts.proof_requests.law_host.Heard.{heeds_alone};
 ghost use Rattle.proof_queue.specs.proof_attempts.proof_requests.proof_alone.State.{HostMachine, first_alone};
@@ -12,7 +13,7 @@ ghost use Rattle.proof_queue.specs.proof_attempts.proof_requests.proof_alone.Pha
 ghost use Rattle.proof_queue.specs.proof_attempts.proof_requests.proof_alone.Runs.{Run};
 ghost use Rattle.proof_queue.specs.proof_attempts.proof_requests.proof_alone.Careful.{Careful};
 ghost use Rattle.proof_queue.specs.Heeding.{AllSteps, HeedsAs, HeedsSo};
-ghost use Rattle.proof_giving.specs.Walking.{Grounds, KnowsAttempts, RestsAt};
+ghost use Rattle.proof_giving.specs.Walking.{Grounds, KnowsAttempts, RestsAt, gives_up_well};
 
 use crate::requests::attempts_end_with_requests;
 use host_model::attempts_have_what_they_give;
@@ -64,4 +65,15 @@ pub fn hosts_rest_with_none_to_give_up()
 {
     hosts_count_attempts();
     ticks_begin_at_rest();
+}
+
+/// And a command counts as unanswered only where it is to be given up: where the request of the third attempt of its node ends badly, by a frame, in silence
+/// or by the line, or the last sign of that is 100 ticks ago; and none is to be where a line is said or the number of a tick stands.
+pub fn hosts_give_up_as_told()
+    ensures { (keys : Keys) (taken : List Entry → Carried → List Told) (here : Phase) (told : List Entry) (m : HostMachine) →
+        (run : Run (first_alone keys (Some [])) here told m) → Careful run → AllSteps (HeedsSo (heeds_alone taken)) run →
+        AllSteps (HeedsAs (heeds_alone taken)) run → KeepsAfter [] (gives_up_well (heeds_alone taken)) told }
+{
+    hosts_count_attempts();
+    hosts_rest_with_none_to_give_up();
 }
