@@ -5,11 +5,11 @@ mod Refused
 mod Asking
 mod Stills
 mod Sleepers
-mod Orders
+pub mod Orders
 mod Looks
 mod Tells
 mod Pumped
-mod Joined
+pub mod Joined
 mod Dropping
 mod Sleeps
 mod Ending

@@ -1,0 +1,14 @@
+mod Served
+mod ServedTie
+mod Failures
+mod BlockedTie
+mod Staying
+mod Plans
+mod Parts
+mod Turns
+mod Owners
+mod Choices
+mod Choosing
+mod Resting
+mod Along
+mod Readies

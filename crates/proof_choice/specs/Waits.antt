@@ -1,0 +1,19 @@
+-- What waits to be asked of the chip where a host alone may submit a request, and where it rests (this project's own rule): by its transcript as in the host.
+use Rattle.std.specs.Prelude.{◌≡◌, map}
+use Rattle.law_time.specs.Heeds.{Heeds}
+use Rattle.law_time.specs.Queue.{with_due}
+use Rattle.law_time.specs.Requests.{asked}
+use Rattle.proof_attempts.specs.proof_requests.Walking.{Ground as RequestsGround, KnowsAsked}
+use Rattle.proof_attempts.specs.proof_requests.proof_alone.Phases.{Phase, Resting, Submitting}
+use Rattle.proof_attempts.specs.proof_requests.proof_alone.Runs.{Knowledge, both_know}
+use Rattle.proof_queue.specs.Waiting.{queue_of, want_of_task}
+use Rattle.proof_giving.specs.Tie.{WaitsAsTold}
+
+abbrev pub KnowsWants : Heeds → Knowledge
+KnowsWants heeds Submitting past m = WaitsAsTold heeds past m.state
+KnowsWants heeds Resting past m = (with_due heeds past m.clock (asked past) (queue_of heeds past)).wants ≡ map want_of_task m.state.requests.queue
+KnowsWants heeds here past m = Unit {0}
+
+-- with how the last request stands
+abbrev pub AskingGround : Heeds → Knowledge
+AskingGround heeds = both_know (both_know RequestsGround KnowsAsked) (KnowsWants heeds)
