@@ -31,8 +31,10 @@ use Rattle.proof_attempts.specs.proof_requests.law_host.Heard.{heeds_alone, list
 use Rattle.proof_attempts.specs.proof_requests.proof_alone.Steps.{AsksNothing, IsAskedBy}
 use Rattle.proof_attempts.specs.proof_requests.Carrying.{is_asked_class, is_errand, unaddressed}
 use Rattle.proof_attempts.proofs.proof_requests_Carried.{get_errand, send_errand}
-use Rattle.proof_queue.specs.Waiting.{NoneWoken, Waits, WaitsSo, queue_of, want_of_task}
-use Rattle.proof_queue.proofs.Books.{before_is, before_line, book_joined, last_line, one_entry, said_entry}
+use Rattle.proof_queue.specs.Waiting.{queue_of, want_of_task}
+use Rattle.proof_queue.proofs.Books.{before_line, book_joined, last_line}
+use Rattle.proof_queue.proofs.Sleeps.{Stands}
+use Rattle.proof_queue.proofs.Ties.{TiesSo, one_more}
 use Rattle.proof_queue.proofs.Refused.{FitsRefusal, lacks, lacks_not, lacks_so}
 
 -- ---- a Set or Get by itself is no Nonce Report
@@ -127,49 +129,59 @@ nothing_wanted line before none = refl
 
 -- ---- behind the words of a line
 
-module _ (taken : List Entry → Carried → List Told) (before : List Entry) (words : List ℕ) (line : Line) (h : HostState) (read : line_of (entry.Said words) ≡ line ∷ []) (none : NoneWoken before)
-    (waits : Waits (queue_of (heeds_alone taken) before) h.requests.queue []) where
+module _ (taken : List Entry → Carried → List Told) (before : List Entry) (words : List ℕ) (line : Line) (h : HostState) (drops : ℕ → Bool) (read : line_of (entry.Said words) ≡ line ∷ [])
+    (stands : Stands (queue_before (heeds_alone taken) before (entry.Said words)) h.requests.queue [] drops) where
   abbrev said : List Entry
   said = before ++ entry.Said words ∷ []
 
   abbrev wanted : List (List ℕ)
   wanted = wants_of listing_heard before line
 
+  abbrev waits : Queue
+  waits = queue_before (heeds_alone taken) before (entry.Said words)
+
   places_are : places (heeds_alone taken) said ≡ length wanted
   places_are =
       ap₂ (λ (b : List Entry) (ls : List Line). length (flat_map (wants_of listing_heard b) ls)) (before_line before (entry.Said words)) (last_line before (entry.Said words) ∙ read)
       ∙ ap length (append-nil wanted)
 
+  -- what waits before words is the same before any
   waits_are : waits_before_line (heeds_alone taken) said ≡ length h.requests.queue
   waits_are =
-      ap (λ (b : List Entry). length (queue_before (heeds_alone taken) b (entry.Said [])).wants) (before_line before (entry.Said words))
-      ∙ ap (λ (q : Queue). length q.wants) (before_is taken before (entry.Said []) none) ∙ ap length waits.wants_are ∙ length-map h.requests.queue want_of_task
+      ap (λ (b : List Entry). length (queue_before (heeds_alone taken) b (entry.Said [])).wants) (before_line before (entry.Said words)) ∙ ap length stands.wants_are
+      ∙ length-map h.requests.queue want_of_task
 
   pub lacks_is : lacks_places (heeds_alone taken) said ≡ lacks (length h.requests.queue) (length wanted)
   lacks_is = ap₂ (λ (w n : ℕ). lacks w n) waits_are places_are
 
   -- it puts in what it wants, unless it starts the host again
   line_queue : (anew : Bool) → is_restart (line ∷ []) ≡ anew
-      → queue_of (heeds_alone taken) said
-      ≡ (if anew && true then no_queue else record (queue_of (heeds_alone taken) before) { wants = (queue_of (heeds_alone taken) before).wants ++ flat_map (wants_of listing_heard before) (line ∷ []) })
+      → queue_of (heeds_alone taken) said ≡ (if anew && true then no_queue else record waits { wants = waits.wants ++ flat_map (wants_of listing_heard before) (line ∷ []) })
   line_queue anew is =
-      let q : Queue = queue_of (heeds_alone taken) before in
-      one_entry taken before (entry.Said words) refl none
-      ∙ ap (λ (ls : List Line). if is_restart ls && true then no_queue else record q { wants = q.wants ++ flat_map (wants_of listing_heard before) ls }) read
-      ∙ ap (λ (b : Bool). if b && true then no_queue else record q { wants = q.wants ++ flat_map (wants_of listing_heard before) (line ∷ []) }) is
+      one_more taken before (entry.Said words) refl
+      ∙ ap (λ (ls : List Line). if is_restart ls && true then no_queue else record waits { wants = waits.wants ++ flat_map (wants_of listing_heard before) ls }) read
+      ∙ ap (λ (b : Bool). if b && true then no_queue else record waits { wants = waits.wants ++ flat_map (wants_of listing_heard before) (line ∷ []) }) is
 
-  pub said_waits : (tasks : List Task) → is_restart (line ∷ []) ≡ false → map want_of_task tasks ≡ map want_of_task h.requests.queue ++ wanted → Waits (queue_of (heeds_alone taken) said) tasks []
-  said_waits tasks goes are =
-      subst (λ (q : Queue). Waits q tasks []) (sym (line_queue false goes))
-      (record { wants_are = ap₂ (λ (a b : List (List ℕ)). a ++ b) waits.wants_are (append-nil wanted) ∙ sym are; owed_are = waits.owed_are })
+  pub said_ties : (tasks : List Task) (kept : ℕ → Bool) → is_restart (line ∷ []) ≡ false → map want_of_task tasks ≡ map want_of_task h.requests.queue ++ wanted
+      → (length wanted ≡ 0) ⊎ (length h.requests.queue + length wanted ≤ 64) → ((n : ℕ) → 1 ≤ n → n ≤ 232 → drops n ≡ kept n)
+      → TiesSo (heeds_alone taken) (queue_of (heeds_alone taken) said) said tasks [] kept
+  said_ties tasks kept goes are rooms same = record {
+    stands = subst (λ (q : Queue). Stands q tasks [] kept) (sym (line_queue false goes))
+        (record {
+          wants_are = ap₂ (λ (a b : List (List ℕ)). a ++ b) stands.wants_are (append-nil wanted) ∙ sym are;
+          owed_are = stands.owed_are;
+          dropped = λ n from to. stands.dropped n from to ∙ same n from to;
+        });
+    answered = lacks_is ∙ lacks_not (length h.requests.queue) (length wanted) rooms;
+  }
 
-  pub said_anew : (tasks : List Task) → is_restart (line ∷ []) ≡ true → tasks ≡ [] → Waits (queue_of (heeds_alone taken) said) tasks []
-  said_anew tasks starts are =
-      subst (λ (q : Queue). Waits q tasks []) (sym (line_queue true starts)) (record { wants_are = sym (ap (λ (l : List Task). map want_of_task l) are); owed_are = refl })
-
-  pub said_so : (tasks : List Task) → is_restart (line ∷ []) ≡ false → map want_of_task tasks ≡ map want_of_task h.requests.queue ++ wanted
-      → (length wanted ≡ 0) ⊎ (length h.requests.queue + length wanted ≤ 64) → WaitsSo (heeds_alone taken) said tasks []
-  said_so tasks goes are rooms = record { waits = said_waits tasks goes are; answered = lacks_is ∙ lacks_not (length h.requests.queue) (length wanted) rooms }
+  pub anew_ties : (tasks : List Task) (kept : ℕ → Bool) → is_restart (line ∷ []) ≡ true → length wanted ≡ 0 → tasks ≡ [] → ((n : ℕ) → 1 ≤ n → n ≤ 232 → kept n ≡ false)
+      → TiesSo (heeds_alone taken) (queue_of (heeds_alone taken) said) said tasks [] kept
+  anew_ties tasks kept starts nothing are none = record {
+    stands = subst (λ (q : Queue). Stands q tasks [] kept) (sym (line_queue true starts))
+        (record { wants_are = sym (ap (λ (l : List Task). map want_of_task l) are); owed_are = refl; dropped = λ n from to. sym (none n from to) });
+    answered = lacks_is ∙ lacks_not (length h.requests.queue) (length wanted) (inl nothing);
+  }
 
   -- ---- where it is refused
 
@@ -178,5 +190,5 @@ module _ (taken : List Entry → Carried → List Told) (before : List Entry) (w
       ap₂ (λ (n : ℕ) (b : Bool). (n == 64) && b) is (lacks_is ∙ lacks_so (length h.requests.queue) (length wanted) some more)
   refused_stands r fits = refl
 
-  pub refused_queue : (r : Refusal) → queue_of (heeds_alone taken) (before ++ entry.Said words ∷ (entry.Refused r ∷ [])) ≡ queue_of (heeds_alone taken) before
-  refused_queue r = ap (λ (b : Requests). b.queue) (book_joined taken before (entry.Said words ∷ (entry.Refused r ∷ [])) refl) ∙ said_entry taken before words (entry.Refused r ∷ []) none
+  pub refused_queue : (r : Refusal) → queue_of (heeds_alone taken) (before ++ entry.Said words ∷ (entry.Refused r ∷ [])) ≡ waits
+  refused_queue r = ap (λ (b : Requests). b.queue) (book_joined taken before (entry.Said words ∷ (entry.Refused r ∷ [])) refl)

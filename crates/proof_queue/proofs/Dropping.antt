@@ -43,7 +43,7 @@ use Rattle.host_model.specs.Ends.{PartEnd, Good, Passed_over, Bad, part_end}
 use Rattle.host_model.specs.After.{after, gives_up, is_held, node_for}
 use Rattle.host_model.specs.Events.{HostEvent, Accepts, Cancels, Joins, Requests_do, Interviews, Works, Finishes, Takes_nonce, Notifies, Line_ticks, Node_ticks, Queues_no_more, Drops_no_more, Starts, Gives_text, Gives_segment, Begins, Begin_unkept}
 use Rattle.host_model.specs.Outs.{outs}
-use Rattle.proof_work.specs.Work.{HostWork, times_due, told_at, told_for, told_in}
+use Rattle.proof_attempts.specs.proof_work.Work.{HostWork, times_due, told_at, told_for, told_in}
 use Rattle.proof_attempts.specs.proof_requests.proof_alone.Steps.{AreTold}
 use Rattle.proof_attempts.proofs.Counting.{event_awake}
 use Rattle.proof_attempts.proofs.Doings.{did, does_at, end_does, failing_does, held_does, node_after, part_does, purpose_does, task_does}
@@ -281,7 +281,7 @@ sleeps_only n (entry.Asleep k ∷ told) all = by (k == n) (sleeps_only n told al
 sleeps_only n (e ∷ told) all = sleeps_only n told all.1
 
 -- a node whose No More Information was dropped is awake
-dropped_awake : (state : NoMoreState) (awake : Bool) (classes : Option (List ℕ)) → NoMoreFacts state awake classes → awake ≡ false → is_dropped state ≡ false
+pub dropped_awake : (state : NoMoreState) (awake : Bool) (classes : Option (List ℕ)) → NoMoreFacts state awake classes → awake ≡ false → is_dropped state ≡ false
 dropped_awake Unasked awake classes facts asleep_so = refl
 dropped_awake Queued awake classes facts asleep_so = refl
 dropped_awake Dropped awake classes facts asleep_so = absurd (both_ways awake asleep_so facts.0)

@@ -37,7 +37,7 @@ use Rattle.host_model.specs.Ends.{PartEnd, Good, Passed_over, Bad, asleep_entry,
 use Rattle.host_model.specs.After.{after, requests_do}
 use Rattle.host_model.specs.Events.{Requests_do}
 use Rattle.host_model.specs.Outs.{request_entries}
-use Rattle.proof_work.specs.Work.{told_at, told_for}
+use Rattle.proof_attempts.specs.proof_work.Work.{told_at, told_for}
 use Rattle.proof_attempts.proofs.Doings.{does_at, end_does, node_after, part_does, purpose_does, task_does}
 use Rattle.proof_queue.proofs.Dropping.{ended_of}
 use Rattle.proof_queue.proofs.Orders.{is_among}
@@ -65,7 +65,7 @@ busy Due runs = refl
 busy Running runs = refl
 
 -- it is as it was, and is not told to sleep; or it would not sleep, and would not have, but for being told so now
-abbrev Kept : ℕ → ℕ → NodeState → NodeState → List Entry → Type 0
+abbrev pub Kept : ℕ → ℕ → NodeState → NodeState → List Entry → Type 0
 Kept n at s t told = ((t ≡ s) × (wakings n told ≡ [])) ⊎ ((would_sleep t ≡ false) × ((would_sleep s ≡ false) ⊎ (at ≡ 1)))
 
 asleep_none : (n k : ℕ) (fell : Bool) → (k == n) ≡ false → wakings n (asleep_entry fell k) ≡ []

@@ -1,5 +1,4 @@
 pub mod Books
-mod Leaving
 mod Undropped
 mod Refused
 mod Asking
@@ -15,6 +14,16 @@ mod Sleeps
 mod Ending
 mod Seeing
 mod Ties
+mod Pace
+mod Loose
+mod Noted
+mod Frames
+mod Closing
+mod Knowing
+mod Saying
+mod Heeded
+mod Ticked
+mod Pumping
 mod Walking
 mod Along
 mod Puts

@@ -146,7 +146,7 @@ second_of : (b c : Bool) → (b && c) ≡ true → c ≡ true
 second_of true c is = is
 second_of false c is = absurd (let bad : false ≡ true = is in cc)
 
-first_of : (b c : Bool) → (b && c) ≡ true → b ≡ true
+pub first_of : (b c : Bool) → (b && c) ≡ true → b ≡ true
 first_of true c is = refl
 first_of false c is = absurd (let bad : false ≡ true = is in cc)
 

@@ -137,6 +137,10 @@ filter_none : (p : ℕ → Bool) (numbers : List ℕ) → ((m : ℕ) → p m ≡
 filter_none p [] none = refl
 filter_none p (m ∷ numbers) none = ap (λ (b : Bool). if b then m ∷ filter p numbers else filter p numbers) (none m) ∙ filter_none p numbers none
 
+-- nor does any where none of them passes
+pub none_pass : (p : ℕ → Bool) (from count : ℕ) → ((m : ℕ) → from ≤ m → m < from + count → p m ≡ false) → filter p (range_with_len from count) ≡ []
+none_pass p from count none = filter_same p (λ (m : ℕ). false) from count none ∙ filter_none (λ (m : ℕ). false) (range_with_len from count) (λ m. refl)
+
 put_below : (p : ℕ → Bool) (n from count : ℕ) → n < from → put_number n (filter p (range_with_len from count)) ≡ n ∷ filter p (range_with_len from count)
 put_below p n from zero less = refl
 put_below p n from (suc count) less = by (p from) (put_below p n (from + 1) count (omega (arith, less)))

@@ -81,7 +81,7 @@ shuffle true true true false w i h = sym (and_right (w && i && h) false refl)
 wants_is : (node : NodeState) → wants_no_more node ≡ (has_all node && (node.hold == 0) && is_unasked node.no_more)
 wants_is node = shuffle node.awake (is_false node.listens) (is_some node.classes) (is_unasked node.no_more) (is_false (has_waiting node)) (is_idle node.series) (node.hold == 0)
 
-deaf_of : (a l c w i : Bool) → (a && l && c && w && i) ≡ true → l ≡ true
+pub deaf_of : (a l c w i : Bool) → (a && l && c && w && i) ≡ true → l ≡ true
 deaf_of true true c w i is = refl
 deaf_of true false c w i is = absurd (let bad : false ≡ true = is in cc)
 deaf_of false l c w i is = absurd (let bad : false ≡ true = is in cc)
@@ -96,7 +96,7 @@ awake_of : (a l c w i : Bool) → (a && l && c && w && i) ≡ true → a ≡ tru
 awake_of true l c w i is = refl
 awake_of false l c w i is = absurd (let bad : false ≡ true = is in cc)
 
-open_false : (b : Bool) → is_false b ≡ true → b ≡ false
+pub open_false : (b : Bool) → is_false b ≡ true → b ≡ false
 open_false true is = absurd (let bad : false ≡ true = is in cc)
 open_false false is = refl
 

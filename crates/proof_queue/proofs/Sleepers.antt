@@ -1,8 +1,6 @@
 -- Where no node has woken none counts as awake, and so none is to be told that there is no more for it.
-use Rattle.std.proofs.Common.{◌≡◌, ℕ, ◌==◌, ◌&&◌, not, Bool, true, false, if◌then◌else◌, List, [], ◌∷◌, ◌++◌, refl, ap, ◌∙◌}
-use Rattle.std.specs.Prelude.{Some, is_some}
+use Rattle.std.proofs.Common.{◌≡◌, ℕ, ◌==◌, ◌&&◌, not, Bool, true, false, if◌then◌else◌, List, [], ◌∷◌, ◌++◌, refl}
 use Rattle.std.specs.List.{AllByRecursion}
-use Rattle.std.proofs.lemmas.Bool.{both_ways}
 use Rattle.zw_base.proofs.Each.{all-append}
 use Rattle.zw_text.specs.declared.entry.Entry.{Entry}
 use Rattle.zw_text.specs.declared.entry.Entry.TheVariants as entry
@@ -11,14 +9,6 @@ use Rattle.law_transcript.specs.Lists.{last_or}
 use Rattle.law_transcript.specs.Restarts.{begins_refused, is_restart, since_restart, since_restart_from}
 use Rattle.law_time.specs.Waking.{counts_awake}
 use Rattle.law_time.specs.Queue.{woke_at}
-use Rattle.host_node.specs.State.{NodeState, has_waiting, is_false, is_idle, is_unasked, wants_no_more}
-use Rattle.host_node.specs.Search.{first_wanting}
-use Rattle.host_node.specs.TableState.{node_of as node_among}
-use Rattle.host_node.proofs.Searches.{what_is_least}
-use Rattle.host_model.specs.State.{HostState}
-use Rattle.proof_attempts.proofs.Queued.{wanting_is_node}
-use Rattle.proof_attempts.specs.Waking.{TieAwake}
-use Rattle.proof_queue.specs.Waiting.{NoneWoken}
 
 abbrev pub Unwoken : Entry → Type 0
 Unwoken (entry.Awake n) = ⊥
@@ -27,7 +17,7 @@ Unwoken e = Unit {0}
 abbrev pub Are : List Entry → Type 0
 Are told = AllByRecursion Unwoken told
 
-all_unwoken : (told : List Entry) → NoneWoken told → Are told
+all_unwoken : (told : List Entry) → shown woke_at told ≡ [] → Are told
 all_unwoken [] none = tt
 all_unwoken (entry.Awake n ∷ told) none = absurd (let bad : n ∷ shown woke_at told ≡ [] = none in cc)
 all_unwoken (e ∷ told) none = (tt, all_unwoken told none)
@@ -52,14 +42,5 @@ asleep_last n (entry.Asleep node ∷ told) all = by (node == n) (asleep_last n t
     by false is = is
 asleep_last n (e ∷ told) all = asleep_last n told all.1
 
-pub none_awake : (past : List Entry) (n : ℕ) → NoneWoken past → counts_awake n past ≡ false
+pub none_awake : (past : List Entry) (n : ℕ) → shown woke_at past ≡ [] → counts_awake n past ≡ false
 none_awake past n none = asleep_last n (since_restart past) (since_unwoken [] past tt (all_unwoken past none))
-
-not_wanting : (n : NodeState) → n.awake ≡ false → wants_no_more n ≡ false
-not_wanting n is = ap (λ (b : Bool). b && is_false n.listens && is_some n.classes && is_unasked n.no_more && is_false (has_waiting n) && is_idle n.series && n.hold == 0) is
-
-pub none_wants : (past : List Entry) (h : HostState) (n : ℕ) → NoneWoken past → TieAwake past h → first_wanting h.nodes ≡ Some n → ⊥
-none_wants past h n none awake wants =
-    let is_node = wanting_is_node h.nodes n wants in
-    both_ways (wants_no_more (node_among h.nodes n)) (not_wanting (node_among h.nodes n) (awake n is_node.0 is_node.1 ∙ none_awake past n none))
-    (what_is_least (λ node. wants_no_more (node_among h.nodes node)) 0 n wants).is_one

@@ -21,6 +21,7 @@ use Rattle.host_model.specs.Pumping.{no_more_event}
 use Rattle.proof_queue.specs.Sleeping.{full_for, is_dropped, slept, wanting}
 use Rattle.proof_queue.specs.Waiting.{want_of_task}
 use Rattle.proof_queue.proofs.Orders.{filter_same, is_among}
+use Rattle.proof_queue.proofs.Pumped.{would_sleep}
 
 -- ---- the first of some numbers
 
@@ -134,6 +135,17 @@ next_if h full n rest places is =
     next_found (λ (m : ℕ). wants_no_more (node_of h m)) (λ (m : ℕ). wants_no_more (node_of (after h (event_if full n)) m)) 1 232 n rest is
     (ap (λ (s : NodeState). wants_no_more s) (node_same h full n (omega (arith, places, it.high))) ∙ told_no_more full (node_of h n))
     (λ m other. ap (λ (s : NodeState). wants_no_more s) (node_other h full n m other))
+
+-- whether a node would sleep does not hang on that
+pub same_would : (h : HostState) (n k : ℕ) → length h.nodes ≡ 233 → first_wanting h.nodes ≡ Some n → would_sleep (node_of (after h (no_more_event h n)) k) ≡ would_sleep (node_of h k)
+same_would h n k places wants = elim (cases_eq k n) [
+  | inl same ↦
+      let (rest, is) = first_wants h n wants in
+      let it = found_is (λ (m : ℕ). wants_no_more (node_of h m)) 1 232 n rest is in
+      subst (λ (j : ℕ). would_sleep (node_of (after h (event_if (is_full h) n)) j) ≡ would_sleep (node_of h j)) (sym same)
+      (ap would_sleep (node_same h (is_full h) n (omega (arith, places, it.high))))
+  | inr other ↦ ap would_sleep (node_other h (is_full h) n k other)
+]
 
 -- ---- all of them
 

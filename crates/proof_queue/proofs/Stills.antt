@@ -1,7 +1,7 @@
 -- Events of a host that leave the tasks that wait, and drop no message; and what a request that is submitted leaves of them.
-use Rattle.std.proofs.Common.{◌≡◌, ℕ, ◌||◌, Bool, true, false, if◌then◌else◌, List, [], ◌∷◌, ◌++◌, map, refl, sym, ap, ap₂, ◌∙◌, subst}
+use Rattle.std.proofs.Common.{◌≡◌, ℕ, ◌||◌, Bool, true, false, if◌then◌else◌, List, [], ◌∷◌, ◌++◌, map, refl, sym, ap, ◌∙◌, subst}
 use Rattle.std.specs.Prelude.{bytes_eq, drop}
-use Rattle.std.specs.List.{AllByRecursion, flat_map, list_any}
+use Rattle.std.specs.List.{flat_map, list_any}
 use Rattle.chip_functions.specs.declared.request.Request.{Request}
 use Rattle.serial_link.specs.State.{Side, tick_side}
 use Rattle.law_transcript.specs.Units.{request_in}
@@ -24,7 +24,6 @@ use Rattle.host_model.specs.Did.{after_all}
 use Rattle.host_model.specs.Events.{HostEvent, Line_ticks, Node_ticks, Requests_do}
 use Rattle.host_model.specs.Outs.{outs}
 use Rattle.host_model.specs.Taking.{told_if, told_requests}
-use Rattle.proof_attempts.specs.proof_requests.proof_waking.Judged.{IsOfRequest}
 use Rattle.proof_attempts.specs.proof_requests.Walking.{IsOfChip}
 use Rattle.proof_attempts.proofs.Doing.{attempt_asks, end_if_asks}
 use Rattle.proof_attempts.proofs.Queued.{told_queue}
@@ -91,13 +90,6 @@ told_if_still h b event events is are = subst (AreStill h) (sym are) (by b)
     by : (b : Bool) → AreStill h (told_if b event)
     by true = told_still h event is
     by false = record { queue = refl; drops = refl }
-
--- what the request under way hears
-pub requests_drop : (h : HostState) (events : List HostEvent) → AllByRecursion IsOfRequest events → dropped_by h events ≡ []
-requests_drop h [] all = refl
-requests_drop h (Requests_do event moment ∷ events) all =
-    ap₂ (λ (a b : List ℕ). a ++ b) (put_drops (outs h (Requests_do event moment)) (request_put h event moment)) (requests_drop (after h (Requests_do event moment)) events all.1)
-requests_drop h (event ∷ events) all = absurd all.0
 
 -- ---- a request that is submitted
 

@@ -23,7 +23,7 @@ use Rattle.host_node.specs.declared.no_more.NoMore.{NoMore as NoMoreState}
 use Rattle.host_node.specs.declared.no_more.NoMore.TheVariants.{Unasked, Queued, Dropped}
 use Rattle.host_node.specs.State.{is_unasked}
 use Rattle.host_model.specs.Did.{one_if}
-use Rattle.proof_work.specs.Work.{times_due, told_at, told_for, told_in}
+use Rattle.proof_attempts.specs.proof_work.Work.{times_due, told_at, told_for, told_in}
 use Rattle.proof_attempts.specs.Carried.{CarriesWell, IsOther, UnderWayWell, WaitsWell, nodes_of}
 use Rattle.proof_attempts.specs.Slept.{SleptSo}
 use Rattle.proof_queue.specs.Sleeping.{is_dropped}
@@ -104,7 +104,7 @@ purpose_once n (Housekeeping task) = refl
 purpose_once n (Attempt k more payload) = refl
 purpose_once n Abort = refl
 
-told_by_request : (past : List Entry) (requests : RequestsState) (n : ℕ) → UnderWayWell requests.under_way
+pub told_by_request : (past : List Entry) (requests : RequestsState) (n : ℕ) → UnderWayWell requests.under_way
     → ((u : UnderWay) → requests.under_way ≡ Some u → request_last past ≡ request_of u.purpose requests.last_id ∷ []) → SleptSo n past requests → listens n past ≡ false
     → (tells_it n (asked past).frame && not (has_slept n (asked past).following)) ≡ nat_lt 0 (told_at n requests.under_way)
 told_by_request past requests n well request slept deaf = by requests.under_way refl

@@ -40,7 +40,7 @@ same_drops q tasks owes d e same stands = record { wants_are = stands.wants_are;
 
 -- ---- what is put into it where nothing is dropped
 
-each_owed : (q : Queue) (nodes : List ℕ) → (rest : List ℕ) × ((each_with with_no_more q nodes).owed ≡ q.owed ++ rest)
+pub each_owed : (q : Queue) (nodes : List ℕ) → (rest : List ℕ) × ((each_with with_no_more q nodes).owed ≡ q.owed ++ rest)
 each_owed q [] = ([], sym (append-nil q.owed))
 each_owed q (n ∷ nodes) = by (queue_full q) (λ (k : Queue). each_owed k nodes)
   where
@@ -151,11 +151,11 @@ and_true : (b : Bool) → b ≡ (b && true)
 and_true true = refl
 and_true false = refl
 
-none_both : (a b : List Bool) → are_none (a ++ b) ≡ (are_none a && are_none b)
+pub none_both : (a b : List Bool) → are_none (a ++ b) ≡ (are_none a && are_none b)
 none_both [] b = refl
 none_both (x ∷ a) b = refl
 
-and_assoc : (a b c : Bool) → ((a && b) && c) ≡ (a && (b && c))
+pub and_assoc : (a b c : Bool) → ((a && b) && c) ≡ (a && (b && c))
 and_assoc true b c = refl
 and_assoc false b c = refl
 
@@ -269,7 +269,7 @@ module _ (taken : List Entry → Carried → List Told) where
   stay_may past (entry.Unkept n) stays lacks owed = refl
   stay_may past e stays lacks owed = allowed past e lacks owed
 
-  stay_go : (past : List Entry) (e : Entry) → Stays e → may_go heeds past e ≡ true
+  pub stay_go : (past : List Entry) (e : Entry) → Stays e → may_go heeds past e ≡ true
   stay_go past (entry.Begin node session command) stays = absurd stays
   stay_go past (entry.Written Host unit) stays = subst (λ (u : List ℕ). may_go heeds past (entry.Written Host u) ≡ true) (sym stays) refl
   stay_go past e stays = refl

@@ -13,9 +13,9 @@ ghost use Rattle.world_lines.specs.Done.{AreDone};
 ghost use Rattle.proof_attempts.specs.proof_requests.law_host.Heard.{heard_by_host, heeds_alone};
 ghost use Rattle.proof_attempts.specs.proof_requests.proof_alone.State.{HostMachine, first_alone};
 ghost use Rattle.proof_attempts.specs.proof_requests.proof_alone.Phases.{Phase};
-ghost use Rattle.proof_attempts.specs.proof_requests.proof_alone.Runs.{Run, Told};
+ghost use Rattle.proof_attempts.specs.proof_requests.proof_alone.Runs.{Run};
+ghost use Rattle.proof_attempts.specs.proof_requests.proof_alone.Careful.{ToldCarefully};
 ghost use Rattle.proof_known.specs.Known.{AreForHost};
-ghost use Rattle.proof_queue.specs.Waiting.{NoneWoken};
 ghost use Rattle.proof_queue.specs.Heeding.{AllSteps, HeedsSo};
 ghost use Rattle.proof_queue.specs.Turn.{GoesByQueue};
 
@@ -42,14 +42,13 @@ pub fn hosts_go_by_messages()
     hosts_show_open_sessions();
 }
 
-/// So by such messages the queue of a host alone holds 64, as long as no node has woken and no line is refused that is for others: a line is refused for it
-/// exactly where it asks for more places than are free, and a message to a node is dropped, which is said, exactly where 64 wait. And requests go by the
-/// queue. So it is of what the host heard of any lines from the first on, the last of which an allocation failure may have cut short.
+/// So by such messages the queue of a host alone holds 64, in careful runs, as long as no line is refused that is for others: a line is refused for it exactly
+/// where it asks for more places than are free, and a message to a node is dropped, which is said, exactly where 64 wait. And requests go by the queue. So it
+/// is of what the host heard of any lines from the first on, the last of which an allocation failure may have cut short.
 pub fn hosts_fit_their_queue()
-    ensures told { (keys : Keys) (told : List Entry) → Told (first_alone keys (Some [])) told → NoneWoken told → AreForHost told →
+    ensures told { (keys : Keys) (told : List Entry) → ToldCarefully (first_alone keys (Some [])) told → AreForHost told →
         (taken : List Entry → Carried → List Message) × FitsQueue (heeds_alone taken) told × GoesByQueue (heeds_alone taken) told }
     ensures heard { (keys : Keys) (devices : List State) (lines : List Spoken) → AreDone (first_machine keys (Some []) devices) lines →
-        NoneWoken (heard_by_host (transcript_of (first_machine keys (Some []) devices) lines)) →
         (taken : List Entry → Carried → List Message)
         × FitsQueue (heeds_alone taken) (heard_by_host (transcript_of (first_machine keys (Some []) devices) lines))
         × GoesByQueue (heeds_alone taken) (heard_by_host (transcript_of (first_machine keys (Some []) devices) lines)) }

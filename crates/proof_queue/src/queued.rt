@@ -8,35 +8,47 @@ ghost use Rattle.law_transcript.specs.Units.{Carried};
 ghost use Rattle.law_time.specs.Queue.{FitsQueue};
 ghost use Rattle.proof_attempts.specs.proof_requests.law_host.Heard.{heeds_alone};
 ghost use Rattle.proof_attempts.specs.proof_requests.proof_alone.State.{HostMachine, first_alone};
-ghost use Rattle.proof_attempts.specs.proof_requests.proof_alone.Phases.{Phase};
+ghost use Rattle.proof_attempts.specs.proof_requests.proof_alone.Phases.{Phase, Resting, Submitting};
 ghost use Rattle.proof_attempts.specs.proof_requests.proof_alone.Runs.{Run};
+ghost use Rattle.proof_attempts.specs.proof_requests.proof_alone.Careful.{Careful};
 ghost use Rattle.proof_known.specs.Known.{AreForHost};
-ghost use Rattle.proof_queue.specs.Waiting.{KnowsWaiting, NoneWoken};
+ghost use Rattle.proof_queue.specs.Waiting.{WaitsAtLooks};
 ghost use Rattle.proof_queue.specs.Heeding.{AllSteps, HeedsSo};
 ghost use Rattle.proof_queue.specs.Turn.{GoesByQueue};
 
 use host_model::attempts_have_what_they_give;
-use proof_attempts::hosts_count_awake;
 use proof_attempts::requests::hosts_ask_as_told;
-use proof_known::hosts_know_what_nodes_list;
+use proof_attempts::{
+    hosts_hold_as_told, hosts_run_series_as_told, hosts_show_open_sessions, hosts_tell_of_sleep,
+};
+use proof_known::{hosts_keep_what_is_said, hosts_know_what_nodes_list, hosts_know_what_was_told};
 
-/// In any run of a host alone, also where it starts again, over a keeper that tells its records and has none at first, by messages that are heeded as the host
-/// took them: as long as no node has woken what waits by the transcript is what waits in the host. So where no line is refused that is for others, a line is
-/// refused for places exactly where it asks for more than are free, and a message to a node is dropped, which is said, exactly where 64 wait. And requests go
-/// by the queue: an abort just where one is owed, then what has waited longest, and a session has its turn, or begins, only where nothing waits.
+/// In any careful run of a host alone, also where it starts again, over a keeper that tells its records and has none at first, by messages that are heeded as
+/// the host took them: where it submits, and where it rests, what waits by the transcript before each entry at which it looks is what waits in the host. So
+/// where no line is refused that is for others, a line is refused for places exactly where it asks for more than are free, and a message to a node is dropped,
+/// which is said, exactly where 64 wait. And requests go by the queue: an abort just where one is owed, then what has waited longest, and a session has its
+/// turn, or begins, only where nothing waits.
 pub fn hosts_queue_as_told()
-    ensures known { (keys : Keys) (taken : List Entry → Carried → List Told) (here : Phase) (told : List Entry) (m : HostMachine) →
-        (run : Run (first_alone keys (Some [])) here told m) → AllSteps (HeedsSo (heeds_alone taken)) run →
-        KnowsWaiting (heeds_alone taken) here told m }
+    ensures submits { (keys : Keys) (taken : List Entry → Carried → List Told) (told : List Entry) (m : HostMachine) →
+        (run : Run (first_alone keys (Some [])) Submitting told m) → Careful run → AllSteps (HeedsSo (heeds_alone taken)) run →
+        WaitsAtLooks (heeds_alone taken) told m }
+    ensures rests { (keys : Keys) (taken : List Entry → Carried → List Told) (told : List Entry) (m : HostMachine) →
+        (run : Run (first_alone keys (Some [])) Resting told m) → Careful run → AllSteps (HeedsSo (heeds_alone taken)) run →
+        WaitsAtLooks (heeds_alone taken) told m }
     ensures fits { (keys : Keys) (taken : List Entry → Carried → List Told) (here : Phase) (told : List Entry) (m : HostMachine) →
-        (run : Run (first_alone keys (Some [])) here told m) → AllSteps (HeedsSo (heeds_alone taken)) run → NoneWoken told → AreForHost told →
+        (run : Run (first_alone keys (Some [])) here told m) → Careful run → AllSteps (HeedsSo (heeds_alone taken)) run → AreForHost told →
         FitsQueue (heeds_alone taken) told }
     ensures goes { (keys : Keys) (taken : List Entry → Carried → List Told) (here : Phase) (told : List Entry) (m : HostMachine) →
-        (run : Run (first_alone keys (Some [])) here told m) → AllSteps (HeedsSo (heeds_alone taken)) run → NoneWoken told →
+        (run : Run (first_alone keys (Some [])) here told m) → Careful run → AllSteps (HeedsSo (heeds_alone taken)) run →
         GoesByQueue (heeds_alone taken) told }
 {
     attempts_have_what_they_give();
     hosts_ask_as_told();
     hosts_know_what_nodes_list();
-    hosts_count_awake();
+    hosts_keep_what_is_said();
+    hosts_know_what_was_told();
+    hosts_show_open_sessions();
+    hosts_tell_of_sleep();
+    hosts_run_series_as_told();
+    hosts_hold_as_told();
 }

@@ -15,34 +15,23 @@ use Rattle.proof_attempts.specs.proof_requests.proof_alone.Steps.{Numbers}
 use Rattle.proof_attempts.specs.proof_requests.proof_alone.Phases.{Phase}
 use Rattle.proof_attempts.specs.proof_requests.proof_alone.Runs.{Run}
 use Rattle.proof_attempts.specs.proof_requests.proof_alone.Runs.Run.{Stepped}
-use Rattle.proof_attempts.specs.proof_requests.proof_alone.Tables.{TieTables}
 use Rattle.proof_attempts.proofs.Running.{run_keeps}
-use Rattle.proof_known.specs.Known.{KnowsTold, KnowsWhole}
+use Rattle.proof_known.specs.Known.{KnowsWhole}
 use Rattle.proof_queue.specs.Waiting.{queue_of}
 use Rattle.proof_queue.specs.Sleeping.{WaitsIn, full_for, slept, wanting}
-use Rattle.proof_queue.proofs.Joined.{joined_along}
 use Rattle.proof_queue.proofs.Pumped.{MayLook, raw_wanting, since_wanting}
-use Rattle.proof_queue.proofs.Seeing.{Sights, clock_now, may_look, risen, told_now, work}
+use Rattle.proof_queue.proofs.Seeing.{Sights, sights_along, clock_now, may_look, risen, told_now, work}
 use Rattle.proof_queue.proofs.Sleeps.{sleep_stands}
 use Rattle.proof_queue.proofs.Ties.{time_same}
 use Rattle.proof_queue.proofs.sleeping.hosts_let_sleep_as_told.Goals as goal
 
 module _ (c : goal.After-hosts_hold_as_told) (keys : Keys) where
-  tables : (here : Phase) (told : List Entry) (m : HostMachine) → Run (first_alone keys (Some [])) here told m → TieTables told m.state m.records
-  tables here told m run = (c.hosts_tell_of_sleep.ensures keys here told m run).0.0.0.0.0.0.0.0.0.0.0
-
-  tells : (here : Phase) (told : List Entry) (m : HostMachine) → Run (first_alone keys (Some [])) here told m → KnowsTold here told m
-  tells here told m run = (run_keeps (Allows may_wake) KnowsWhole c.hosts_know_what_was_told.ensures.walk [] run (c.hosts_know_what_was_told.ensures.first keys)).1.0.1
-
   sights : (here : Phase) (told : List Entry) (m : HostMachine) → Run (first_alone keys (Some [])) here told m → Sights here told m
-  sights here told m run = record {
-    sleep = c.hosts_tell_of_sleep.ensures keys here told m run;
-    heard = c.hosts_know_what_nodes_list.ensures.run keys here told m run;
-    series = c.hosts_run_series_as_told.ensures.along keys here told m run;
-    held = c.hosts_hold_as_told.ensures.along keys here told m run;
-    shows = λ n. c.hosts_show_open_sessions.ensures.told told m.state n (tables here told m run).facts (c.hosts_keep_what_is_said.ensures.table keys here told m run n).numbers;
-    joins = joined_along (first_alone keys (Some [])) tables tells run;
-  }
+  sights =
+      sights_along (first_alone keys (Some [])) (c.hosts_tell_of_sleep.ensures keys) (c.hosts_know_what_nodes_list.ensures.run keys) (c.hosts_run_series_as_told.ensures.along keys)
+      (c.hosts_hold_as_told.ensures.along keys)
+      (λ here told m run tables n. c.hosts_show_open_sessions.ensures.told told m.state n tables.facts (c.hosts_keep_what_is_said.ensures.table keys here told m run n).numbers)
+      (λ here told m run. (run_keeps (Allows may_wake) KnowsWhole c.hosts_know_what_was_told.ensures.walk [] run (c.hosts_know_what_was_told.ensures.first keys)).1.0.1)
 
 -- those that a look finds are let sleep
 lets : (q later : Queue) (h : HostState) (owes : List ℕ) → length h.nodes ≡ 233 → later ≡ each_with with_no_more q (wanting h) → WaitsIn q h owes
