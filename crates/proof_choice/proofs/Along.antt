@@ -63,3 +63,16 @@ module _ (start : HostMachine) where
     law_along {here = next} (Stepped {here = here} {told = told} {m = m} one may all_is later_is run) ground =
         subst (λ (l : List Entry). EachAfter Law [] l) (sym all_is)
         (each-append Law [] told (entries m one) (law_along run ground.0) (walk.step here next told m one may (known_last Ground run ground.0) (each_any told (entries m one)) tt).0)
+
+  -- with what it knows besides
+  module _ (Ground Know : Knowledge) (Law : List Entry → Entry → Type 0) (walk : WalkOver Ground (λ past e. Unit {0}) Law Know) (first : Know Resting [] start) where
+    pub told_along : {here : Phase} {told : List Entry} {m : HostMachine} → (run : Run start here told m) → AllAlong Ground run → EachAfter Law [] told × Know here told m
+    told_along Begins ground = (tt, first)
+    told_along {here = next} {told = told} {m = m} (Turned {here = here} turns run) ground =
+        let before = told_along run ground.0 in (before.0, walk.turn here next told m turns (known_last Ground run ground.0) before.1)
+    told_along {here = next} {told = all} {m = later} (Stepped {here = here} {told = told} {m = m} one may all_is later_is run) ground =
+        let before = told_along run ground.0 in
+        let goes = walk.step here next told m one may (known_last Ground run ground.0) (each_any told (entries m one)) before.1 in (
+          subst (λ (l : List Entry). EachAfter Law [] l) (sym all_is) (each-append Law [] told (entries m one) before.0 goes.0),
+          subst (λ (l : List Entry). Know next l later) (sym all_is) (subst (λ (k : HostMachine). Know next (told ++ entries m one) k) (sym later_is) goes.1),
+        )

@@ -55,7 +55,6 @@ use Rattle.proof_attempts.proofs.Walking.{is_fresh, written_told}
 use Rattle.proof_queue.proofs.Books.{last_is}
 use Rattle.proof_queue.proofs.Orders.{is_among}
 use Rattle.proof_queue.specs.Waiting.{want_of_task}
-use Rattle.proof_giving.specs.Tie.{WaitsAsTold}
 use Rattle.proof_giving.specs.Told.{attempts_so_far}
 use Rattle.proof_choice.specs.Choosing.{begins_well, may_choose}
 use Rattle.proof_choice.specs.Nodes.{NodeKnown}

@@ -61,11 +61,11 @@ use Rattle.proof_attempts.proofs.Wrote.Wrote.{Quietly, Again, Anew}
 use Rattle.proof_attempts.proofs.proof_alone_Apart.{AreOfLine}
 use Rattle.proof_attempts.proofs.proof_requests_Telling.{IsQuiet}
 use Rattle.proof_queue.specs.Waiting.{want_of_task}
-use Rattle.proof_giving.specs.Tie.{WaitsAsTold}
 use Rattle.proof_giving.specs.Told.{attempts_so_far}
 use Rattle.proof_choice.specs.Choosing.{begins_well, may_choose}
 use Rattle.proof_choice.specs.Nodes.{NodeKnown}
 use Rattle.proof_choice.specs.Turning.{AllKnown, ChoosingGround}
+use Rattle.proof_choice.specs.Waits.{WaitsAnew}
 use Rattle.proof_choice.proofs.Choices.{begins_is, chosen_is, segment_runs, serving_is, text_runs}
 use Rattle.proof_choice.proofs.Parts.{segment_chosen, start_chosen, text_chosen}
 
@@ -147,7 +147,7 @@ module _ (node_is : (heeds : Heeds) (n : ℕ) (past : List Entry) → (attempts_
 
   -- ---- what is submitted
 
-  module _ (past told : List Entry) (m : HostMachine) (numbered : IsNumbered m told) (ground : RequestsGround Submitting past m) (tie : IsTied past m) (waits : WaitsAsTold heeds past m.state) (all : AllKnown heeds past m) where
+  module _ (past told : List Entry) (m : HostMachine) (numbered : IsNumbered m told) (ground : RequestsGround Submitting past m) (tie : IsTied past m) (waits : WaitsAnew heeds past m) (all : AllKnown heeds past m) where
     facts : HostFacts m.state
     facts = ground.0.0.0.0.0.facts.host
 
@@ -178,15 +178,21 @@ module _ (node_is : (heeds : Heeds) (n : ℕ) (past : List Entry) → (attempts_
         (or_left (new_of Abort || is_abort_frame (unit_of Abort) || some_of Abort) (chosen_of Abort)
         (or_left (new_of Abort || is_abort_frame (unit_of Abort)) (some_of Abort) (or_right (new_of Abort) (is_abort_frame (unit_of Abort)) (ap (λ (l : List Request). list_any is_abort l) read))))
 
-    some_wait : (purpose : Purpose) (queue : List Task) → m.state.requests.queue ≡ queue → (queue ≡ [] → ⊥) → some_of purpose ≡ true
-    some_wait purpose [] is some = absurd (some refl)
-    some_wait purpose (task ∷ rest) is some = ap (λ (l : List (List ℕ)). not (are_none l)) (waits (unit_of purpose) ∙ ap (λ (l : List Task). map want_of_task l) is)
+    wants : (purpose : Purpose) → IsFree m.state → Puts purpose → (queue_before heeds past (entry.Written Host (unit_of purpose))).wants ≡ map want_of_task m.state.requests.queue
+    wants purpose free are =
+        let wrote = written_told (frame_of purpose id) told are in
+        waits (unit_of purpose) (is_fresh past m.clock m.came (doing_of m.state) (frame_of purpose id) free.free_line tie)
+        (time_told Submitting past told m ground numbered (entry.Written Host (unit_of purpose)) wrote.rest wrote.are)
 
-    front_may : (purpose : Purpose) → Puts purpose → (m.state.requests.queue ≡ [] → ⊥) → AllMay past told
-    front_may purpose are some =
+    some_wait : (purpose : Purpose) → IsFree m.state → Puts purpose → (queue : List Task) → m.state.requests.queue ≡ queue → (queue ≡ [] → ⊥) → some_of purpose ≡ true
+    some_wait purpose free are [] is some = absurd (some refl)
+    some_wait purpose free are (task ∷ rest) is some = ap (λ (l : List (List ℕ)). not (are_none l)) (wants purpose free are ∙ ap (λ (l : List Task). map want_of_task l) is)
+
+    front_may : (purpose : Purpose) → IsFree m.state → Puts purpose → (m.state.requests.queue ≡ [] → ⊥) → AllMay past told
+    front_may purpose free are some =
         puts_may purpose are
         (or_left (new_of purpose || is_abort_frame (unit_of purpose) || some_of purpose) (chosen_of purpose)
-        (or_right (new_of purpose || is_abort_frame (unit_of purpose)) (some_of purpose) (some_wait purpose m.state.requests.queue refl some)))
+        (or_right (new_of purpose || is_abort_frame (unit_of purpose)) (some_of purpose) (some_wait purpose free are m.state.requests.queue refl some)))
 
     -- the nodes, at the time of the transcript
     nodes_at : clock past ≡ m.clock → (n : ℕ) → 1 ≤ n → n ≤ 232 → NodeKnown heeds past m.state (clock past) n
@@ -219,7 +225,7 @@ module _ (node_is : (heeds : Heeds) (n : ℕ) (past : List Entry) → (attempts_
       where
         by : (event : HostEvent) → IsSubmission event → IsNext m.state event → MayAll m.state (event ∷ []) → AreTold (outs m.state event) told → IsRead m.state event → AllMay past told
         by Submits_abort sub next may are read = abort_may are read
-        by Submits_front sub next may are read = front_may (task_purpose m.state.requests.queue) are may.0.2
+        by Submits_front sub next may are read = front_may (task_purpose m.state.requests.queue) next.0 are may.0.2
         by (Starts n plan more payload) sub next may are read =
             part_may n more payload are read may.0.0 (λ known. start_chosen node_is taken past m.state (clock past) n facts known plan more payload may.0.2.0 may.0.1)
         by (Gives_text n payload) sub next may are read =

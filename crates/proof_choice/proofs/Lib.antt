@@ -12,3 +12,6 @@ mod Choosing
 mod Resting
 mod Along
 mod Readies
+mod InTurn
+mod Whole
+mod Wanting

@@ -61,20 +61,19 @@ use Rattle.proof_attempts.specs.proof_requests.Asking.{doing_of}
 use Rattle.proof_attempts.specs.proof_requests.Walking.{Ground as RequestsGround, IsRead, IsTied, ReadsAs}
 use Rattle.proof_attempts.specs.proof_requests.proof_alone.State.{HostMachine}
 use Rattle.proof_attempts.specs.proof_requests.proof_alone.Steps.{AreTold, Does, IsOfUnit}
-use Rattle.proof_attempts.specs.proof_requests.proof_alone.Phases.{Phase, Resting, Submitting, May}
+use Rattle.proof_attempts.specs.proof_requests.proof_alone.Phases.{Phase, Resting, Submitting, IsNumbered, May}
 use Rattle.proof_attempts.specs.Since.{IsLoose, Lasts}
 use Rattle.proof_waking.proofs.InOrder.{is_asked}
 use Rattle.proof_attempts.proofs.Queued.{PayloadsBring}
 use Rattle.proof_attempts.proofs.Requested.{Unsubmitted}
-use Rattle.proof_attempts.proofs.Stepping.{IsSubmission, event_is_read, submissions}
+use Rattle.proof_attempts.proofs.Stepping.{IsSubmission, event_is_read, submissions, time_told}
 use Rattle.proof_attempts.proofs.Walking.{IsWritten, is_fresh, written_told}
 use Rattle.proof_attempts.proofs.Wrote.{Wrote, writes}
 use Rattle.proof_attempts.proofs.Wrote.Wrote.{Quietly, Again, Anew}
 use Rattle.proof_attempts.proofs.proof_requests_Telling.{IsQuiet}
 use Rattle.proof_queue.specs.Waiting.{want_of_task}
-use Rattle.proof_giving.specs.Tie.{WaitsAsTold}
 use Rattle.proof_choice.specs.Served.{ServedAsTold, served_so_far}
-use Rattle.proof_choice.specs.Waits.{AskingGround}
+use Rattle.proof_choice.specs.Waits.{AskingGround, WaitsAnew}
 use Rattle.proof_choice.proofs.Served.{LeavesServed, served_again, served_in_vain, served_left, served_said, served_sent, served_start, served_waited}
 
 -- ---- the host
@@ -229,7 +228,7 @@ module _ (taken : List Entry → Carried → List Told) where
 
   -- ---- what is submitted
 
-  module _ (past told : List Entry) (m : HostMachine) (ground : RequestsGround Submitting past m) (tie : IsTied past m) (waits : WaitsAsTold heeds past m.state) (known : ServedAsTold heeds Submitting past m.state m.clock) where
+  module _ (past told : List Entry) (m : HostMachine) (ground : RequestsGround Submitting past m) (tie : IsTied past m) (numbered : IsNumbered m told) (waits : WaitsAnew heeds past m) (known : ServedAsTold heeds Submitting past m.state m.clock) where
     abbrev id : ℕ
     id = next_id m.state.requests.last_id
 
@@ -246,14 +245,19 @@ module _ (taken : List Entry → Carried → List Told) where
     fresh : (purpose : Purpose) → IsFree m.state → is_new (asked past) (unit_of purpose) ≡ true
     fresh purpose free = is_fresh past m.clock m.came (doing_of m.state) (frame_of purpose id) free.free_line tie
 
+    wants : (purpose : Purpose) → IsFree m.state → Puts purpose → (queue_before heeds past (entry.Written Host (unit_of purpose))).wants ≡ map want_of_task m.state.requests.queue
+    wants purpose free are =
+        let wrote = written_told (frame_of purpose id) told are in
+        waits (unit_of purpose) (fresh purpose free) (time_told Submitting past told m ground numbered (entry.Written Host (unit_of purpose)) wrote.rest wrote.are)
+
     -- one that has waited; one that sends nothing; and a part of an attempt
-    some_wait : (purpose : Purpose) (queue : List Task) → m.state.requests.queue ≡ queue → (queue ≡ [] → ⊥) → are_none (queue_before heeds past (entry.Written Host (unit_of purpose))).wants ≡ false
-    some_wait purpose [] is some = absurd (some refl)
-    some_wait purpose (task ∷ rest) is some = ap are_none (waits (unit_of purpose) ∙ ap (λ (l : List Task). map want_of_task l) is)
+    some_wait : (purpose : Purpose) → IsFree m.state → Puts purpose → (queue : List Task) → m.state.requests.queue ≡ queue → (queue ≡ [] → ⊥) → are_none (queue_before heeds past (entry.Written Host (unit_of purpose))).wants ≡ false
+    some_wait purpose free are [] is some = absurd (some refl)
+    some_wait purpose free are (task ∷ rest) is some = ap are_none (wants purpose free are ∙ ap (λ (l : List Task). map want_of_task l) is)
 
     sends_waiting : (purpose : Purpose) → IsFree m.state → Puts purpose → (m.state.requests.queue ≡ [] → ⊥) → node_so (past ++ told) ≡ m.state.served
     sends_waiting purpose free are some =
-        up_to purpose are ∙ served_waited taken past (unit_of purpose) (fresh purpose free) (some_wait purpose m.state.requests.queue refl some) ∙ known
+        up_to purpose are ∙ served_waited taken past (unit_of purpose) (fresh purpose free) (some_wait purpose free are m.state.requests.queue refl some) ∙ known
 
     sends_none : IsFree m.state → Puts Abort → ReadsAs m.state Abort → node_so (past ++ told) ≡ m.state.served
     sends_none free are read = up_to Abort are ∙ by (are_none (queue_before heeds past (entry.Written Host (unit_of Abort))).wants) refl ∙ known
@@ -268,7 +272,7 @@ module _ (taken : List Entry → Carried → List Told) where
     sends_part k more payload free none are read =
         let purpose : Purpose = Attempt k more payload in
         up_to purpose are
-        ∙ served_sent taken past (unit_of purpose) (fresh purpose free) (ap are_none (waits (unit_of purpose) ∙ ap (λ (l : List Task). map want_of_task l) none))
+        ∙ served_sent taken past (unit_of purpose) (fresh purpose free) (ap are_none (wants purpose free are ∙ ap (λ (l : List Task). map want_of_task l) none))
         ∙ ap (λ (l : List Request). last_or (node_so past) (map (λ (carried : Carried). carried.node) (flat_map sending_of l))) read
 
     quiet_note : (e : Entry) → LeavesServed e → AreTold (Note e ∷ []) told → node_so (past ++ told) ≡ m.state.served
@@ -302,7 +306,7 @@ module _ (taken : List Entry → Carried → List Told) where
       by (Anew purpose f marks at free are new units now) =
           let goes = subst (λ (p : Phase). May p m (Does event told) next) at may in
           let known : AskingGround heeds Submitting past m = subst (λ (p : Phase). AskingGround heeds p past m) at ground in
-          submits past told m known.0.0 known.0.1 known.1 tie brings event (next_is IsSubmission submissions m.state event goes.0.0) goes.0.0 goes.1 goes.2
+          submits past told m known.0.0 known.0.1 goes.3 known.1 tie brings event (next_is IsSubmission submissions m.state event goes.0.0) goes.0.0 goes.1 goes.2
 
   pub served_lasts : PayloadsBring → Lasts (AskingGround heeds) (ServedAsTold heeds)
   served_lasts brings = record {

@@ -7,3 +7,4 @@ pub mod Nodes
 pub mod Turning
 pub mod Choosing
 pub mod Resting
+pub mod Counting

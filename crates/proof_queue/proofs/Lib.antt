@@ -12,7 +12,7 @@ pub mod Joined
 mod Dropping
 mod Sleeps
 mod Ending
-mod Seeing
+pub mod Seeing
 mod Ties
 mod Pace
 mod Loose
