@@ -14,7 +14,7 @@ pub mod KeptAwake
 pub mod Doings
 mod SeriesTold
 pub mod SeriesGoes
-mod SeriesTie
+pub mod SeriesTie
 mod Payloads
 mod Carried
 pub mod Requested
@@ -56,3 +56,4 @@ pub use Rattle.proof_requests.proofs.EndsDone
 pub use Rattle.proof_requests.proofs.Interviews
 pub use Rattle.proof_requests.proofs.EndsLate
 pub use Rattle.proof_requests.proofs.EndsTold
+pub use Rattle.proof_requests.proofs.InOrder

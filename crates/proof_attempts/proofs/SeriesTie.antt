@@ -254,7 +254,7 @@ not_begun commands opened c (first ∷ more) ended under_way waits =
     let still : outcome_in commands at.last ≡ outcomes.Waiting = ap (outcome_in commands) same ∙ waits in
     subst IsFinal still (other (λ is. subst IsUnderWay still (under_way at.last is)))))
 
-waits_still : (past : List Entry) (h : HostState) (command k n : ℕ) → Facts past h → Contains (node_of h k).waiting command → is_last_command n past command ≡ false
+pub waits_still : (past : List Entry) (h : HostState) (command k n : ℕ) → Facts past h → Contains (node_of h k).waiting command → is_last_command n past command ≡ false
 waits_still past h command k n facts waits =
     let own = facts.in_order k in
     let in_turn = facts.in_order n in

@@ -1,5 +1,5 @@
 -- Where a frame of the chip is acknowledged each node gives a sign as the transcript tells, and nonces that it gives change nothing else.
-use Rattle.std.proofs.Common.{◌≡◌, ℕ, ◌+◌, Bool, true, false, if◌then◌else◌, List, [], ◌∷◌, ◌++◌, sym, ap₂, ◌∙◌, subst, append_assoc}
+use Rattle.std.proofs.Common.{◌≡◌, ℕ, ◌+◌, Bool, true, false, if◌then◌else◌, List, [], ◌∷◌, ◌++◌, refl, sym, ap, ap₂, ◌∙◌, subst, append_assoc}
 use Rattle.std.specs.Prelude.{slice_index}
 use Rattle.std.specs.List.{AllByRecursion, flat_map}
 use Rattle.zw_base.proofs.Each.{all-weaker}
@@ -92,3 +92,33 @@ module _ (taken : List Entry → Carried → List Told) (n : ℕ) (past marks : 
       (sym (attempts_left taken n acked marks (all-weaker IsOfUnit LeavesAttempts mark_leaves marks marked) ∙ attempts_one taken n past (entry.Written Host (ACK ∷ [])) tt))
       (nonces_so (if signs then after_sign s else s) now badly heeds acked (requests heeds past).last [] (with_sign heeds acked [] a)
       (subst (λ (b : Attempts). NodeSo b (if signs then after_sign s else s) now badly) (sym signed_is) (sign_so a s now badly so signs))))
+
+-- whether the last request is of them stays
+either_own : (b : Bool) (x y : Attempts) (o : Bool) → x.own ≡ o → y.own ≡ o → (if b then x else y).own ≡ o
+either_own true x y o one other = one
+either_own false x y o one other = other
+
+one_own : (a : Attempts) (nonce : List ℕ) → (with_nonce a nonce).own ≡ a.own
+one_own a nonce =
+    either_own (is_last_nonce a.seen nonce) (record a { ready = slice_index nonce 0 ∷ [] })
+    (if is_next_nonce a.seen nonce then record a { ready = slice_index nonce 0 ∷ []; seen = a.seen + 1 } else a) a.own refl
+    (either_own (is_next_nonce a.seen nonce) (record a { ready = slice_index nonce 0 ∷ []; seen = a.seen + 1 }) a a.own refl refl)
+
+all_own : (a : Attempts) (nonces : List (List ℕ)) → (with_nonces a nonces).own ≡ a.own
+all_own a [] = refl
+all_own a (nonce ∷ more) =
+    either_own (are_none a.ready) (with_nonces (with_nonce a nonce) more) a a.own (all_own (with_nonce a nonce) more ∙ one_own a nonce) refl
+
+pub acked_own : (taken : List Entry → Carried → List Told) (n : ℕ) (past marks : List Entry) → AllByRecursion IsOfUnit marks
+    → (attempts_so_far (heeds_alone taken) n (past ++ entry.Written Host (ACK ∷ []) ∷ marks)).own ≡ (attempts_so_far (heeds_alone taken) n past).own
+acked_own taken n past marks marked =
+    let heeds : Heeds = heeds_alone taken in
+    let a : Attempts = attempts_so_far heeds n past in
+    let acked : List Entry = past ++ entry.Written Host (ACK ∷ []) ∷ [] in
+    let signed : Attempts = with_sign heeds acked [] a in
+    ap (λ (l : List Entry). (attempts_so_far heeds n l).own) (sym (append_assoc past (entry.Written Host (ACK ∷ []) ∷ []) marks))
+    ∙ ap (λ (b : Attempts). b.own) (attempts_left taken n acked marks (all-weaker IsOfUnit LeavesAttempts mark_leaves marks marked) ∙ attempts_one taken n past (entry.Written Host (ACK ∷ [])) tt)
+    ∙ either_own (waits_for_nonce heeds acked (requests heeds past).last signed) (with_nonces signed (flat_map nonce_told (taken_here heeds signed.node acked []))) signed signed.own
+    (all_own signed (flat_map nonce_told (taken_here heeds signed.node acked []))) refl
+    ∙ either_own (is_late (clock acked) a) (record a { over = true }) (if is_sign heeds a.node a.own acked [] then record a { sign = clock acked ∷ [] } else a) a.own refl
+    (either_own (is_sign heeds a.node a.own acked []) (record a { sign = clock acked ∷ [] }) a a.own refl refl)

@@ -2,12 +2,13 @@
 use Rattle.std.proofs.Common.{◌≡◌, ℕ, ◌+◌, ◌≤◌, ◌<◌, ◌==◌, ◌&&◌, ◌||◌, Bool, true, false, if◌then◌else◌, Option, Some, None, length, List, [], ◌∷◌, ◌++◌, refl, sym, ap, ap₂, ◌∙◌, subst, append_assoc, arith}
 use Rattle.std.specs.Prelude.{is_none, is_some, map, nat_lt}
 use Rattle.std.specs.List.{flat_map, list_any}
-use Rattle.std.proofs.lemmas.Bool.{and_right, eqb-true, ltb-true}
+use Rattle.std.proofs.lemmas.Bool.{and_right, both_ways, eq-eqb, eqb-true, ltb-true, or_left}
 use Rattle.zw_base.proofs.Each.{all-weaker}
 use Rattle.serial_frame.specs.Frame.{FrameParts}
 use Rattle.serial_frame.specs.Items.{unit_text}
 use Rattle.serial_frame.specs.declared.unit.Unit.TheVariants.{Framed}
 use Rattle.chip_functions.specs.declared.request.Request.{Request}
+use Rattle.supervision.specs.Host.{open_session}
 use Rattle.encap.specs.Opening.{begins_with}
 use Rattle.zw_words.specs.declared.side.Side.TheVariants.{Host}
 use Rattle.zw_text.specs.declared.entry.Entry.{Entry}
@@ -29,7 +30,7 @@ use Rattle.host_requests.specs.declared.task.Task.{Task}
 use Rattle.host_requests.specs.declared.under_way.Progress.TheVariants.{Submitted}
 use Rattle.host_requests.specs.declared.under_way.UnderWay.{UnderWay}
 use Rattle.host_node.specs.Facts.{NodeFacts, SeriesFacts}
-use Rattle.host_node.specs.State.{NodeState, has_segment}
+use Rattle.host_node.specs.State.{NodeState, has_segment, is_idle}
 use Rattle.host_node.specs.Steps.{after_segment, after_start, after_text}
 use Rattle.host_node.specs.declared.attempt.Plan.{Plan}
 use Rattle.host_node.specs.declared.attempt.Plan.TheVariants.{Whole, Segments, Sealed}
@@ -39,9 +40,11 @@ use Rattle.host_model.specs.State.{node_of}
 use Rattle.host_model.specs.After.{after, task_purpose}
 use Rattle.host_model.specs.Did.{MayAll}
 use Rattle.host_model.specs.Events.{HostEvent, Submits_abort, Submits_front, Starts, Gives_text, Gives_segment}
-use Rattle.host_model.specs.May.{IsFree}
+use Rattle.host_model.specs.Facts.{HostFacts}
+use Rattle.host_model.specs.May.{IsFree, IsStart}
 use Rattle.host_model.specs.Outs.{outs}
 use Rattle.host_model.specs.Pumping.{IsNext}
+use Rattle.host_model.specs.Sessions.{open_segment}
 use Rattle.host_model.specs.declared.out.HostOut.{HostOut}
 use Rattle.host_model.specs.declared.out.HostOut.TheVariants.{Write}
 use Rattle.proof_queue.specs.proof_attempts.proof_requests.law_host.Heard.{heeds_alone}
@@ -62,7 +65,13 @@ use Rattle.proof_queue.specs.proof_attempts.Attempts.{AreAttempts, has_ended_bad
 use Rattle.proof_queue.specs.Waiting.{want_of_task}
 use Rattle.proof_queue.proofs.Books.{last_is}
 use Rattle.proof_giving.specs.Told.{LeavesAttempts, attempts_so_far}
-use Rattle.proof_giving.specs.Tie.{AttemptsSo, IsNoAbort, IsRequest, NodeSo, SentAs, WaitsAsTold, WantsFit, is_badly_over, is_for}
+use Rattle.proof_giving.specs.Stays.{KeepsSessions, NoSession, NothingBegins, ShowsSessions}
+use Rattle.proof_giving.specs.Tie.{AttemptsSo, IsNoAbort, IsRequest, IsSealing, NodeSo, SentAs, WaitsAsTold, WantsFit, has_text, is_badly_over, is_for}
+use Rattle.proof_giving.proofs.Along.{is_opened, sealing_kept, shown}
+use Rattle.proof_giving.proofs.Carries.{segments_inner, starts_inner, starts_sealing, texts_inner}
+use Rattle.proof_giving.proofs.Fewer.{fewer_kept}
+use Rattle.proof_giving.proofs.Inner.{inner_kept, inner_told}
+use Rattle.proof_giving.proofs.Orders.{event_keeps}
 use Rattle.proof_giving.proofs.Told.{attempts_asked, attempts_left, node_is}
 use Rattle.proof_giving.proofs.Begun.{sealed_goes, segments_go, starts_begin}
 
@@ -232,7 +241,10 @@ module _ (taken : List Entry → Carried → List Told) (past told : List Entry)
   abbrev unit_of : Purpose → List ℕ
   unit_of purpose = unit_text (Framed (frame_of purpose id))
 
-  module _ (n : ℕ) (to : n < length m.state.nodes) (so : AttemptsSo heeds n past m.state m.clock m.clock) where
+  host : HostFacts m.state
+  host = ground.0.0.0.0.0.facts.host
+
+  module _ (n : ℕ) (to : n < length m.state.nodes) (so : AttemptsSo heeds n past m.state m.clock m.clock) (shows : ShowsSessions heeds past m.state n) where
     abbrev now : Attempts
     now = attempts_so_far heeds n past
 
@@ -250,11 +262,16 @@ module _ (taken : List Entry → Carried → List Told) (past told : List Entry)
     no_abort (Housekeeping task) read own = absurd (let bad : false ≡ true = own in cc)
     no_abort Abort read own = absurd (let bad : false ≡ true = own in cc)
 
+    -- it carries what others follow as the host has it, where it is of an attempt of the node
+    abbrev Carries : Purpose → Type 0
+    Carries purpose = (more : Bool) (payload : List ℕ) → purpose ≡ Attempt n more payload → inner_told taken past n (unit_of purpose) ≡ more
+
     -- a request for this purpose is submitted, and the node does this at it
-    submits : (event : HostEvent) (purpose : Purpose) → IsFree m.state → outs m.state event ≡ Write (Framed (frame_of purpose id)) ∷ [] → ReadsAs m.state purpose
+    submits : (event : HostEvent) (purpose : Purpose) → NoSession event → HostFacts (after m.state event) → ShowsSessions heeds (past ++ told) (after m.state event) n → IsFree m.state → outs m.state event ≡ Write (Framed (frame_of purpose id)) ∷ [] → ReadsAs m.state purpose
         → WantsFit purpose (map want_of_task m.state.requests.queue) → (after m.state event).requests.under_way ≡ Some (record { purpose = purpose; progress = Submitted }) → AreTold (outs m.state event) told
+        → Carries purpose → (has_text (node_of (after m.state event) n) ≡ true → IsSealing m.state n)
         → NodeSo (asked_by (is_for n purpose) purpose) (node_of (after m.state event) n) m.clock false → AttemptsSo heeds n (past ++ told) (after m.state event) m.clock m.clock
-    submits event purpose free puts read fits under_way are goes =
+    submits event purpose calm others showing free puts read fits under_way are carries seals goes =
         let f : FrameParts = frame_of purpose id in
         let unit : List ℕ = unit_text (Framed f) in
         let wrote = written_told f told (subst (λ (l : List HostOut). AreTold l told) puts are) in
@@ -279,20 +296,48 @@ module _ (taken : List Entry → Carried → List Told) (past told : List Entry)
         ∙ ap (λ (a : Asked). a.frame) (asked_new past unit (ap (λ (a : Asked). is_new a unit) (sym (last_is taken past)) ∙ fresh)) in
         let none : is_badly_over heeds n (past ++ told) (after m.state event) m.clock ≡ false
         = ap (λ (o : Option UnderWay). is_none o && has_ended_badly heeds (past ++ told) (asked (past ++ told)) m.clock n) under_way in
+        let keeps : KeepsSessions m.state (after m.state event) n = event_keeps m.state event n to calm in
         record {
           node = subst (λ (b : Bool). NodeSo (attempts_so_far heeds n (past ++ told)) (node_of (after m.state event) n) m.clock b) (sym none)
               (subst (λ (a : Attempts). NodeSo a (node_of (after m.state event) n) m.clock false) (sym later) goes);
-          own = λ u is.
+          own = λ runs u is.
               ap (λ (a : Attempts). a.own) later ∙ own_by (is_for n purpose) (is_over_by m.clock badly now) unit now
               ∙ ap (λ (p : Purpose). is_for n p) (sym (same_purpose purpose u (sym under_way ∙ is)));
+          inner = λ runs u more payload is purpose_is.
+              let opened = is_opened (node_of (after m.state event) n) (others.nodes.facts n) (ap is_idle runs) in
+              ap (λ (l : List ℕ). inner_told taken (past ++ told) n l) frame
+              ∙ inner_kept taken past (past ++ told) m.state (after m.state event) n opened.0 (shown taken n past m.state shows) (shown taken n (past ++ told) (after m.state event) showing)
+              host others (record { commands = keeps.commands; opens = keeps.opens }) keeps.orders opened.1 unit
+              ∙ carries more payload (sym (same_purpose purpose u (sym under_way ∙ is)) ∙ purpose_is);
+          seals = λ has. sealing_kept m.state (after m.state event) n keeps others has (seals has);
           sends = λ own. subst IsNoAbort (sym frame) (refl, no_abort purpose read (sym (ap (λ (a : Attempts). a.own) later ∙ own_by (is_for n purpose) (is_over_by m.clock badly now) unit now) ∙ own));
         }
 
     abbrev Goes : HostEvent → Type 0
-    Goes event = AttemptsSo heeds n (past ++ told) (after m.state event) m.clock m.clock
+    Goes event = HostFacts (after m.state event) → ShowsSessions heeds (past ++ told) (after m.state event) n → AttemptsSo heeds n (past ++ told) (after m.state event) m.clock m.clock
 
     facts : NodeFacts s
-    facts = ground.0.0.0.0.0.facts.host.nodes.facts n
+    facts = host.nodes.facts n
+
+    -- no text is there that was not
+    no_more_text : (event : HostEvent) → NothingBegins event → has_text (node_of (after m.state event) n) ≡ true → IsSealing m.state n
+    no_more_text event none has = so.seals ((fewer_kept m.state event n to none).seals has)
+
+    sends_it : (k : ℕ) (more : Bool) (payload : List ℕ) → ReadsAs m.state (Attempt k more payload) → sending_in (unit_of (Attempt k more payload)) ≡ record { node = k; payload = payload } ∷ []
+    sends_it k more payload read = ap (λ (l : List Request). flat_map sending_of l) read
+
+    no_carries : (purpose : Purpose) → is_for n purpose ≡ false → Carries purpose
+    no_carries purpose none more payload is = absurd (both_ways (is_for n purpose) none (ap (λ (p : Purpose). is_for n p) is ∙ eq-eqb n n refl))
+
+    -- of the node of the attempt
+    node_is_it : (k : ℕ) (more other : Bool) (payload text : List ℕ) → Attempt k more payload ≡ Attempt n other text → (k ≡ n) × (more ≡ other)
+    node_is_it k more other payload text is = (let same : k ≡ n = cc in same, let same : more ≡ other = cc in same)
+
+    part_carries : (k : ℕ) (more : Bool) (payload : List ℕ) → ReadsAs m.state (Attempt k more payload)
+        → (k ≡ n → sending_in (unit_of (Attempt k more payload)) ≡ record { node = n; payload = payload } ∷ [] → inner_told taken past n (unit_of (Attempt k more payload)) ≡ more) → Carries (Attempt k more payload)
+    part_carries k more payload read inner other text is =
+        let same = node_is_it k more other payload text is in
+        inner same.0 (sends_it k more payload read ∙ ap (λ (j : ℕ). record { node = j; payload = payload } ∷ []) same.0) ∙ same.1
 
     unchanged : (event : HostEvent) (purpose : Purpose) → did m.state event ≡ [] → NodeSo (asked_by false purpose) (node_of (after m.state event) n) m.clock false
     unchanged event purpose none =
@@ -316,20 +361,39 @@ module _ (taken : List Entry → Carried → List Told) (past told : List Entry)
         → list_any (λ (carried : Carried). goes_on carried.payload) (sending_in (unit_of (Attempt k more payload))) ≡ b
     goes_by k more payload b read is = goes_as (unit_of (Attempt k more payload)) k id more payload read ∙ is
 
+    starts_seal : (k : ℕ) (plan : Plan) (more : Bool) (payload : List ℕ) → IsStart m.state k plan more payload → has_text (if k == n then after_start s plan else s) ≡ true → IsSealing m.state n
+    starts_seal k plan more payload start has = by (k == n) refl plan start has
+      where
+        by : (b : Bool) → (k == n) ≡ b → (plan : Plan) → IsStart m.state k plan more payload → has_text (if b then after_start s plan else s) ≡ true → IsSealing m.state n
+        by false other plan start has = so.seals has
+        by true same Whole start has = so.seals has
+        by true same (Segments count) start has = so.seals has
+        by true same (Sealed text) start has = starts_sealing m.state n text more payload (subst (λ (j : ℕ). IsStart m.state j (Sealed text) more payload) (eqb-true k n same) start)
+
     pub starts_goes : (k : ℕ) (plan : Plan) (more : Bool) (payload : List ℕ) → IsNext m.state (Starts k plan more payload) → MayAll m.state (Starts k plan more payload ∷ [])
         → ReadsAs m.state (Attempt k more payload) → AreTold (outs m.state (Starts k plan more payload)) told → Goes (Starts k plan more payload)
-    starts_goes k plan more payload next may read are =
-        submits (Starts k plan more payload) (Attempt k more payload) next.0 refl read (no_wants may.0.0.no_task) refl are
+    starts_goes k plan more payload next may read are others showing =
+        submits (Starts k plan more payload) (Attempt k more payload) tt others showing next.0 refl read (no_wants may.0.0.no_task) refl are
+        (part_carries k more payload read
+        (λ same carries.
+        starts_inner taken past m.state n (shown taken n past m.state shows) host (unit_of (Attempt k more payload)) plan more payload
+        (subst (λ (j : ℕ). IsStart m.state j plan more payload) same may.0.1) carries))
+        (λ has. starts_seal k plan more payload may.0.1 (subst (λ (t : NodeState). has_text t ≡ true) (node_after m.state (Starts k plan more payload) n to) has))
         (part (Starts k plan more payload) k more payload (after_start s plan) (node_after m.state (Starts k plan more payload) n to)
         (λ same.
         begins_so now s m.clock badly (unit_of (Attempt k more payload)) facts so.node plan
         (subst (λ (j : ℕ). (node_of m.state j).series ≡ Due) (eqb-true k n same) may.0.2.0)
-        (goes_by k more payload false read (starts_begin m.state k plan more payload ground.0.0.0.0.0.facts.host may.0.1))))
+        (goes_by k more payload false read (starts_begin m.state k plan more payload host may.0.1))))
 
     pub text_goes : (k : ℕ) (payload : List ℕ) → IsNext m.state (Gives_text k payload) → MayAll m.state (Gives_text k payload ∷ []) → ReadsAs m.state (Attempt k false payload)
         → AreTold (outs m.state (Gives_text k payload)) told → Goes (Gives_text k payload)
-    text_goes k payload next may read are =
-        submits (Gives_text k payload) (Attempt k false payload) next.0 refl read (no_wants may.0.0.no_task) refl are
+    text_goes k payload next may read are others showing =
+        submits (Gives_text k payload) (Attempt k false payload) tt others showing next.0 refl read (no_wants may.0.0.no_task) refl are
+        (part_carries k false payload read
+        (λ same carries.
+        texts_inner taken past m.state n (shown taken n past m.state shows) host (unit_of (Attempt k false payload))
+        (so.seals (or_left (is_some s.text) (is_some s.pending) (ap (λ (o : Option (List ℕ)). is_some o) (subst (λ (j : ℕ). (node_of m.state j).text ≡ Some payload) same may.0.1))))))
+        (no_more_text (Gives_text k payload) tt)
         (part (Gives_text k payload) k false payload (after_text s) (node_after m.state (Gives_text k payload) n to)
         (λ same.
         let has : s.text ≡ Some payload = subst (λ (j : ℕ). (node_of m.state j).text ≡ Some payload) (eqb-true k n same) may.0.1 in
@@ -339,8 +403,15 @@ module _ (taken : List Entry → Carried → List Told) (past told : List Entry)
 
     pub segment_goes : (k : ℕ) (more : Bool) (payload : List ℕ) → IsNext m.state (Gives_segment k more payload) → MayAll m.state (Gives_segment k more payload ∷ [])
         → ReadsAs m.state (Attempt k more payload) → AreTold (outs m.state (Gives_segment k more payload)) told → Goes (Gives_segment k more payload)
-    segment_goes k more payload next may read are =
-        submits (Gives_segment k more payload) (Attempt k more payload) next.0 refl read (no_wants may.0.0.no_task) refl are
+    segment_goes k more payload next may read are others showing =
+        submits (Gives_segment k more payload) (Attempt k more payload) tt others showing next.0 refl read (no_wants may.0.0.no_task) refl are
+        (part_carries k more payload read
+        (λ same carries.
+        segments_inner taken past m.state n (shown taken n past m.state shows) host (unit_of (Attempt k more payload)) more payload
+        (subst (λ (j : ℕ). has_segment (node_of m.state j) ≡ true) same may.0.4)
+        (subst (λ (j : ℕ). open_segment m.state (node_of m.state j) (open_session (node_of m.state j).book) (node_of m.state j).next_segment ≡ Some payload) same may.0.2)
+        (subst (λ (j : ℕ). more ≡ nat_lt ((node_of m.state j).next_segment + 1) (node_of m.state j).segments) same may.0.3) carries))
+        (no_more_text (Gives_segment k more payload) tt)
         (part (Gives_segment k more payload) k more payload (after_segment s) (node_after m.state (Gives_segment k more payload) n to)
         (λ same.
         let is : k ≡ n = eqb-true k n same in
@@ -352,7 +423,7 @@ module _ (taken : List Entry → Carried → List Told) (past told : List Entry)
         let given = ((so.node.sent runs).segments some).0 in
         let at : 1 ≤ (node_of m.state k).next_segment = subst (λ (j : ℕ). 1 ≤ (node_of m.state j).next_segment) (sym is) (omega (arith, least, given)) in
         segment_so now s m.clock badly (unit_of (Attempt k more payload)) facts so.node runs some
-        (goes_by k more payload true read (segments_go m.state ground.0.0.0.0.0.facts.host (node_of m.state k) _ (node_of m.state k).next_segment payload at may.0.2))))
+        (goes_by k more payload true read (segments_go m.state host (node_of m.state k) _ (node_of m.state k).next_segment payload at may.0.2))))
       where
         some_more : (b c : Bool) → c ≡ true → (b || c) ≡ true
         some_more true c is = refl
@@ -370,16 +441,18 @@ module _ (taken : List Entry → Carried → List Told) (past told : List Entry)
     pub front_goes : IsNext m.state Submits_front → MayAll m.state (Submits_front ∷ []) → ReadsAs m.state (task_purpose m.state.requests.queue)
         → (after m.state Submits_front).requests.under_way ≡ Some (record { purpose = task_purpose m.state.requests.queue; progress = Submitted })
         → AreTold (outs m.state Submits_front) told → Goes Submits_front
-    front_goes next may read under_way are =
-        submits Submits_front (task_purpose m.state.requests.queue) next.0 refl read (front_fits m.state.requests.queue may.0.2) under_way are
+    front_goes next may read under_way are others showing =
+        submits Submits_front (task_purpose m.state.requests.queue) tt others showing next.0 refl read (front_fits m.state.requests.queue may.0.2) under_way are
+        (no_carries (task_purpose m.state.requests.queue) (front_no m.state.requests.queue)) (no_more_text Submits_front tt)
         (subst (λ (b : Bool). NodeSo (asked_by b (task_purpose m.state.requests.queue)) (node_of (after m.state Submits_front) n) m.clock false) (sym (front_no m.state.requests.queue))
         (unchanged Submits_front (task_purpose m.state.requests.queue) refl))
 
     pub abort_goes : IsNext m.state Submits_abort → ReadsAs m.state Abort → AreTold (outs m.state Submits_abort) told → Goes Submits_abort
-    abort_goes next read are = submits Submits_abort Abort next.0 refl read tt refl are (unchanged Submits_abort Abort refl)
+    abort_goes next read are others showing =
+        submits Submits_abort Abort tt others showing next.0 refl read tt refl are (no_carries Abort refl) (no_more_text Submits_abort tt) (unchanged Submits_abort Abort refl)
 
     pub asks_goes : PayloadsBring → (event : HostEvent) → IsRequest event → IsNext m.state event → MayAll m.state (event ∷ []) → AreTold (outs m.state event) told → Goes event
-    asks_goes brings event is next may are = by event is next may are (event_is_read brings m.state event ground.0.0.0.0.0.facts.host may.0 ground.1.0)
+    asks_goes brings event is next may are = by event is next may are (event_is_read brings m.state event host may.0 ground.1.0)
       where
         by : (event : HostEvent) → IsRequest event → IsNext m.state event → MayAll m.state (event ∷ []) → AreTold (outs m.state event) told → IsRead m.state event → Goes event
         by Submits_abort is next may are read = abort_goes next read are

@@ -36,7 +36,7 @@ use Rattle.host_heard.specs.declared.told.Told.{Told}
 abbrev last_place : List ℕ → ℕ
 last_place message = (length message - 1) / 39
 
-abbrev inner_by : Form → ℕ → List ℕ → List ℕ → Bool
+abbrev pub inner_by : Form → ℕ → List ℕ → List ℕ → Bool
 inner_by Cut number message unit =
     not (list_any (λ (carried : Carried). bytes_eq carried.payload (segment_text (number % 16) (length message) (39 * last_place message) (slice_at message (last_place message)))) (sending_in unit))
 inner_by form number message unit = false
@@ -118,6 +118,19 @@ module _ (taken : List Entry → Carried → List Told) where
             = subst (λ (l : List ℕ). AllByRecursion (IsCommandOf h.commands n) l) at.are (recursion_from_All (IsCommandOf h.commands n) (node_of h n).book.commands (facts.owns n).sessions) in
             let one = (all-right (IsCommandOf h.commands n) at.front (at.command ∷ []) all).0 in
             is_so at one.command one.found
+
+  -- of an order that is known
+  pub inner_at : (past : List Entry) (h : HostState) (n : ℕ) → Shows past h n → HostFacts h → (session number : ℕ) (command : Command) → open_session (node_of h n).book ≡ Some session
+      → command_of_session (node_of h n).book.commands session ≡ Some number → command_at h.commands number ≡ Some command → (unit : List ℕ)
+      → inner_told past n unit ≡ inner_by (form_of command.carriage.outer) session (message_for command session) unit
+  inner_at past h n shows facts session number command opened carried found unit =
+      let at = is_open past h n shows facts session opened in
+      let same_session : at.session ≡ session = let a = at.opened in let both : Some at.session ≡ Some session = sym a ∙ opened in cc in
+      let same_number : at.number ≡ number
+      = let a = at.carried in let both : Some at.number ≡ Some number = sym a ∙ ap (λ (k : ℕ). command_of_session (node_of h n).book.commands k) same_session ∙ carried in cc in
+      let same_command : at.command ≡ command
+      = let a = at.found in let both : Some at.command ≡ Some command = sym a ∙ ap (λ (k : ℕ). command_at h.commands k) same_number ∙ found in cc in
+      at.inner unit ∙ ap₂ (λ (c : Command) (k : ℕ). inner_by (form_of c.carriage.outer) k (message_for c k) unit) same_command same_session
 
   -- after an event that begins no session, where one is open
   pub inner_kept : (past later : List Entry) (h g : HostState) (n s : ℕ) → Shows past h n → Shows later g n → HostFacts h → HostFacts g → BookKept (node_of h n).book (node_of g n).book

@@ -3,6 +3,7 @@ use Rattle.std.proofs.Common.{◌≡◌, ℕ, zero, suc, ◌+◌, ◌-◌, ◌<�
 use Rattle.std.specs.Prelude.{nat_lt}
 use Rattle.std.specs.List.{AllByRecursion}
 use Rattle.std.proofs.lemmas.Option.{slice_get_within}
+use Rattle.zw_base.proofs.Each.{all-weaker}
 use Rattle.supervision.specs.Host.{HostBook, open_session, told_of}
 use Rattle.host_requests.specs.declared.end.End.{End}
 use Rattle.host_requests.specs.declared.end.How.{How}
@@ -19,7 +20,7 @@ use Rattle.host_node.specs.declared.attempt.Moment.TheVariants.{BetweenTicks, Be
 use Rattle.host_node.specs.declared.attempt.Plan.TheVariants.{Whole, Segments, Sealed}
 use Rattle.host_node.specs.declared.no_more.NoMore.TheVariants.{Unasked}
 use Rattle.host_node.specs.Events.{NodeEvent, after as after_node}
-use Rattle.host_node.specs.Events.NodeEvent.{Accepts as node_accepts, Begins as node_begins, Ends_attempt, Ends_no_more, Notifies as node_notifies, Reports, Restarts as node_restarts, Sleeps, Starts as node_starts, Succeeds, Ticks}
+use Rattle.host_node.specs.Events.NodeEvent.{Accepts as node_accepts, Begins as node_begins, Ends_attempt, Ends_no_more, Notifies as node_notifies, Reports, Restarts as node_restarts, Sleeps, Starts as node_starts, Succeeds, Takes_nonce as node_takes_nonce, Ticks}
 use Rattle.host_node.specs.State.{NodeState, has_waiting, is_running}
 use Rattle.host_node.specs.Steps.{after_again, after_again_tick, after_attempt_end, after_hold_tick, after_no_more, after_occasion, after_sleep, asleep, next_due, series_over, tried_again, with_again, with_wait, without_attempt}
 use Rattle.host_model.specs.State.{Command, HostState, command_at, node_of}
@@ -31,7 +32,7 @@ use Rattle.serial_link.specs.State.{tick_side}
 use Rattle.proof_host.proofs.Commands.{taken_pushed, taken_set}
 use Rattle.proof_host.specs.Tables.{taken_at}
 use Rattle.proof_queue.proofs.Doings.{Doing, did, does_at, end_does, failing_does, held_does, node_after, part_does, purpose_does, task_does}
-use Rattle.proof_giving.specs.Stays.{KeepsSessions, NoSession}
+use Rattle.proof_giving.specs.Stays.{KeepsSessions, NoSession, NothingBegins}
 use Rattle.proof_queue.proofs.Kept.{BookKept, book_same, occasion_kept, room_keeps, sign_kept, told_kept}
 
 -- ---- nodes
@@ -109,52 +110,74 @@ does_kept n s (d ∷ more) all =
 
 -- ---- a host
 
-part_none : (k : ℕ) (end : PartEnd) (moment : Moment) → AllByRecursion NoneBegins (part_does k end moment)
-part_none k Good moment = (tt, tt)
-part_none k Passed_over moment = tt
-part_none k Bad moment = (tt, tt)
+-- no session begins, nor an attempt, and no text is sealed
+abbrev pub IsSteady : NodeEvent → Type 0
+IsSteady node_begins = ⊥
+IsSteady node_restarts = ⊥
+IsSteady (node_starts plan) = ⊥
+IsSteady (node_takes_nonce seen text) = ⊥
+IsSteady event = Unit {0}
 
-task_none : (task : Task) → AllByRecursion NoneBegins (task_does task)
-task_none (NoMore k) = (tt, tt)
-task_none task = tt
+abbrev pub DoesSteadily : Doing → Type 0
+DoesSteadily d = IsSteady d.event
 
-purpose_none : (purpose : Purpose) (how : How) (moment : Moment) → AllByRecursion NoneBegins (purpose_does purpose how moment)
-purpose_none (Attempt k more payload) how moment = part_none k (part_end more how) moment
-purpose_none (Housekeeping task) how moment = task_none task
-purpose_none Abort how moment = tt
+part_steady : (k : ℕ) (end : PartEnd) (moment : Moment) → AllByRecursion DoesSteadily (part_does k end moment)
+part_steady k Good moment = (tt, tt)
+part_steady k Passed_over moment = tt
+part_steady k Bad moment = (tt, tt)
 
-end_none : (end : Option End) (moment : Moment) → AllByRecursion NoneBegins (end_does end moment)
-end_none None moment = tt
-end_none (Some end) moment = purpose_none end.purpose end.how moment
+task_steady : (task : Task) → AllByRecursion DoesSteadily (task_does task)
+task_steady (NoMore k) = (tt, tt)
+task_steady task = tt
 
-failing_none : (b : Bool) (h : HostState) → AllByRecursion NoneBegins (failing_does b h)
-failing_none true h = end_none (end_at h.requests Fails) BeforeItsTick
-failing_none false h = tt
+purpose_steady : (purpose : Purpose) (how : How) (moment : Moment) → AllByRecursion DoesSteadily (purpose_does purpose how moment)
+purpose_steady (Attempt k more payload) how moment = part_steady k (part_end more how) moment
+purpose_steady (Housekeeping task) how moment = task_steady task
+purpose_steady Abort how moment = tt
 
-held_none : (n : ℕ) (b : Bool) → AllByRecursion NoneBegins (held_does n b)
-held_none n true = (tt, tt)
-held_none n false = tt
+end_steady : (end : Option End) (moment : Moment) → AllByRecursion DoesSteadily (end_does end moment)
+end_steady None moment = tt
+end_steady (Some end) moment = purpose_steady end.purpose end.how moment
+
+failing_steady : (b : Bool) (h : HostState) → AllByRecursion DoesSteadily (failing_does b h)
+failing_steady true h = end_steady (end_at h.requests Fails) BeforeItsTick
+failing_steady false h = tt
+
+held_steady : (n : ℕ) (b : Bool) → AllByRecursion DoesSteadily (held_does n b)
+held_steady n true = (tt, tt)
+held_steady n false = tt
+
+pub did_steady : (h : HostState) (event : HostEvent) → NothingBegins event → AllByRecursion DoesSteadily (did h event)
+did_steady h (Accepts order carriage) none = (tt, (tt, tt))
+did_steady h (Cancels command) none = (tt, tt)
+did_steady h (Joins n) none = (tt, tt)
+did_steady h (Requests_do event moment) none = end_steady (end_at h.requests event) moment
+did_steady h (Interviews n listens classes update) none = (tt, tt)
+did_steady h (Works n id) none = (tt, tt)
+did_steady h (Finishes n session id command status wake_request) none = (tt, held_steady n (is_held h n wake_request))
+did_steady h (Takes_nonce n seen text) none = absurd none
+did_steady h (Notifies n) none = (tt, tt)
+did_steady h Line_ticks none = failing_steady (gives_up h.side.turn (tick_side h.side).turn) h
+did_steady h (Node_ticks n) none = (tt, tt)
+did_steady h (Queues_no_more n) none = (tt, tt)
+did_steady h (Drops_no_more n) none = (tt, tt)
+did_steady h (Starts n plan more payload) none = absurd none
+did_steady h (Gives_text n payload) none = (tt, tt)
+did_steady h (Gives_segment n more payload) none = (tt, tt)
+did_steady h (Begins n session command) none = absurd none
+did_steady h (Begin_unkept n) none = (tt, tt)
+did_steady h event none = tt
+
+steady_not_begun : (event : NodeEvent) → IsSteady event → NotBegun event
+steady_not_begun node_begins steady = absurd steady
+steady_not_begun node_restarts steady = absurd steady
+steady_not_begun event steady = tt
 
 did_none : (h : HostState) (event : HostEvent) → NoSession event → AllByRecursion NoneBegins (did h event)
-did_none h (Accepts order carriage) none = (tt, (tt, tt))
-did_none h (Cancels command) none = (tt, tt)
-did_none h (Joins n) none = (tt, tt)
-did_none h (Requests_do event moment) none = end_none (end_at h.requests event) moment
-did_none h (Interviews n listens classes update) none = (tt, tt)
-did_none h (Works n id) none = (tt, tt)
-did_none h (Finishes n session id command status wake_request) none = (tt, held_none n (is_held h n wake_request))
-did_none h (Takes_nonce n seen text) none = (tt, tt)
-did_none h (Notifies n) none = (tt, tt)
-did_none h Line_ticks none = failing_none (gives_up h.side.turn (tick_side h.side).turn) h
-did_none h (Node_ticks n) none = (tt, tt)
-did_none h (Queues_no_more n) none = (tt, tt)
-did_none h (Drops_no_more n) none = (tt, tt)
-did_none h (Starts n plan more payload) none = (tt, tt)
-did_none h (Gives_text n payload) none = (tt, tt)
-did_none h (Gives_segment n more payload) none = (tt, tt)
 did_none h (Begins n session command) none = absurd none
-did_none h (Begin_unkept n) none = (tt, tt)
-did_none h event none = tt
+did_none h (Starts n plan more payload) none = (tt, tt)
+did_none h (Takes_nonce n seen text) none = (tt, tt)
+did_none h event none = all-weaker DoesSteadily NoneBegins (λ d steady. steady_not_begun d.event steady) (did h event) (did_steady h event tt)
 
 pub books_kept : (h : HostState) (event : HostEvent) (n : ℕ) → n < length h.nodes → NoSession event → BookKept (node_of h n).book (node_of (after h event) n).book
 books_kept h event n within none =

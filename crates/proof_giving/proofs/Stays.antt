@@ -1,5 +1,5 @@
 -- Once the last request has ended by its transcript, whether it has badly stays so, by each entry that goes on with it and later.
-use Rattle.std.proofs.Common.{◌≡◌, ℕ, ◌+◌, ◌≤◌, Bool, true, false, inl, inr, length, List, [], ◌∷◌, ◌++◌, None, refl, sym, ap, ◌∙◌, subst, append_assoc, length-append, arith}
+use Rattle.std.proofs.Common.{◌≡◌, ℕ, ◌+◌, ◌≤◌, ◌&&◌, if◌then◌else◌, Bool, true, false, inl, inr, length, List, [], ◌∷◌, ◌++◌, None, refl, sym, ap, ◌∙◌, subst, append_assoc, length-append, arith}
 use Rattle.std.specs.List.{AllByRecursion}
 use Rattle.zw_base.proofs.Each.{all-weaker}
 use Rattle.serial_frame.specs.Frame.{FrameParts}
@@ -17,15 +17,16 @@ use Rattle.law_time.specs.Attempts.{ends_badly}
 use Rattle.law_time.specs.Ends.{is_abort_frame}
 use Rattle.law_time.specs.Judged.{acknowledged, frames_come, is_data, judged, last_of}
 use Rattle.law_time.specs.Moments.{clock}
-use Rattle.law_time.specs.Requests.{Answer, Asked, Judging, asked, is_answer}
+use Rattle.law_time.specs.Requests.{Answer, Asked, Judging, asked, is_answer, up_to_first}
 use Rattle.proof_queue.specs.proof_attempts.proof_requests.Asking.{Doing, TieAsked, TieUnderWay, WasAsked}
 use Rattle.proof_queue.specs.proof_attempts.proof_requests.Standing.{IsAside, Standing, standing_of, with_answer, with_entries, with_judging}
-use Rattle.proof_queue.specs.proof_attempts.proof_requests.proof_alone.Steps.{IsOfUnit}
+use Rattle.proof_queue.specs.proof_attempts.proof_requests.proof_alone.Steps.{ChangesFrame, DidNotCome, IsOfUnit}
 use Rattle.proof_queue.specs.proof_attempts.proof_requests.proof_waking.Judged.{TieFrames, frames_of}
 use Rattle.proof_queue.proofs.proof_requests_Growing.{asked_in_vain, asked_on, asked_said}
-use Rattle.proof_queue.proofs.proof_requests_Standing.{stands_answered, stands_aside, stands_judged}
+use Rattle.proof_queue.proofs.proof_requests_Standing.{come_at, stands_answered, stands_aside, stands_judged, stands_lost}
 use Rattle.proof_queue.proofs.proof_requests_Telling.{IsQuiet, mark_quiet, quiet_asides, quiet_on}
 use Rattle.proof_queue.proofs.proof_waking_Apart.{acknowledged_frames}
+use Rattle.proof_giving.specs.Told.{LeavesAttempts}
 use Rattle.proof_giving.specs.Tie.{IsOver}
 use Rattle.proof_giving.proofs.Badly.{badly_answered, badly_in, badly_judged, badly_later}
 
@@ -51,6 +52,41 @@ judged_stands past f rest marks marked was frames =
     ∙ ap standing_of on
     ∙ stands_judged (asked past) (unit_text (Framed f)) was.framed (ap (λ (l : List Entry). last_of (judged (l ++ entry.Written Host (ACK ∷ []) ∷ []))) was.whole ∙ last)
     ∙ ap (λ (l : List Entry). with_judging (standing_of (asked past)) (record { unit = unit_text (Framed f); tick = clock l; place = acknowledged l + 1 })) was.whole
+
+-- a unit of the chip that was lost, or changed, is nothing to it
+pub record IsMissed (past : List Entry) (text : List ℕ) (marks : List Entry) : Type 0 where
+  pub on : asked (past ++ entry.Written Chip text ∷ marks) ≡ with_entries (asked past) (entry.Written Chip text ∷ marks)
+  pub leaves : AllByRecursion LeavesAttempts marks
+  pub stands : is_data (asked past).frame ≡ true → standing_of (with_entries (asked past) (entry.Written Chip text ∷ marks)) ≡ standing_of (asked past)
+
+never_answers : (answers : Bool) (answer : Answer) → ((if answers && false then answer ∷ [] else []) ++ []) ≡ []
+never_answers true answer = refl
+never_answers false answer = refl
+
+pub missed_lost : (past : List Entry) (text : List ℕ) (marks : List Entry) → DidNotCome marks → ChangesFrame text marks → IsMissed past text marks
+missed_lost past text (entry.Dropped Chip ∷ []) did changes = record {
+  on = asked_on past (entry.Written Chip text ∷ (entry.Dropped Chip ∷ [])) refl (tt, (tt, tt));
+  leaves = (tt, tt);
+  stands = λ framed. stands_lost (asked past) (entry.Written Chip text ∷ (entry.Dropped Chip ∷ [])) framed (tt, (tt, tt)) refl (never_answers (is_answer text) (come_at (up_to_first (asked past) ++ (asked past).following) text)) refl;
+}
+missed_lost past text (entry.Overrun Chip ∷ []) did changes = record {
+  on = asked_on past (entry.Written Chip text ∷ (entry.Overrun Chip ∷ [])) refl (tt, (tt, tt));
+  leaves = (tt, tt);
+  stands = λ framed. stands_lost (asked past) (entry.Written Chip text ∷ (entry.Overrun Chip ∷ [])) framed (tt, (tt, tt)) refl (never_answers (is_answer text) (come_at (up_to_first (asked past) ++ (asked past).following) text)) refl;
+}
+missed_lost past text (entry.Garbled Chip unit ∷ []) did changes = record {
+  on = asked_on past (entry.Written Chip text ∷ (entry.Garbled Chip unit ∷ [])) refl (tt, (tt, tt));
+  leaves = (tt, tt);
+  stands = λ framed. stands_aside (asked past) (entry.Written Chip text ∷ (entry.Garbled Chip unit ∷ [])) framed (changes.0, (tt, tt));
+}
+missed_lost past text (entry.Garbled Chip unit ∷ entry.Overrun Chip ∷ []) did changes = record {
+  on = asked_on past (entry.Written Chip text ∷ (entry.Garbled Chip unit ∷ (entry.Overrun Chip ∷ []))) refl (tt, (tt, (tt, tt)));
+  leaves = (tt, (tt, tt));
+  stands = λ framed.
+      stands_lost (asked past) (entry.Written Chip text ∷ (entry.Garbled Chip unit ∷ (entry.Overrun Chip ∷ []))) framed (tt, (tt, (tt, tt))) refl
+      (ap (λ (b : Bool). (if b && true then come_at (up_to_first (asked past) ++ (asked past).following) text ∷ [] else []) ++ []) changes.0) refl;
+}
+missed_lost past text marks did changes = absurd did
 
 module _ (inner : Bool) (past : List Entry) (now : ℕ) where
   abbrev Stays : List Entry → Type 0

@@ -1,3 +1,4 @@
 pub mod Told
 pub mod Tie
 pub mod Stays
+pub mod Walking

@@ -1,27 +1,32 @@
 -- The attempts of the series of a node, in a host alone and by its transcript (this project's own rule): as the transcript counts them while the request of the host is under way, and by
--- how that ended once it has; whether that request is of them; and how many parts of the running one were sent, and
--- that a text that it has still to send is sealed.
-use Rattle.std.specs.Prelude.{◌≡◌, ℕ, ◌+◌, ◌≤◌, ◌==◌, ◌&&◌, is_none, map, not, nat_lt, Bool, true, false, if◌then◌else◌, Option, Some, None, List, []}
+-- how that ended once it has; whether that request is of them, and carries what others follow; how many parts of the running one were sent; and
+-- that a text that it has still to send is sealed, of a session that is carried so. A sign that is still to be given in the host is told already.
+use Rattle.std.specs.Prelude.{◌≡◌, ℕ, ◌+◌, ◌≤◌, ◌==◌, ◌&&◌, ◌||◌, is_none, is_some, map, not, nat_lt, Bool, true, false, if◌then◌else◌, Option, Some, None, List, []}
 use Rattle.std.specs.List.{list_any}
+use Rattle.supervision.specs.Host.{command_at as command_of_session, open_session}
 use Rattle.encap.specs.Opening.{begins_with}
+use Rattle.host_orders.specs.Wrapping.{form_of}
+use Rattle.host_orders.specs.declared.carriage.Form.TheVariants.{Sealed}
 use Rattle.zw_words.specs.declared.side.Side.TheVariants.{Host}
 use Rattle.zw_text.specs.declared.entry.Entry.{Entry}
 use Rattle.zw_text.specs.declared.entry.Entry.TheVariants.{Out, Written}
-use Rattle.law_time.specs.Attempts.{Attempts, anew}
+use Rattle.law_time.specs.Attempts.{Attempts, anew, is_of_inner}
 use Rattle.law_time.specs.Ends.{is_abort_frame}
 use Rattle.law_time.specs.Heeds.{Heeds}
 use Rattle.law_time.specs.Judged.{acknowledged, is_data, last_of}
 use Rattle.law_time.specs.Queue.{queue_before}
 use Rattle.law_time.specs.Requests.{are_none, asked}
+use Rattle.law_time.specs.Sessions.{last_command}
 use Rattle.host_requests.specs.declared.end.End.{End}
 use Rattle.host_requests.specs.declared.end.How.{How}
 use Rattle.host_requests.specs.declared.task.Purpose.{Purpose}
 use Rattle.host_requests.specs.declared.task.Purpose.TheVariants.{Attempt, Housekeeping, Abort}
 use Rattle.host_requests.specs.declared.under_way.UnderWay.{UnderWay}
 use Rattle.host_node.specs.State.{NodeState, is_running}
+use Rattle.host_node.specs.Steps.{after_sign}
 use Rattle.host_node.specs.declared.series.Series.TheVariants.{Running}
 use Rattle.host_model.specs.Ends.{PartEnd, Good, Passed_over, Bad, part_end}
-use Rattle.host_model.specs.State.{HostState, node_of}
+use Rattle.host_model.specs.State.{Command, HostState, command_at, node_of}
 use Rattle.host_model.specs.Events.{HostEvent, Submits_abort, Submits_front, Starts, Gives_text, Gives_segment}
 use Rattle.proof_queue.specs.proof_attempts.Attempts.{AreAttempts, has_ended_badly}
 use Rattle.proof_queue.specs.proof_attempts.proof_requests.Asking.{Doing, HasEnded, WasAsked}
@@ -110,11 +115,39 @@ pub record NodeSo (told : Attempts) (node : NodeState) (time : ℕ) (badly : Boo
 abbrev pub IsNoAbort : List ℕ → Type 0
 IsNoAbort frame = (is_data frame ≡ true) × (is_abort_frame frame ≡ false)
 
+-- a node with a sign that it is still to be given, or as it is
+abbrev pub signed : Bool → NodeState → NodeState
+signed b node = if b then after_sign node else node
+
+-- a sealed text, or one that waits to be sealed
+abbrev pub has_text : NodeState → Bool
+has_text node = is_some node.text || is_some node.pending
+
+-- the command of the open session of a node is carried sealed
+pub record IsSealing (h : HostState) (n : ℕ) : Type 0 where
+  pub session : ℕ
+  pub opened : open_session (node_of h n).book ≡ Some session
+  pub number : ℕ
+  pub carried : command_of_session (node_of h n).book.commands session ≡ Some number
+  pub command : Command
+  pub found : command_at h.commands number ≡ Some command
+  pub form : form_of command.carriage.outer ≡ Sealed
+
+-- whether the frame of the last request carries a segment of the open session of a node that others follow
+abbrev pub is_inner_now : Heeds → List Entry → ℕ → Bool
+is_inner_now heeds past n = list_any (is_of_inner heeds past n (asked past).frame) (last_command n past)
+
 -- a node, looked at at its own time, and the request at that of the host
-pub record AttemptsSo (heeds : Heeds) (n : ℕ) (past : List Entry) (h : HostState) (time now : ℕ) : Type 0 where
-  pub node : NodeSo (attempts_so_far heeds n past) (node_of h n) time (is_badly_over heeds n past h now)
-  pub own : (u : UnderWay) → h.requests.under_way ≡ Some u → (attempts_so_far heeds n past).own ≡ is_for n u.purpose
+pub record AttemptsAs (signs : Bool) (heeds : Heeds) (n : ℕ) (past : List Entry) (h : HostState) (time now : ℕ) : Type 0 where
+  pub node : NodeSo (attempts_so_far heeds n past) (signed signs (node_of h n)) time (is_badly_over heeds n past h now)
+  pub own : (node_of h n).series ≡ Running → (u : UnderWay) → h.requests.under_way ≡ Some u → (attempts_so_far heeds n past).own ≡ is_for n u.purpose
+  pub inner : (node_of h n).series ≡ Running → (u : UnderWay) (more : Bool) (payload : List ℕ) → h.requests.under_way ≡ Some u → u.purpose ≡ Attempt n more payload → is_inner_now heeds past n ≡ more
   pub sends : (attempts_so_far heeds n past).own ≡ true → IsNoAbort (asked past).frame
+  pub seals : has_text (node_of h n) ≡ true → IsSealing h n
+
+-- with no sign to come
+abbrev pub AttemptsSo : Heeds → ℕ → List Entry → HostState → ℕ → ℕ → Type 0
+AttemptsSo heeds n past h time now = AttemptsAs false heeds n past h time now
 
 -- what waits by the transcript at a request is what waits in the host
 abbrev pub WaitsAsTold : Heeds → List Entry → HostState → Type 0

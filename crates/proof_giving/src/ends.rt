@@ -40,7 +40,7 @@ ghost use Rattle.host_model.specs.Facts.{HostFacts};
 ghost use Rattle.proof_queue.specs.proof_attempts.proof_requests.law_host.Heard.{heeds_alone};
 ghost use Rattle.proof_giving.specs.Told.{attempts_so_far};
 ghost use Rattle.proof_giving.specs.Stays.{KeepsSessions, NoSession, ShowsSessions, Stays};
-ghost use Rattle.proof_giving.specs.Tie.{AttemptsSo, IsOver, NodeSo, is_bad_part};
+ghost use Rattle.proof_giving.specs.Tie.{AttemptsAs, IsOver, NodeSo, is_bad_part, signed};
 
 /// A request that is no longer under way, and was asked, has ended. Whether it has badly stays so: by entries that its rules do not look at, the words of a
 /// line, also in vain; and later, after an answer of the chip, and after a frame that is acknowledged.
@@ -88,11 +88,11 @@ pub fn attempts_stay_with_the_request()
         list_any (is_of_inner (heeds_alone taken) later n unit) (last_command n later)
         ≡ list_any (is_of_inner (heeds_alone taken) past n unit) (last_command n past) }
     ensures goes_on { (taken : List Entry → Carried → List Told) (n : ℕ) (past later : List Entry) (h g : HostState) (now : ℕ) →
-        Stays (heeds_alone taken) n past later h g now → (time : ℕ) →
-        attempts_so_far (heeds_alone taken) n later ≡ attempts_so_far (heeds_alone taken) n past → AttemptsSo (heeds_alone taken) n past h time now →
-        ((badly : Bool) → NodeSo (attempts_so_far (heeds_alone taken) n past) (node_of h n) time badly →
-        NodeSo (attempts_so_far (heeds_alone taken) n past) (node_of g n) time badly) →
-        AttemptsSo (heeds_alone taken) n later g time now }
+        Stays (heeds_alone taken) n past later h g now → (signs : Bool) (time : ℕ) →
+        attempts_so_far (heeds_alone taken) n later ≡ attempts_so_far (heeds_alone taken) n past → AttemptsAs signs (heeds_alone taken) n past h time now →
+        ((badly : Bool) → NodeSo (attempts_so_far (heeds_alone taken) n past) (signed signs (node_of h n)) time badly →
+        NodeSo (attempts_so_far (heeds_alone taken) n past) (signed signs (node_of g n)) time badly) →
+        AttemptsAs signs (heeds_alone taken) n later g time now }
 {}
 
 /// A frame that carries the segment at a place of a session's message is told to be followed by others just where that is not the last place.

@@ -27,33 +27,33 @@ ghost use Rattle.proof_queue.specs.proof_attempts.proof_requests.law_host.Heard.
 ghost use Rattle.proof_queue.specs.proof_attempts.proof_requests.proof_waking.Judged.{TieFrames};
 ghost use Rattle.proof_giving.specs.Told.{LeavesAttempts, attempts_so_far};
 ghost use Rattle.proof_giving.specs.Stays.{ShowsSessions};
-ghost use Rattle.proof_giving.specs.Tie.{AttemptsSo, IsOver, NodeSo};
+ghost use Rattle.proof_giving.specs.Tie.{AttemptsAs, AttemptsSo, IsOver, NodeSo};
 
 /// Each node stays tied to its attempts by entries that tell of none of them and go on with the last request, by the words of a line, also in vain, and by an
 /// answer of the chip once that request has ended; later, where it has ended as before, and of a node without a wait also at its own next tick.
 pub fn attempts_stay_by_entries()
-    ensures aside { (taken : List Entry → Carried → List Told) (n : ℕ) (past : List Entry) (h : HostState) (time now : ℕ) →
-        AttemptsSo (heeds_alone taken) n past h time now → HostFacts h → ShowsSessions (heeds_alone taken) past h n → (told : List Entry) →
+    ensures aside { (taken : List Entry → Carried → List Told) (n : ℕ) (signs : Bool) (past : List Entry) (h : HostState) (time now : ℕ) →
+        AttemptsAs signs (heeds_alone taken) n past h time now → HostFacts h → ShowsSessions (heeds_alone taken) past h n → (told : List Entry) →
         asked (past ++ told) ≡ with_entries (asked past) told → AllByRecursion IsAside told → AllByRecursion LeavesAttempts told →
-        ShowsSessions (heeds_alone taken) (past ++ told) h n → AttemptsSo (heeds_alone taken) n (past ++ told) h time now }
-    ensures said { (taken : List Entry → Carried → List Told) (n : ℕ) (past : List Entry) (h : HostState) (time now : ℕ) →
-        AttemptsSo (heeds_alone taken) n past h time now → HostFacts h → ShowsSessions (heeds_alone taken) past h n → (words : List ℕ) →
+        ShowsSessions (heeds_alone taken) (past ++ told) h n → AttemptsAs signs (heeds_alone taken) n (past ++ told) h time now }
+    ensures said { (taken : List Entry → Carried → List Told) (n : ℕ) (signs : Bool) (past : List Entry) (h : HostState) (time now : ℕ) →
+        AttemptsAs signs (heeds_alone taken) n past h time now → HostFacts h → ShowsSessions (heeds_alone taken) past h n → (words : List ℕ) →
         is_restart (line_of (Said words)) ≡ false → ShowsSessions (heeds_alone taken) (past ++ Said words ∷ []) h n →
-        AttemptsSo (heeds_alone taken) n (past ++ Said words ∷ []) h time now }
-    ensures in_vain { (taken : List Entry → Carried → List Told) (n : ℕ) (past : List Entry) (h : HostState) (time now : ℕ) →
-        AttemptsSo (heeds_alone taken) n past h time now → HostFacts h → ShowsSessions (heeds_alone taken) past h n → (words : List ℕ) (refusal : Refusal) →
+        AttemptsAs signs (heeds_alone taken) n (past ++ Said words ∷ []) h time now }
+    ensures in_vain { (taken : List Entry → Carried → List Told) (n : ℕ) (signs : Bool) (past : List Entry) (h : HostState) (time now : ℕ) →
+        AttemptsAs signs (heeds_alone taken) n past h time now → HostFacts h → ShowsSessions (heeds_alone taken) past h n → (words : List ℕ) (refusal : Refusal) →
         ShowsSessions (heeds_alone taken) (past ++ Said words ∷ (Refused refusal ∷ [])) h n →
-        AttemptsSo (heeds_alone taken) n (past ++ Said words ∷ (Refused refusal ∷ [])) h time now }
-    ensures answered { (taken : List Entry → Carried → List Told) (n : ℕ) (past : List Entry) (h : HostState) (time now : ℕ) →
-        AttemptsSo (heeds_alone taken) n past h time now → HostFacts h → ShowsSessions (heeds_alone taken) past h n →
+        AttemptsAs signs (heeds_alone taken) n (past ++ Said words ∷ (Refused refusal ∷ [])) h time now }
+    ensures answered { (taken : List Entry → Carried → List Told) (n : ℕ) (signs : Bool) (past : List Entry) (h : HostState) (time now : ℕ) →
+        AttemptsAs signs (heeds_alone taken) n past h time now → HostFacts h → ShowsSessions (heeds_alone taken) past h n →
         (d : Doing) (unit : List ℕ) (came : List LineUnit) →
         (h.requests.under_way ≡ None → (attempts_so_far (heeds_alone taken) n past).own ≡ true → IsOver past now d) → is_answer unit ≡ true →
         clock past ≡ now → TieFrames past came → ShowsSessions (heeds_alone taken) (past ++ Written Chip unit ∷ []) h n →
-        AttemptsSo (heeds_alone taken) n (past ++ Written Chip unit ∷ []) h time now }
-    ensures later { (taken : List Entry → Carried → List Told) (n : ℕ) (past : List Entry) (h : HostState) (time now : ℕ) →
-        AttemptsSo (heeds_alone taken) n past h time now → (later : ℕ) →
+        AttemptsAs signs (heeds_alone taken) n (past ++ Written Chip unit ∷ []) h time now }
+    ensures later { (taken : List Entry → Carried → List Told) (n : ℕ) (signs : Bool) (past : List Entry) (h : HostState) (time now : ℕ) →
+        AttemptsAs signs (heeds_alone taken) n past h time now → (later : ℕ) →
         ((attempts_so_far (heeds_alone taken) n past).own ≡ true → h.requests.under_way ≡ None →
-        (inner : Bool) → ends_badly (asked past) inner later ≡ ends_badly (asked past) inner now) → AttemptsSo (heeds_alone taken) n past h time later }
+        (inner : Bool) → ends_badly (asked past) inner later ≡ ends_badly (asked past) inner now) → AttemptsAs signs (heeds_alone taken) n past h time later }
     ensures no_wait { (told : Attempts) (s : NodeState) (time : ℕ) (badly : Bool) → s.attempt_wait ≡ 0 → NodeSo told s time badly →
         NodeSo told s (time + 1) badly }
 {}

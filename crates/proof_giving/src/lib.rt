@@ -6,14 +6,16 @@
 //! Each event of a node keeps the tie (`nodes_go_with_attempts`). So does each step that is told here: a request that is submitted is of an attempt of
 //! the node that is served, and of no other (`attempts_go_with_requests`); it ends badly by the transcript just where its end is bad for the attempt in
 //! the host (`attempts_end_badly_as_told`), which stays so (`bad_ends_stay`, `attempts_stay_with_the_request`, `segments_tell_what_follows`); its end,
-//! and a tick of a node, end attempts (`attempts_end_with_requests`, `attempts_end_in_silence`); a frame that is acknowledged gives signs
+//! and a tick of a node, end attempts (`attempts_end_with_requests`, `attempts_end_as_told`); a frame that is acknowledged gives signs
 //! (`attempts_go_with_frames`); other entries and time leave them (`attempts_stay_by_entries`), and a session that begins, or a host that starts, begins
 //! them anew (`attempts_begin_with_sessions`). Where the host rests no command is to be given up (`attempts_leave_none_to_give_up`). It is not put along
 //! runs yet.
 //! The definitions are in `specs/`: `Told` (the attempts of one node), `Tie`, and `Stays` (sessions and orders that stay). `proofs/Told` and `Over` have
 //! how they grow, `Begun` which payloads go on with an attempt, `Asking` requests that are submitted, `Badly` whether one has ended badly by how it
-//! stands, `Stays` that it stays so, `EndsSo` and `Unframed` its end, `NodesGo` and `HostGoes` what nodes do, `Segments`, `Orders` and `Inner` that a
-//! segment is told to be followed by others as before, `Along`, `Acked` and `Quiet` the other steps, and `AtRest` what follows at rest.
+//! stands, `Stays` that it stays so, `EndsSo` and `Finished` its end, `NodesGo` and `HostGoes` what nodes do, `Segments`, `Orders` and `Inner` that a
+//! segment is told to be followed by others as before, `Along`, `Acked` and `Quiet` the other steps, and `AtRest` what follows at rest. Of a host alone,
+//! at each phase of a run (`specs/Walking`): `Framed` has an item that is judged, `Requesting` the request that hears of it, `Ticked` each part of a
+//! tick, `Interviewed`, `Staying` and `Mild` the other events, and `Asked` what a line asks.
 #![tactic(auto)]
 
 mod attempts;
@@ -31,7 +33,7 @@ pub use ends::{
 pub use entries::{attempts_begin_with_sessions, attempts_stay_by_entries};
 pub use nodes::nodes_go_with_attempts;
 pub use requests::{
-    attempts_end_in_silence, attempts_end_with_requests, attempts_go_with_frames,
+    attempts_end_as_told, attempts_end_with_requests, attempts_go_with_frames,
     attempts_go_with_requests,
 };
 pub use rest::attempts_leave_none_to_give_up;

@@ -15,7 +15,8 @@ ghost use Rattle.host_node.specs.State.{NodeState};
 ghost use Rattle.law_time.specs.Ends.{is_abort_frame};
 ghost use Rattle.law_time.specs.Requests.{asked};
 ghost use Rattle.law_time.specs.Sessions.{is_last_command};
-ghost use Rattle.host_requests.specs.declared.end.End.{End};
+ghost use Rattle.host_requests.specs.declared.end.How.{How};
+ghost use Rattle.host_requests.specs.declared.task.Purpose.TheVariants.{Attempt};
 ghost use Rattle.host_requests.specs.declared.under_way.UnderWay.{UnderWay};
 ghost use Rattle.proof_queue.specs.proof_attempts.proof_requests.Asking.{Doing};
 ghost use Rattle.proof_queue.specs.proof_attempts.proof_requests.Standing.{first_ending, standing_of};
@@ -26,11 +27,11 @@ ghost use Rattle.host_node.specs.declared.attempt.Moment.{Moment};
 ghost use Rattle.host_node.specs.declared.series.Series.TheVariants.{Running};
 ghost use Rattle.host_model.specs.State.{HostState, node_of};
 ghost use Rattle.host_model.specs.Sessions.{open_command};
-ghost use Rattle.host_model.specs.Ends.{Bad, attempt_entries, part_end};
+ghost use Rattle.host_model.specs.Ends.{attempt_entries, part_end};
 ghost use Rattle.host_model.specs.Facts.{HostFacts};
 ghost use Rattle.host_model.specs.Outs.{request_entries};
 ghost use Rattle.host_model.specs.Events.{HostEvent, Node_ticks, Requests_do};
-ghost use Rattle.proof_queue.specs.proof_attempts.Attempts.{is_over_by};
+ghost use Rattle.proof_queue.specs.proof_attempts.Attempts.{has_ended_badly, is_over_by};
 ghost use Rattle.host_model.specs.After.{after};
 ghost use Rattle.proof_queue.specs.proof_attempts.proof_requests.law_host.Heard.{heeds_alone};
 ghost use Rattle.proof_queue.specs.proof_attempts.proof_requests.proof_alone.State.{HostMachine};
@@ -38,7 +39,9 @@ ghost use Rattle.proof_queue.specs.proof_attempts.proof_requests.proof_alone.Ste
 ghost use Rattle.proof_queue.specs.proof_attempts.proof_requests.proof_alone.Phases.{May, Submitting};
 ghost use Rattle.proof_queue.specs.proof_attempts.proof_requests.proof_alone.Runs.{both_know};
 ghost use Rattle.proof_queue.specs.proof_attempts.proof_requests.Walking.{Ground, KnowsAsked};
+ghost use Rattle.proof_giving.specs.Stays.{ShowsSessions};
 ghost use Rattle.proof_giving.specs.Tie.{
+  AttemptsAs,
   AttemptsSo,
   IsOver,
   IsRequest,
@@ -46,6 +49,7 @@ ghost use Rattle.proof_giving.specs.Tie.{
   WaitsAsTold,
   anew_step,
   is_bad_for,
+  is_bad_part,
   is_good_for,
   is_last_of,
 };
@@ -53,11 +57,14 @@ ghost use Rattle.proof_giving.specs.Tie.{
 use host_model::attempts_have_what_they_give;
 
 /// Where what waits by the transcript at a request is what waits in the host, a request that a host alone submits goes on with the tie of the attempts of
-/// each node: it is of an attempt just where that of its node is due or runs and nothing waits, and begins one where it is due.
+/// each node: it is of an attempt just where that of its node is due or runs and nothing waits, and begins one where it is due; and it carries a segment that
+/// others follow as it does in the host.
 pub fn attempts_go_with_requests()
     ensures { (taken : List Entry → Carried → List Told) (past told : List Entry) (m : HostMachine) (event : HostEvent) (n : ℕ) →
         IsRequest event → May Submitting m (Does event told) Submitting → both_know Ground KnowsAsked Submitting past m →
         WaitsAsTold (heeds_alone taken) past m.state → n ≤ 232 → AttemptsSo (heeds_alone taken) n past m.state m.clock m.clock →
+        ShowsSessions (heeds_alone taken) past m.state n → HostFacts (after m.state event) →
+        ShowsSessions (heeds_alone taken) (past ++ told) (after m.state event) n →
         AttemptsSo (heeds_alone taken) n (past ++ told) (after m.state event) m.clock m.clock }
 {
     attempts_have_what_they_give();
@@ -77,18 +84,19 @@ pub fn attempts_end_with_requests()
         (node_of (after h (Node_ticks k)) n) (if k == n then time + 1 else time) badly }
 {}
 
-/// So where the request of an attempt ends in no good way and by no frame, in silence or as the line gives it up, each node stays tied to its attempts by the
-/// transcript: that of the request has an attempt that is over.
-pub fn attempts_end_in_silence()
-    ensures over { (taken : List Entry → Carried → List Told) (n : ℕ) (past told : List Entry) (h : HostState) (event : RequestsEvent) (moment : Moment)
-        (time before now : ℕ) → n ≤ 232 → HostFacts h → AttemptsSo (heeds_alone taken) n past h time before → AllByRecursion GoesAlong told →
+/// So where the request under way ends, and by the transcript has ended badly just where that is bad for its attempt, each node stays tied to its attempts as
+/// the entries tell of them, with no sign to come. One that has ended by no frame has ended badly.
+pub fn attempts_end_as_told()
+    ensures ended { (taken : List Entry → Carried → List Told) (n : ℕ) (past told : List Entry) (h : HostState) (event : RequestsEvent) (moment : Moment)
+        (time before now : ℕ) → n ≤ 232 → HostFacts h → HostFacts (after h (Requests_do event moment)) →
+        AttemptsAs (is_good_for n (end_at h.requests event)) (heeds_alone taken) n past h time before → AllByRecursion GoesAlong told →
         ((command : ℕ) → is_last_command n past command ≡ is_last_of (node_of h n) command) →
         folded (anew_step (is_last_of (node_of h n))) (attempts_so_far (heeds_alone taken) n past) told
         ≡ folded (anew_step (is_last_of (node_of h n))) (attempts_so_far (heeds_alone taken) n past) (request_entries h event) →
-        (u : UnderWay) → h.requests.under_way ≡ Some u → (end : End) → end_at h.requests event ≡ Some end → end.purpose ≡ u.purpose →
-        ((more : Bool) → part_end more end.how ≡ Bad) → (after h (Requests_do event moment)).requests.under_way ≡ None →
-        (asked (past ++ told)).frame ≡ (asked past).frame →
-        ((attempts_so_far (heeds_alone taken) n past).own ≡ true → (inner : Bool) → ends_badly (asked (past ++ told)) inner now ≡ true) →
+        (u : UnderWay) → h.requests.under_way ≡ Some u → (how : How) → end_at h.requests event ≡ Some (record { purpose = u.purpose; how = how }) →
+        (after h (Requests_do event moment)).requests.under_way ≡ None → (asked (past ++ told)).frame ≡ (asked past).frame →
+        ((more : Bool) (payload : List ℕ) → u.purpose ≡ Attempt n more payload → (node_of h n).series ≡ Running →
+        has_ended_badly (heeds_alone taken) (past ++ told) (asked (past ++ told)) now n ≡ is_bad_part (part_end more how)) →
         AttemptsSo (heeds_alone taken) n (past ++ told) (after h (Requests_do event moment)) time now }
     ensures bad { (inner : Bool) (past : List Entry) (now : ℕ) (d : Doing) → IsOver past now d → is_abort_frame (asked past).frame ≡ false →
         first_ending (standing_of (asked past)) ≡ [] → ends_badly (asked past) inner now ≡ true }

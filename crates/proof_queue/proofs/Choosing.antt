@@ -31,7 +31,7 @@ use Rattle.proof_attempts.specs.proof_requests.proof_waking.Judged.{LastFrame, T
 use Rattle.proof_attempts.proofs.proof_waking_Apart.{acknowledged_frames}
 use Rattle.proof_attempts.proofs.proof_waking_Settling.{brought_is}
 use Rattle.proof_queue.specs.Waiting.{Waits, dropped_by}
-use Rattle.proof_queue.specs.Heeding.{AllSteps, HeedsSo, PutsSo, heeded_frame, heeding_at}
+use Rattle.proof_queue.specs.Heeding.{AllSteps, HeedsAs, HeedsSo, PutsSo, heeded_frame, heeding_at}
 use Rattle.proof_queue.proofs.Payloads.{frame_so}
 use Rattle.proof_queue.proofs.Segments.{Shows as ShowsNode}
 
@@ -76,6 +76,19 @@ step_same t u here next past all m (Judges (Good Can) rest behind told) may all_
 step_same t u here next past all m (Judges (refused_item refusal) rest behind told) may all_is same sure = tt
 step_same t u here next past all m step may all_is same sure = tt
 
+as_same : (t u : Taken) (here next : Phase) (past all : List Entry) (m : HostMachine) (step : Step) → May here m step next → all ≡ past ++ entries m step
+    → ((other : List Entry) (carried : Carried) → length other ≤ length all → t other carried ≡ u other carried) → HeedsAs (heeds_alone t) past m step → HeedsAs (heeds_alone u) past m step
+as_same t u here next past all m (Judges (Good (Framed f)) rest behind told) may all_is same (is, heeded) = (
+  is,
+  λ carried.
+      sym (same (past ++ acknowledged ∷ []) carried (subst (λ (l : List Entry). length (past ++ acknowledged ∷ []) ≤ length l) (sym all_is) (one_longer past told may.1.told_so))) ∙ heeded carried,
+)
+as_same t u here next past all m (Judges (Good Ack) rest behind told) may all_is same sure = tt
+as_same t u here next past all m (Judges (Good Nak) rest behind told) may all_is same sure = tt
+as_same t u here next past all m (Judges (Good Can) rest behind told) may all_is same sure = tt
+as_same t u here next past all m (Judges (refused_item refusal) rest behind told) may all_is same sure = tt
+as_same t u here next past all m step may all_is same sure = tt
+
 before_all : (past more all : List Entry) → all ≡ past ++ more → length past ≤ length all
 before_all past more all is = let long = length-append past more in let same = ap length is in omega (arith, long, same)
 
@@ -88,6 +101,16 @@ module _ (start : HostMachine) where
       let shorter = before_all told (entries m step) all all_is in (
         run_same run t u (λ other carried less. same other carried (omega (arith, less, shorter))) sure.0,
         step_same t u here next told all m step may all_is same sure.1,
+      )
+
+  run_as : {here : Phase} {told : List Entry} {m : HostMachine} → (run : Run start here told m) → (t u : Taken)
+      → ((other : List Entry) (carried : Carried) → length other ≤ length told → t other carried ≡ u other carried) → AllSteps (HeedsAs (heeds_alone t)) run → AllSteps (HeedsAs (heeds_alone u)) run
+  run_as Begins t u same sure = tt
+  run_as (Turned turns run) t u same sure = run_as run t u same sure
+  run_as {here = next} {told = all} (Stepped {here = here} {told = told} {m = m} step may all_is later_is run) t u same sure =
+      let shorter = before_all told (entries m step) all all_is in (
+        run_as run t u (λ other carried less. same other carried (omega (arith, less, shorter))) sure.0,
+        as_same t u here next told all m step may all_is same sure.1,
       )
 
   -- ---- what is chosen
@@ -136,6 +159,7 @@ module _ (start : HostMachine) where
     pub record Chosen {here : Phase} {told : List Entry} {m : HostMachine} (run : Run start here told m) : Type 0 where
       pub taken : Taken
       pub sure : AllSteps (HeedsSo (heeds_alone taken)) run
+      pub as_told : AllSteps (HeedsAs (heeds_alone taken)) run
 
     shorter_same : (messages : List Told) (taken : Taken) (past other : List Entry) (carried : Carried) → length other ≤ length past → taken other carried ≡ heeding_at (past ++ acknowledged ∷ []) messages taken other carried
     shorter_same messages taken past other carried less =
@@ -148,22 +172,27 @@ module _ (start : HostMachine) where
     step_chosen here next past all m later (Judges (Good (Framed f)) rest behind told) may all_is later_is run chosen =
         let messages : List Told = heeded_frame (after m.state (Hears (Good (Framed f)))) f.kind f.func f.body behind may.1.followed in
         let taken : Taken = heeding_at (past ++ acknowledged ∷ []) messages chosen.taken in
+        let heeded : (carried : Carried) → taken (past ++ acknowledged ∷ []) carried ≡ messages
+        = λ carried. ap (λ (b : Bool). if b then messages else chosen.taken (past ++ acknowledged ∷ []) carried) (eq-eqb (length (past ++ acknowledged ∷ [])) (length (past ++ acknowledged ∷ [])) refl) in
         record {
           taken = taken;
           sure = (
             run_same run chosen.taken taken (λ other carried less. shorter_same messages chosen.taken past other carried less) chosen.sure,
-            frame_heeds here next past m f rest behind told may run taken
-                (λ carried. ap (λ (b : Bool). if b then messages else chosen.taken (past ++ acknowledged ∷ []) carried) (eq-eqb (length (past ++ acknowledged ∷ [])) (length (past ++ acknowledged ∷ [])) refl)),
+            frame_heeds here next past m f rest behind told may run taken heeded,
+          );
+          as_told = (
+            run_as run chosen.taken taken (λ other carried less. shorter_same messages chosen.taken past other carried less) chosen.as_told,
+            (may.1.followed, heeded),
           );
         }
-    step_chosen here next past all m later (Judges (Good Ack) rest behind told) may all_is later_is run chosen = record { taken = chosen.taken; sure = (chosen.sure, tt) }
-    step_chosen here next past all m later (Judges (Good Nak) rest behind told) may all_is later_is run chosen = record { taken = chosen.taken; sure = (chosen.sure, tt) }
-    step_chosen here next past all m later (Judges (Good Can) rest behind told) may all_is later_is run chosen = record { taken = chosen.taken; sure = (chosen.sure, tt) }
-    step_chosen here next past all m later (Judges (refused_item refusal) rest behind told) may all_is later_is run chosen = record { taken = chosen.taken; sure = (chosen.sure, tt) }
-    step_chosen here next past all m later step may all_is later_is run chosen = record { taken = chosen.taken; sure = (chosen.sure, tt) }
+    step_chosen here next past all m later (Judges (Good Ack) rest behind told) may all_is later_is run chosen = record { taken = chosen.taken; sure = (chosen.sure, tt); as_told = (chosen.as_told, tt) }
+    step_chosen here next past all m later (Judges (Good Nak) rest behind told) may all_is later_is run chosen = record { taken = chosen.taken; sure = (chosen.sure, tt); as_told = (chosen.as_told, tt) }
+    step_chosen here next past all m later (Judges (Good Can) rest behind told) may all_is later_is run chosen = record { taken = chosen.taken; sure = (chosen.sure, tt); as_told = (chosen.as_told, tt) }
+    step_chosen here next past all m later (Judges (refused_item refusal) rest behind told) may all_is later_is run chosen = record { taken = chosen.taken; sure = (chosen.sure, tt); as_told = (chosen.as_told, tt) }
+    step_chosen here next past all m later step may all_is later_is run chosen = record { taken = chosen.taken; sure = (chosen.sure, tt); as_told = (chosen.as_told, tt) }
 
     pub chooses : {here : Phase} {told : List Entry} {m : HostMachine} → (run : Run start here told m) → Chosen run
-    chooses Begins = record { taken = λ past carried. []; sure = tt }
-    chooses (Turned turns run) = let before = chooses run in record { taken = before.taken; sure = before.sure }
+    chooses Begins = record { taken = λ past carried. []; sure = tt; as_told = tt }
+    chooses (Turned turns run) = let before = chooses run in record { taken = before.taken; sure = before.sure; as_told = before.as_told }
     chooses {here = next} {told = all} {m = later} (Stepped {here = here} {told = told} {m = m} step may all_is later_is run) =
         step_chosen here next told all m later step may all_is later_is run (chooses run)

@@ -33,6 +33,7 @@ mod Messages
 mod Payloads
 mod Choosing
 pub use Rattle.proof_attempts.proofs.Opening
+pub use Rattle.proof_attempts.proofs.SeriesTie
 pub use Rattle.proof_attempts.proofs.proof_requests_Growing
 pub use Rattle.proof_attempts.proofs.proof_requests_Standing
 pub use Rattle.proof_attempts.proofs.proof_requests_Telling
@@ -53,3 +54,23 @@ pub use Rattle.proof_attempts.proofs.proof_requests_EndsHere
 pub use Rattle.proof_attempts.proofs.proof_requests_Judging
 pub use Rattle.proof_attempts.proofs.proof_requests_Ended
 pub use Rattle.proof_attempts.proofs.Ending as proof_attempts_Ending
+pub use Rattle.proof_attempts.proofs.HostOuts
+pub use Rattle.proof_attempts.proofs.Doing as proof_requests_Doing
+pub use Rattle.proof_attempts.proofs.proof_alone_Apart
+pub use Rattle.proof_attempts.proofs.Ticking
+pub use Rattle.proof_attempts.proofs.Lasting
+pub use Rattle.proof_attempts.proofs.KeptAwake
+pub use Rattle.proof_attempts.proofs.Requested
+pub use Rattle.proof_attempts.proofs.EndsLate
+pub use Rattle.proof_attempts.proofs.proof_waking_Judging
+pub use Rattle.proof_attempts.proofs.proof_waking_Settling
+pub use Rattle.proof_attempts.proofs.Spelled
+pub use Rattle.proof_attempts.proofs.Line
+pub use Rattle.proof_attempts.proofs.OnLine
+pub use Rattle.proof_attempts.proofs.Running
+pub use Rattle.proof_attempts.proofs.proof_waking_Followed
+pub use Rattle.proof_known.proofs.Bodies
+pub use Rattle.proof_attempts.proofs.Holding
+pub use Rattle.proof_attempts.proofs.Queueing
+pub use Rattle.proof_attempts.proofs.HostNotes
+pub use Rattle.proof_attempts.proofs.InOrder

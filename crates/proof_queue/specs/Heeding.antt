@@ -1,5 +1,5 @@
 -- By what a host alone goes (this project's own rule): where it judges a frame, what its node wants by the messages that are heeded is what the host puts into its queue behind it.
-use Rattle.std.specs.Prelude.{ℕ, ◌==◌, Bool, true, false, if◌then◌else◌, Option, Some, None, List, [], ◌∷◌, ◌++◌, length, Result, Ok}
+use Rattle.std.specs.Prelude.{◌≡◌, ℕ, ◌==◌, Bool, true, false, if◌then◌else◌, Option, Some, None, List, [], ◌∷◌, ◌++◌, length, Result, Ok}
 use Rattle.std.proofs.Common.{inl, inr}
 use Rattle.serial_frame.specs.Items.{unit_text}
 use Rattle.serial_frame.specs.declared.frame.Kind.{Kind}
@@ -89,6 +89,13 @@ heeded_notice h read events is = []
 abbrev pub heeded_frame : (h : HostState) (k : Kind) (function : ℕ) (body : List ℕ) (events : List HostEvent) → FrameEvents h k function body events → List Told
 heeded_frame h kind.Response function body events is = []
 heeded_frame h kind.Request function body events is = heeded_notice h (notice_of function body) events is
+
+-- the messages that are heeded up to an acknowledgement are those by which the host does something behind it
+abbrev pub HeedsAs : Heeds → List Entry → HostMachine → Step → Type 0
+HeedsAs heeds past m (Judges (Good (Framed f)) rest behind told) =
+    (is : FrameEvents (after m.state (Hears (Good (Framed f)))) f.kind f.func f.body behind)
+    × ((carried : Carried) → heeds.taken (past ++ entry.Written Host (unit_text Ack) ∷ []) [] carried ≡ heeded_frame (after m.state (Hears (Good (Framed f)))) f.kind f.func f.body behind is)
+HeedsAs heeds past m step = Unit {0}
 
 -- ---- what is chosen
 

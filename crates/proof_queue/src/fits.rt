@@ -16,7 +16,7 @@ ghost use Rattle.proof_attempts.specs.proof_requests.proof_alone.Phases.{Phase};
 ghost use Rattle.proof_attempts.specs.proof_requests.proof_alone.Runs.{Run};
 ghost use Rattle.proof_attempts.specs.proof_requests.proof_alone.Careful.{ToldCarefully};
 ghost use Rattle.proof_known.specs.Known.{AreForHost};
-ghost use Rattle.proof_queue.specs.Heeding.{AllSteps, HeedsSo};
+ghost use Rattle.proof_queue.specs.Heeding.{AllSteps, HeedsAs, HeedsSo};
 ghost use Rattle.proof_queue.specs.Turn.{GoesByQueue};
 
 use crate::queued::hosts_queue_as_told;
@@ -29,10 +29,10 @@ use proof_sending::spoken::orders_are_carried_as_said;
 
 /// For any run of a host alone, over a keeper that tells its records and has none at first, there are messages of each payload such that the host goes by
 /// them: those for which it put a Nonce Report or a segment into its queue, took a nonce, or took its node to be at work. A segment that was asked for again is
-/// then the one of the open session, byte for byte.
+/// then the one of the open session, byte for byte; and they are the messages of that payload, in its order.
 pub fn hosts_go_by_messages()
     ensures { (keys : Keys) (here : Phase) (told : List Entry) (m : HostMachine) → (run : Run (first_alone keys (Some [])) here told m) →
-        (taken : List Entry → Carried → List Message) × AllSteps (HeedsSo (heeds_alone taken)) run }
+        (taken : List Entry → Carried → List Message) × AllSteps (HeedsSo (heeds_alone taken)) run × AllSteps (HeedsAs (heeds_alone taken)) run }
 {
     laws_follow();
     orders_are_carried_as_said();

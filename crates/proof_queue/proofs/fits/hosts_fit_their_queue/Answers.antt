@@ -9,7 +9,7 @@ use Rattle.proof_queue.proofs.fits.hosts_fit_their_queue.Goals as goal
 pub returns-clause-told : goal.returns-clause-told
 returns-clause-told c = λ keys told run for_host.
     let (here, m, ran, careful) = run in
-    let (taken, sure) = c.hosts_go_by_messages.ensures keys here told m ran in
+    let (taken, sure, as_told) = c.hosts_go_by_messages.ensures keys here told m ran in
     (taken, c.hosts_queue_as_told.ensures.fits keys taken here told m ran careful sure for_host, c.hosts_queue_as_told.ensures.goes keys taken here told m ran careful sure)
 
 pub returns-clause-heard : goal.returns-clause-heard

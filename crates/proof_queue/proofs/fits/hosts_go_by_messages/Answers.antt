@@ -40,4 +40,4 @@ module _ (c : goal.After-hosts_show_open_sessions) (keys : Keys) where
 
 pub returns : goal.returns
 returns c = λ keys here told m run.
-    let chosen = chooses (first_alone keys (Some [])) (λ here told m run. shows c keys run) (λ here told m run. nonces c keys run) (λ told m run. frames c keys run) run in (chosen.taken, chosen.sure)
+    let chosen = chooses (first_alone keys (Some [])) (λ here told m run. shows c keys run) (λ here told m run. nonces c keys run) (λ told m run. frames c keys run) run in (chosen.taken, chosen.sure, chosen.as_told)
