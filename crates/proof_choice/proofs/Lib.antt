@@ -15,3 +15,4 @@ mod Readies
 mod InTurn
 mod Whole
 mod Wanting
+mod Nonces
