@@ -231,7 +231,7 @@ own_by true over unit told = by (list_any (λ (carried : Carried). goes_on carri
     by false = refl
 
 module _ (taken : List Entry → Carried → List Told) (past told : List Entry) (m : HostMachine) (numbered : IsNumbered m told) (ground : Ground Submitting past m) (tie : IsTied past m)
-    (waits : WaitsAsTold (heeds_alone taken) past m.state) where
+    (waits : WaitsAsTold (heeds_alone taken) past m.state m.clock) where
   abbrev heeds : Heeds
   heeds = heeds_alone taken
 
@@ -275,11 +275,11 @@ module _ (taken : List Entry → Carried → List Told) (past told : List Entry)
         let f : FrameParts = frame_of purpose id in
         let unit : List ℕ = unit_text (Framed f) in
         let wrote = written_told f told (subst (λ (l : List HostOut). AreTold l told) puts are) in
-        let fresh : is_new (requests heeds past).last unit ≡ true
-        = ap (λ (a : Asked). is_new a unit) (last_is taken past) ∙ is_fresh past m.clock m.came (doing_of m.state) f free.free_line tie in
+        let new : is_new (asked past) unit ≡ true = is_fresh past m.clock m.came (doing_of m.state) f free.free_line tie in
+        let fresh : is_new (requests heeds past).last unit ≡ true = ap (λ (a : Asked). is_new a unit) (last_is taken past) ∙ new in
         let time : clock past ≡ m.clock = time_told Submitting past told m ground numbered (entry.Written Host unit) wrote.rest wrote.are in
         let whose : is_of_attempt heeds n past (requests heeds past) unit ≡ is_for n purpose
-        = of_attempt heeds n past (requests heeds past) unit purpose id read (subst (WantsFit purpose) (sym (waits unit)) fits) in
+        = of_attempt heeds n past (requests heeds past) unit purpose id read (subst (WantsFit purpose) (sym (waits unit new time)) fits) in
         let badly_is : has_ended_badly heeds past (asked past) m.clock n ≡ badly = sym (ap (λ (o : Option UnderWay). is_none o && has_ended_badly heeds past (asked past) m.clock n) free.none_under_way) in
         let over : attempt_is_over heeds past (requests heeds past).last (clock past) now ≡ is_over_by m.clock badly now
         = ap₂ (λ (a : Asked) (k : ℕ). attempt_is_over heeds past a k now) (last_is taken past) time ∙ over_as heeds n past (asked past) m.clock now (node_is heeds n past)

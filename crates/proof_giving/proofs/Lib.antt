@@ -22,6 +22,9 @@ mod Framed
 mod Ticked
 mod Asked
 mod Interviewed
+mod Walked
+mod Counted
+mod Rested
 mod Carries
 mod Acked
 mod Quiet

@@ -105,7 +105,7 @@ bad_end it more bad = sym (ap is_bad_part (bad more))
 
 -- ---- a tick of a node
 
-abbrev TicksWith : Type 0
+abbrev pub TicksWith : Type 0
 TicksWith =
     (h : HostState) (k n : ℕ) (told : Attempts) (time : ℕ) (badly : Bool) → HostFacts h → n ≤ 232 → NodeSo told (node_of h n) time badly
     → NodeSo (folded (anew_step (is_last_of (node_of h n))) told (attempt_entries k (tick_end (node_of h k)) (open_command (node_of h k)))) (node_of (after h (Node_ticks k)) n) (if k == n then time + 1 else time) badly

@@ -14,8 +14,9 @@ use Rattle.law_time.specs.Attempts.{Attempts, anew, is_of_inner}
 use Rattle.law_time.specs.Ends.{is_abort_frame}
 use Rattle.law_time.specs.Heeds.{Heeds}
 use Rattle.law_time.specs.Judged.{acknowledged, is_data, last_of}
+use Rattle.law_time.specs.Moments.{clock}
 use Rattle.law_time.specs.Queue.{queue_before}
-use Rattle.law_time.specs.Requests.{are_none, asked}
+use Rattle.law_time.specs.Requests.{are_none, asked, is_new}
 use Rattle.law_time.specs.Sessions.{last_command}
 use Rattle.host_requests.specs.declared.end.End.{End}
 use Rattle.host_requests.specs.declared.end.How.{How}
@@ -149,9 +150,9 @@ pub record AttemptsAs (signs : Bool) (heeds : Heeds) (n : ℕ) (past : List Entr
 abbrev pub AttemptsSo : Heeds → ℕ → List Entry → HostState → ℕ → ℕ → Type 0
 AttemptsSo heeds n past h time now = AttemptsAs false heeds n past h time now
 
--- what waits by the transcript at a request is what waits in the host
-abbrev pub WaitsAsTold : Heeds → List Entry → HostState → Type 0
-WaitsAsTold heeds past h = (unit : List ℕ) → (queue_before heeds past (Written Host unit)).wants ≡ map want_of_task h.requests.queue
+-- what waits by the transcript at a request at this time is what waits in the host
+abbrev pub WaitsAsTold : Heeds → List Entry → HostState → ℕ → Type 0
+WaitsAsTold heeds past h now = (unit : List ℕ) → is_new (asked past) unit ≡ true → clock past ≡ now → (queue_before heeds past (Written Host unit)).wants ≡ map want_of_task h.requests.queue
 
 -- the last request was asked, and has ended by the time that the line has counted to
 pub record IsOver (past : List Entry) (now : ℕ) (d : Doing) : Type 0 where

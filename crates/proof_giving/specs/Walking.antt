@@ -1,11 +1,13 @@
--- The attempts of each node of a host alone, at each phase of a run, and on what premises (this project's own rule): that what is heeded is what the host takes up (`HeedsAs`), and that at
--- each request what waits by the transcript is what waits in the host.
+-- The attempts of each node of a host alone, at each phase of a run, and on what premises (this project's own rule): that what is heeded is what the host takes up (`HeedsAs`), and that
+-- where it submits what waits by the transcript is what waits in the host.
 use Rattle.std.specs.Prelude.{◌≡◌, ℕ, ◌≤◌, ◌-◌, ◌==◌, ◌||◌, Bool, true, false, Some, List, [], ◌∷◌, ◌++◌}
 use Rattle.std.specs.List.{AllByRecursion}
 use Rattle.zw_text.specs.declared.line.Line.{Line}
 use Rattle.zw_text.specs.declared.entry.Entry.{Entry}
 use Rattle.zw_text.specs.declared.entry.Entry.TheVariants.{Said}
 use Rattle.zw_text.specs.Transcript.{line_of}
+use Rattle.host_heard.specs.declared.told.Told.{Told}
+use Rattle.law_transcript.specs.Units.{Carried}
 use Rattle.law_time.specs.Attempts.{ends_badly}
 use Rattle.law_time.specs.Heeds.{Heeds}
 use Rattle.law_time.specs.Judged.{is_data}
@@ -17,21 +19,23 @@ use Rattle.host_requests.specs.declared.under_way.UnderWay.{UnderWay}
 use Rattle.host_model.specs.Ends.{part_end}
 use Rattle.host_model.specs.State.{HostState}
 use Rattle.host_model.specs.Events.{HostEvent, Begins, Gives_segment, Gives_text, Line_ticks, Node_ticks, Requests_do, Starts, Submits_abort, Submits_front, Works}
+use Rattle.proof_queue.specs.Heeding.{AllSteps, HeedsAs, HeedsSo}
 use Rattle.proof_queue.specs.proof_attempts.Asleep.{KnowsSleep}
 use Rattle.proof_queue.specs.proof_attempts.Since.{TieOf, node_clock}
+use Rattle.proof_queue.specs.proof_attempts.proof_requests.law_host.Heard.{heeds_alone}
+use Rattle.proof_queue.specs.proof_attempts.proof_requests.proof_alone.Careful.{Careful}
 use Rattle.proof_queue.specs.proof_attempts.proof_requests.proof_alone.State.{HostMachine}
-use Rattle.proof_queue.specs.proof_attempts.proof_requests.proof_alone.Steps.{Step, Does}
-use Rattle.proof_queue.specs.proof_attempts.proof_requests.proof_alone.Phases.{Phase, Asked, Behind, Resting, Risen, Ticking}
-use Rattle.proof_queue.specs.proof_attempts.proof_requests.proof_alone.Runs.{Knowledge}
+use Rattle.proof_queue.specs.proof_attempts.proof_requests.proof_alone.Phases.{Phase, Asked, Behind, Resting, Risen, Submitting, Ticking}
+use Rattle.proof_queue.specs.proof_attempts.proof_requests.proof_alone.Runs.{Knowledge, Run}
 use Rattle.proof_giving.specs.Stays.{ShowsSessions}
-use Rattle.proof_giving.specs.Tie.{AttemptsAs, AttemptsSo, IsRequest, WaitsAsTold, is_bad_part, is_good_for}
+use Rattle.proof_giving.specs.Tie.{AttemptsAs, AttemptsSo, WaitsAsTold, is_bad_part, is_good_for}
 
 -- ---- premises
 
--- at each request what waits by the transcript is what waits in the host
-abbrev pub WaitsSo : Heeds → List Entry → HostMachine → Step → Type 0
-WaitsSo heeds past m (Does event told) = IsRequest event → WaitsAsTold heeds past m.state
-WaitsSo heeds past m step = Unit {0}
+-- where the host submits what waits by the transcript at a request is what waits in the host
+abbrev pub WaitsAt : Heeds → Knowledge
+WaitsAt heeds Submitting past m = WaitsAsTold heeds past m.state m.clock
+WaitsAt heeds here past m = Unit {0}
 
 -- ---- signs that are to come
 
@@ -111,3 +115,10 @@ KnowsAttempts heeds here past m = CountsAttempts heeds here past m.state m.clock
 pub record Grounds (heeds : Heeds) (here : Phase) (past : List Entry) (m : HostMachine) : Type 0 where
   pub sleep : KnowsSleep here past m
   pub shows : (n : ℕ) → ShowsSessions heeds past m.state n
+
+-- ---- rests
+
+-- these entries are those of a rest at this time, by such a run
+abbrev pub RestsAt : (taken : List Entry → Carried → List Told) (start : HostMachine) (told : List Entry) (now : ℕ) → Type 0
+RestsAt taken start told now =
+    (m : HostMachine) × (run : Run start Resting told m) × Careful run × AllSteps (HeedsSo (heeds_alone taken)) run × AllSteps (HeedsAs (heeds_alone taken)) run × (now ≡ m.clock)

@@ -62,7 +62,7 @@ use host_model::attempts_have_what_they_give;
 pub fn attempts_go_with_requests()
     ensures { (taken : List Entry → Carried → List Told) (past told : List Entry) (m : HostMachine) (event : HostEvent) (n : ℕ) →
         IsRequest event → May Submitting m (Does event told) Submitting → both_know Ground KnowsAsked Submitting past m →
-        WaitsAsTold (heeds_alone taken) past m.state → n ≤ 232 → AttemptsSo (heeds_alone taken) n past m.state m.clock m.clock →
+        WaitsAsTold (heeds_alone taken) past m.state m.clock → n ≤ 232 → AttemptsSo (heeds_alone taken) n past m.state m.clock m.clock →
         ShowsSessions (heeds_alone taken) past m.state n → HostFacts (after m.state event) →
         ShowsSessions (heeds_alone taken) (past ++ told) (after m.state event) n →
         AttemptsSo (heeds_alone taken) n (past ++ told) (after m.state event) m.clock m.clock }

@@ -1,0 +1,67 @@
+//! The attempts of each node along runs of a host alone.
+
+ghost use Rattle.std.specs.Prelude.{◌≡◌, ℕ, ◌-◌, true, Some, List, []};
+ghost use Rattle.s0_crypto.specs.declared.key_pair.Keys.{Keys};
+ghost use Rattle.zw_text.specs.declared.entry.Entry.{Entry};
+ghost use Rattle.host_heard.specs.declared.told.Told.{Told};
+ghost use Rattle.law_transcript.specs.Units.{Carried};
+ghost use Rattle.law_time.specs.Unanswered.{none_to_give_up};
+ghost use Rattle.proof_queue.specs.proof_attempts.proof_requests.law_host.Heard.{heeds_alone};
+ghost use Rattle.proof_queue.specs.proof_attempts.proof_requests.proof_alone.State.{HostMachine, first_alone};
+ghost use Rattle.proof_queue.specs.proof_attempts.proof_requests.proof_alone.Phases.{Phase, Resting};
+ghost use Rattle.proof_queue.specs.proof_attempts.proof_requests.proof_alone.Runs.{Run};
+ghost use Rattle.proof_queue.specs.proof_attempts.proof_requests.proof_alone.Careful.{Careful};
+ghost use Rattle.proof_queue.specs.Heeding.{AllSteps, HeedsAs, HeedsSo};
+ghost use Rattle.proof_giving.specs.Walking.{Grounds, KnowsAttempts, RestsAt};
+
+use crate::requests::attempts_end_with_requests;
+use host_model::attempts_have_what_they_give;
+use proof_attempts::requests::hosts_ask_as_told;
+use proof_attempts::{hosts_show_open_sessions, hosts_tell_of_sleep};
+use proof_host::laws_follow;
+use proof_known::{hosts_keep_what_is_said, hosts_know_what_nodes_list};
+use proof_queue::hosts_queue_as_told;
+use proof_sending::spoken::orders_are_carried_as_said;
+
+/// In any careful run of a host alone, also where it starts again, over a keeper that tells its records and has none at first, by messages that are heeded as
+/// the host took them: each node is tied to its attempts at each phase, so where the host submits and where it rests, and behind an item with the sign that
+/// is still to come. What it stands on holds along any run (`grounds`).
+pub fn hosts_count_attempts()
+    ensures grounds { (keys : Keys) (taken : List Entry → Carried → List Told) (here : Phase) (told : List Entry) (m : HostMachine) →
+        Run (first_alone keys (Some [])) here told m → Grounds (heeds_alone taken) here told m }
+    ensures known { (keys : Keys) (taken : List Entry → Carried → List Told) (here : Phase) (told : List Entry) (m : HostMachine) →
+        (run : Run (first_alone keys (Some [])) here told m) → Careful run → AllSteps (HeedsSo (heeds_alone taken)) run →
+        AllSteps (HeedsAs (heeds_alone taken)) run → KnowsAttempts (heeds_alone taken) here told m }
+{
+    attempts_have_what_they_give();
+    laws_follow();
+    orders_are_carried_as_said();
+    hosts_ask_as_told();
+    hosts_know_what_nodes_list();
+    hosts_keep_what_is_said();
+    hosts_show_open_sessions();
+    hosts_tell_of_sleep();
+    hosts_queue_as_told();
+    attempts_end_with_requests();
+}
+
+/// While the number of a tick is to be entered a transcript is that of a rest, one tick before.
+pub fn ticks_begin_at_rest()
+    ensures { (keys : Keys) (taken : List Entry → Carried → List Told) (here : Phase) (told : List Entry) (m : HostMachine) →
+        (run : Run (first_alone keys (Some [])) here told m) → Careful run → AllSteps (HeedsSo (heeds_alone taken)) run →
+        AllSteps (HeedsAs (heeds_alone taken)) run → m.awaits ≡ true → RestsAt taken (first_alone keys (Some [])) told (m.clock - 1) }
+{}
+
+/// So in any such run no command is to be given up for a node that joined where the host rests, at its time, and while the number of a tick is to be entered,
+/// at the time before.
+pub fn hosts_rest_with_none_to_give_up()
+    ensures rests { (keys : Keys) (taken : List Entry → Carried → List Told) (told : List Entry) (m : HostMachine) →
+        (run : Run (first_alone keys (Some [])) Resting told m) → Careful run → AllSteps (HeedsSo (heeds_alone taken)) run →
+        AllSteps (HeedsAs (heeds_alone taken)) run → none_to_give_up (heeds_alone taken) told m.clock ≡ true }
+    ensures ticks { (keys : Keys) (taken : List Entry → Carried → List Told) (here : Phase) (told : List Entry) (m : HostMachine) →
+        (run : Run (first_alone keys (Some [])) here told m) → Careful run → AllSteps (HeedsSo (heeds_alone taken)) run →
+        AllSteps (HeedsAs (heeds_alone taken)) run → m.awaits ≡ true → none_to_give_up (heeds_alone taken) told (m.clock - 1) ≡ true }
+{
+    hosts_count_attempts();
+    ticks_begin_at_rest();
+}
