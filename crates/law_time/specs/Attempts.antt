@@ -20,8 +20,8 @@ use Rattle.law_wire.specs.law_transcript.Nodes.{controller}
 use Rattle.law_wire.specs.law_transcript.Units.{is_frame, notice_in, sending_in}
 use Rattle.law_time.specs.Heeds.{Heeds, taken_here}
 use Rattle.law_time.specs.Moments.{clock}
-use Rattle.law_time.specs.Judged.{is_acknowledgement}
-use Rattle.law_time.specs.Requests.{Asked, are_none, is_new, starts_anew}
+use Rattle.law_time.specs.Judged.{acknowledged, is_acknowledgement}
+use Rattle.law_time.specs.Requests.{Asked, are_none, failing, is_new, starts_anew}
 use Rattle.law_time.specs.Ends.{ending, giving_up, is_called_back, silence}
 use Rattle.law_time.specs.Sessions.{Session, is_last_command, last_command, last_place, segment_at, session_of}
 use Rattle.law_time.specs.Queue.{Requests, no_requests, requests_after, waits_before}
@@ -151,11 +151,17 @@ abbrev pub is_sealed : Form → Bool
 is_sealed Sealed = true
 is_sealed _ = false
 
+-- the line gives the last request up only at an answer that came after the frame that is judged here
+abbrev pub is_given_up_later : List Entry → Asked → Bool
+is_given_up_later past last =
+    not (are_none (giving_up last)) && list_any (λ fails. fails.at_answer && nat_le (acknowledged past) fails.frames) (failing last)
+
 abbrev pub waits_for_nonce : Heeds → List Entry → Asked → Attempts → Bool
 waits_for_nonce heeds past last attempts =
     (attempts.sent == 1) && are_none attempts.ready
     && list_any (λ command. is_sealed (session_of heeds.listing past attempts.node command).form) (last_command attempts.node past)
-    && not (attempt_is_over heeds past last (clock past) attempts)
+    && (not (attempt_is_over heeds past last (clock past) attempts)
+    || (is_given_up_later past last && not (is_late (clock past) attempts)))
 
 -- up to an acknowledgement, after which these entries stand
 abbrev pub with_nonces_here : Heeds → List Entry → Asked → List Entry → Attempts → Attempts

@@ -9,7 +9,7 @@ use Rattle.law_wire.specs.law_transcript.Worked.{long_message}
 use Rattle.law_time.specs.WorkedAttempts.{second_attempt, third_attempt, unkept_order, working}
 use Rattle.law_time.specs.WorkedEnds.{set_under_way}
 use Rattle.law_time.specs.WorkedTurns.{first_sent, given_up, given_up_plug}
-use Rattle.law_time.specs.WorkedUnits.{abort_sent, by_chip, by_host, chip_acknowledges, delivered, failed, host_acknowledges, message_sent, nonce_asked, not_acknowledged, set_sent, taken}
+use Rattle.law_time.specs.WorkedUnits.{abort_sent, by_chip, by_host, chip_acknowledges, chip_denies, delivered, failed, host_acknowledges, message_sent, nonce_asked, not_acknowledged, set_sent, taken}
 
 -- ---- attempts
 
@@ -103,6 +103,22 @@ sealed_for_same = asked_again ++ nonce_come ∷ host_acknowledges ∷ by_host (c
 abbrev pub sealed_for_next : List Entry
 sealed_for_next =
     asked_again ++ second_nonce_come ∷ host_acknowledges ∷ by_host (codes "011E0013041798810101010101010101AABBCCDD0201020304050607082504D3") ∷ []
+
+-- the chip denies four copies of the Nonce Get, the last one after the nonce has come: the host judges that first, so it counts, and the next attempt is given the next one
+abbrev pub nonce_get_again : Entry
+nonce_get_again = by_host (codes "010900130402984025021C")
+
+abbrev pub sealed_for_second_next : Entry
+sealed_for_second_next = by_host (codes "011E0013041798810101010101010101AABBCCDD0201020304050607082503D4")
+
+abbrev pub four_copies : List Entry
+four_copies =
+    lock_asked ++ chip_denies ∷ Said (codes "tick 40") ∷ Time 1 ∷ nonce_get_sent ∷ chip_denies ∷ Time 12 ∷ nonce_get_sent ∷ chip_denies ∷ Time 33 ∷
+    nonce_get_sent ∷ []
+
+abbrev pub sealed_after_denial : List Entry
+sealed_after_denial =
+    four_copies ++ nonce_come ∷ chip_denies ∷ host_acknowledges ∷ nonce_get_again ∷ second_nonce_come ∷ host_acknowledges ∷ sealed_for_second_next ∷ []
 
 -- a lock that is taken for a switch at first
 abbrev pub the_near_lock : State

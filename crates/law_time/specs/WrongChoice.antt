@@ -7,10 +7,10 @@ use Rattle.zw_text.specs.declared.entry.Entry.TheVariants.{Said, Accepted, Begin
 use Rattle.zw_words.specs.declared.side.Side.TheVariants.{Host}
 use Rattle.law_wire.specs.law_transcript.Worked.{long_message, sealed_exchange}
 use Rattle.law_time.specs.WorkedAttempts.{second_attempt, third_attempt, third_failed, third_lost, unkept_order, working}
-use Rattle.law_time.specs.WorkedChoice.{begun, both_wait, first_over, first_sent_next, first_served, first_taken, get_sent, lock_asked, lock_begun, nonce_come, restarted_beside, sealed_for_second, sealed_once, sealed_sent, second_failed, second_nonce_come, second_served, segment_after_failed, segment_after_lost, segment_begun, set_before, silent_set, sleeper_begun}
+use Rattle.law_time.specs.WorkedChoice.{begun, both_wait, first_over, first_sent_next, first_served, first_taken, four_copies, get_sent, lock_asked, lock_begun, nonce_come, nonce_get_again, restarted_beside, sealed_for_second, sealed_for_second_next, sealed_once, sealed_sent, second_failed, second_nonce_come, second_served, segment_after_failed, segment_after_lost, segment_begun, set_before, silent_set, sleeper_begun}
 use Rattle.law_time.specs.WorkedEnds.{set_under_way}
 use Rattle.law_time.specs.WorkedTurns.{given_up, given_up_plug, probed, second_sent}
-use Rattle.law_time.specs.WorkedUnits.{by_chip, by_host, failed_asked, host_acknowledges, message_sent, not_acknowledged, refused, set_sent}
+use Rattle.law_time.specs.WorkedUnits.{by_chip, by_host, chip_denies, failed_asked, host_acknowledges, message_sent, not_acknowledged, refused, set_sent}
 
 -- ---- attempts
 
@@ -98,6 +98,11 @@ sealed_when_over = lock_asked ++ not_acknowledged ∷ host_acknowledges ∷ nonc
 -- for a second one, when it was sealed; and for one after one that came when the attempt was over
 abbrev pub sealed_again : List Entry
 sealed_again = sealed_once ++ second_nonce_come ∷ host_acknowledges ∷ by_host (codes "011E0013041798810101010101010101AABBCCDD0201020304050607082503D4") ∷ []
+
+-- the chip denies the last copy of the Nonce Get before the nonce comes, so that is not counted, nor is the next one then
+abbrev pub sealed_though_denied : List Entry
+sealed_though_denied =
+    four_copies ++ chip_denies ∷ nonce_come ∷ host_acknowledges ∷ nonce_get_again ∷ second_nonce_come ∷ host_acknowledges ∷ sealed_for_second_next ∷ []
 
 abbrev pub sealed_after_late : List Entry
 sealed_after_late =

@@ -16,6 +16,7 @@ ghost use Rattle.law_time.specs.WorkedChoice.{
   first_after_restart,
   first_again,
   last_id_sent,
+  sealed_after_denial,
   sealed_beside_unkept,
   sealed_for_next,
   sealed_for_same,
@@ -54,6 +55,7 @@ ghost use Rattle.law_time.specs.WrongChoice.{
   sealed_for_uncounted,
   sealed_for_unkept,
   sealed_for_unkept_lost,
+  sealed_though_denied,
   sealed_twice,
   sealed_when_over,
   second_after_restart,
@@ -84,11 +86,11 @@ ghost use Rattle.law_wire.specs.law_transcript.Worked.{
   the_switch,
 };
 
-/// In worked transcripts the request that is sent where none waits is the next of its node, and the node's turn has come. An attempt begins when
-/// the one before it is over: as its request ends, though others went before it, or after 100 ticks, though the node then told that it is at work.
-/// The second segment follows the first, and after a failure the first one again. A message is sealed for the last nonce that came and was kept,
-/// the same again or the next, over a restart too. Two nodes are served in turn, the first one first when the host has restarted. A session begins
-/// after an abort, after a restart, and beside a node for which the keeper failed in this tick.
+/// In worked transcripts the request that is sent where none waits is the next of its node, and the node's turn has come. An attempt begins when the one
+/// before it is over: as its request ends, though others went before it, or after 100 ticks, though the node then told that it is at work. The second
+/// segment follows the first, and after a failure the first one again. A message is sealed for the last nonce that came and was kept, the same again or
+/// the next, over a restart too, and where the chip denied the last copy of its Nonce Get only after it. Two nodes are served in turn, the first one
+/// first when the host has restarted. A session begins after an abort, after a restart, and beside a node for which the keeper failed in this tick.
 pub fn worked_choice()
     ensures again { SendsInTurn (heeds_of (the_switch ∷ [])) again_after_set }
     ensures following_get { SendsInTurn (heeds_of (the_switch ∷ [])) again_after_get }
@@ -98,6 +100,7 @@ pub fn worked_choice()
     ensures segment_failed { SendsInTurn (heeds_of (the_plug ∷ [])) segment_after_failed }
     ensures same_nonce { SendsInTurn (heeds_of (the_lock ∷ [])) sealed_for_same }
     ensures next_nonce { SendsInTurn (heeds_of (the_lock ∷ [])) sealed_for_next }
+    ensures following_denial { SendsInTurn (heeds_of (the_lock ∷ [])) sealed_after_denial }
     ensures over_restart { SendsInTurn (heeds_of (the_lock ∷ [])) sealed_over_restart }
     ensures beside_unkept { SendsInTurn (heeds_of (the_lock ∷ [])) sealed_beside_unkept }
     ensures in_turn { SendsInTurn (heeds_of (the_switch ∷ [])) first_again }
@@ -109,13 +112,13 @@ pub fn worked_choice()
     ensures following_abort { SendsInTurn (heeds_of (the_switch ∷ [])) begun_after_abort }
 {}
 
-/// Each of these breaks one part of the law: where an attempt is due, the Set of an earlier line is sent again, or a Nonce Get to a node that lists
-/// no Security 0, or a message unsealed to one that does; an attempt begins while the last one is under way, a tick too early, while the node has
-/// told that it is at work, as a Get has failed, or after three; a segment is sent before the first, twice, beyond the last, or when the third
-/// attempt is over; what is sent for a nonce is not sealed; a message is sealed for no nonce, for another one, for one that was not kept or not
-/// counted, twice for one, for a second one, or when its attempt is over; a node is served twice while another one has work, or before a lower one,
-/// also after a restart; and a session begins out of order, before a request or an abort, of a node that is asleep, while the last one is open, or in
-/// the tick in which the keeper has failed.
+/// Each of these breaks one part of the law: where an attempt is due, the Set of an earlier line is sent again, or a Nonce Get to a node that lists no
+/// Security 0, or a message unsealed to one that does; an attempt begins while the last one is under way, a tick too early, while the node has told that
+/// it is at work, as a Get has failed, or after three; a segment is sent before the first, twice, beyond the last, or when the third attempt is over;
+/// what is sent for a nonce is not sealed; a message is sealed for no nonce, for another one, for one that was not kept or not counted, also since the
+/// chip had denied the last copy of its Nonce Get, twice for one, for a second one, or when its attempt is over; a node is served twice while another one
+/// has work, or before a lower one, also after a restart; and a session begins out of order, before a request or an abort, of a node that is asleep,
+/// while the last one is open, or in the tick in which the keeper has failed.
 pub fn rejected_choice()
     ensures set { SendsInTurn (heeds_of (the_switch ∷ [])) set_repeated → ⊥ }
     ensures nonce_get { SendsInTurn (heeds_of (the_switch ∷ [])) nonce_asked_plainly → ⊥ }
@@ -140,6 +143,7 @@ pub fn rejected_choice()
     ensures skipped { SendsInTurn (heeds_of (the_lock ∷ [])) sealed_for_skipped → ⊥ }
     ensures uncounted { SendsInTurn (heeds_of (the_lock ∷ [])) sealed_for_uncounted → ⊥ }
     ensures second_nonce { SendsInTurn (heeds_of (the_lock ∷ [])) sealed_again → ⊥ }
+    ensures denied_nonce { SendsInTurn (heeds_of (the_lock ∷ [])) sealed_though_denied → ⊥ }
     ensures late_nonce { SendsInTurn (heeds_of (the_lock ∷ [])) sealed_after_late → ⊥ }
     ensures plain_nonce { SendsInTurn (heeds_of (the_near_lock ∷ [])) sealed_after_plain → ⊥ }
     ensures lower_twice { SendsInTurn (heeds_of (the_switch ∷ [])) first_served_twice → ⊥ }

@@ -2,7 +2,7 @@ use Rattle.law_time.specs.Heeds.{heeds_of}
 use Rattle.std.proofs.Common.{[], ◌∷◌, refl}
 use Rattle.law_time.specs.Choice.{may_send}
 use Rattle.law_time.specs.WorkedChoice.{the_near_lock}
-use Rattle.law_time.specs.WrongChoice.{begun_asleep, begun_before_abort, begun_before_request, begun_out_of_order, begun_unkept, begun_while_open, first_sent_twice, first_served_twice, nonce_asked_plainly, sealed_after_late, sealed_after_plain, sealed_again, sealed_for_none, sealed_for_other, sealed_for_skipped, sealed_for_uncounted, sealed_for_unkept, sealed_for_unkept_lost, sealed_twice, sealed_when_over, second_after_restart, second_sent_first, second_sent_twice, second_served_first, second_served_twice, sent_after_get, sent_after_third, sent_before_wait, sent_beyond, sent_for_nonce, sent_fourth, sent_though_working, sent_unsealed, sent_while_under_way, set_repeated}
+use Rattle.law_time.specs.WrongChoice.{begun_asleep, begun_before_abort, begun_before_request, begun_out_of_order, begun_unkept, begun_while_open, first_sent_twice, first_served_twice, nonce_asked_plainly, sealed_after_late, sealed_after_plain, sealed_again, sealed_for_none, sealed_for_other, sealed_for_skipped, sealed_for_uncounted, sealed_for_unkept, sealed_for_unkept_lost, sealed_though_denied, sealed_twice, sealed_when_over, second_after_restart, second_sent_first, second_sent_twice, second_served_first, second_served_twice, sent_after_get, sent_after_third, sent_before_wait, sent_beyond, sent_for_nonce, sent_fourth, sent_though_working, sent_unsealed, sent_while_under_way, set_repeated}
 use Rattle.law_wire.specs.law_transcript.Worked.{the_lock, the_plug, the_switch}
 use Rattle.law_time.proofs.Computing.{computing}
 use Rattle.law_wire.proofs.Deciding.{broken}
@@ -99,6 +99,10 @@ returns-clause-uncounted c = broken (may_send (heeds_of (the_lock ∷ []))) seal
 pub returns-clause-second_nonce : goal.returns-clause-second_nonce
 unfolding computing
 returns-clause-second_nonce c = broken (may_send (heeds_of (the_lock ∷ []))) sealed_again refl
+
+pub returns-clause-denied_nonce : goal.returns-clause-denied_nonce
+unfolding computing
+returns-clause-denied_nonce c = broken (may_send (heeds_of (the_lock ∷ []))) sealed_though_denied refl
 
 pub returns-clause-late_nonce : goal.returns-clause-late_nonce
 unfolding computing

@@ -2,7 +2,7 @@ use Rattle.law_time.specs.Heeds.{heeds_of}
 use Rattle.std.proofs.Common.{[], ◌∷◌, refl}
 use Rattle.law_time.specs.Choice.{may_send}
 use Rattle.law_time.specs.WorkedAttempts.{begun_kept}
-use Rattle.law_time.specs.WorkedChoice.{again_after_get, again_after_set, again_after_wait, again_though_working, begun_after_abort, begun_after_restart, begun_after_unkept, begun_beside_unkept, first_after_restart, first_again, sealed_beside_unkept, sealed_for_next, sealed_for_same, sealed_over_restart, segment_after_failed, segment_after_lost}
+use Rattle.law_time.specs.WorkedChoice.{again_after_get, again_after_set, again_after_wait, again_though_working, begun_after_abort, begun_after_restart, begun_after_unkept, begun_beside_unkept, first_after_restart, first_again, sealed_after_denial, sealed_beside_unkept, sealed_for_next, sealed_for_same, sealed_over_restart, segment_after_failed, segment_after_lost}
 use Rattle.law_wire.specs.law_transcript.Worked.{the_lock, the_plug, the_switch}
 use Rattle.law_time.proofs.Computing.{computing}
 use Rattle.law_wire.proofs.Deciding.{kept}
@@ -39,6 +39,10 @@ returns-clause-same_nonce c = kept (may_send (heeds_of (the_lock ∷ []))) seale
 pub returns-clause-next_nonce : goal.returns-clause-next_nonce
 unfolding computing
 returns-clause-next_nonce c = kept (may_send (heeds_of (the_lock ∷ []))) sealed_for_next refl
+
+pub returns-clause-following_denial : goal.returns-clause-following_denial
+unfolding computing
+returns-clause-following_denial c = kept (may_send (heeds_of (the_lock ∷ []))) sealed_after_denial refl
 
 pub returns-clause-over_restart : goal.returns-clause-over_restart
 unfolding computing
