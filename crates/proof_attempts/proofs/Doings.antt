@@ -137,7 +137,7 @@ held_nodes : (g : HostState) (n : ℕ) (held : Bool) → (holding g n held).node
 held_nodes g n true = refl
 held_nodes g n false = refl
 
-nodes_are : (h : HostState) (event : HostEvent) → (after h event).nodes ≡ does_all h.nodes (did h event)
+pub nodes_are : (h : HostState) (event : HostEvent) → (after h event).nodes ≡ does_all h.nodes (did h event)
 nodes_are h (Requests_do event moment) = end_nodes (requests_do h event) (end_at h.requests event) moment
 nodes_are h (Finishes n session id command status wake_request) = held_nodes (finishing h n id command status) n (is_held h n wake_request)
 nodes_are h (Offers n) = offered_nodes h n (live_of h.nonces n)

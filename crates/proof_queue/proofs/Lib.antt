@@ -4,15 +4,15 @@ mod Refused
 mod Asking
 mod Stills
 mod Sleepers
-mod Orders
+pub mod Orders
 mod Looks
 mod Tells
 mod Pumped
-mod Joined
+pub mod Joined
 mod Dropping
 mod Sleeps
 mod Ending
-mod Seeing
+pub mod Seeing
 mod Ties
 mod Pace
 mod Loose

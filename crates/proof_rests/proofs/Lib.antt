@@ -1,11 +1,11 @@
-mod Freeing
+pub mod Freeing
 mod Entries
 mod Counting
 mod Wanted
 mod Walking
 mod Interviewing
-mod AtRests
-mod Done
+pub mod AtRests
+pub mod Done
 pub use Rattle.proof_nonces.proofs.proof_attempts_Opening as Opening
 pub use Rattle.proof_nonces.proofs.Releasing
 pub use Rattle.proof_nonces.proofs.Sleeping

@@ -12,6 +12,8 @@ ghost use Rattle.proof_nonces.specs.proof_attempts.proof_requests.law_host.Heard
 ghost use Rattle.proof_nonces.specs.proof_attempts.proof_requests.proof_alone.State.{HostMachine, first_alone};
 ghost use Rattle.proof_nonces.specs.proof_attempts.proof_requests.proof_alone.Phases.{Resting};
 ghost use Rattle.proof_nonces.specs.proof_attempts.proof_requests.proof_alone.Runs.{Run, Told};
+ghost use Rattle.proof_nonces.specs.proof_attempts.Since.{AlongRuns};
+ghost use Rattle.proof_rests.specs.Known.{KnowsAll};
 ghost use Rattle.proof_rests.specs.Undone.{LeavesNothing};
 
 use proof_nonces::attempts::hosts_know_their_work;
@@ -19,10 +21,11 @@ use proof_nonces::attempts::requests::alone::{lines_are_a_hosts, what_is_heard_i
 use proof_nonces::attempts::requests::{hosts_ask_as_told, hosts_tell_of_ends};
 use proof_nonces::work::{ends_of_tasks_are_told, tasks_end_in_order};
 
-/// In any run of a host alone, over a keeper that tells its records and has none at first: at each line and each tick before which the last request was over,
+/// In any run of a host alone, over a keeper that tells its records and has none at first, the Sets, Gets and interviews that lines asked for are counted: at each line and each tick before which the last request was over,
 /// no abort is owed, and each Set, Get and interview that lines asked for since the host started has ended; of a node for which the keeper has failed since
 /// then an interview may be left without an end. Where the run ends at rest, with no tick of its line to come, so it is in the end.
 pub fn hosts_leave_nothing()
+    ensures known { (keys : Keys) → AlongRuns keys KnowsAll }
     ensures told { (keys : Keys) (told : List Entry) → Told (first_alone keys (Some [])) told → LeavesNothing false told }
     ensures whole { (keys : Keys) (told : List Entry) (m : HostMachine) → Run (first_alone keys (Some [])) Resting told m → m.left ≡ 0 →
         LeavesNothing true told }

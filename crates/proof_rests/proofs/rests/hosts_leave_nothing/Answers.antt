@@ -57,6 +57,9 @@ module _ (c : goal.After-ends_of_tasks_are_told) (keys : Keys) where
       law_along keys KnowsAll (WasSo is_done) all_along (Allows (may_begin is_done)) (rests_walk is_done KnowsAll clocks (done_at_rest c.tasks_end_in_order.ensures.none))
       (λ awaits. absurd (let bad : false ≡ true = awaits in cc))
 
+pub returns-clause-known : goal.returns-clause-known
+returns-clause-known c = λ keys. all_along c keys
+
 pub returns-clause-told : goal.returns-clause-told
 returns-clause-told c = λ keys told run.
     record { between = (rests_along c keys run.0 told run.1 run.2).0; in_the_end = λ whole. absurd (let bad : false ≡ true = whole in cc) }

@@ -1,0 +1,231 @@
+-- What an event makes of what a node has still to give: it runs only where it ran, with as many segments, and has no text that it had not.
+use Rattle.std.proofs.Common.{◌≡◌, ℕ, ◌+◌, ◌-◌, ◌==◌, ◌&&◌, nat_lt, Bool, true, false, if◌then◌else◌, Option, Some, None, List, [], ◌∷◌, refl, sym, ◌∙◌}
+use Rattle.std.specs.List.{AllByRecursion}
+use Rattle.serial_link.specs.State.{tick_side}
+use Rattle.supervision.specs.Host.{told_of}
+use Rattle.supervision.specs.declared.host_node.Told.{Told}
+use Rattle.supervision.specs.declared.host_node.Told.TheVariants.{Final, Working, Old}
+use Rattle.host_requests.specs.Events.{RequestsEvent, end_at}
+use Rattle.host_requests.specs.Events.RequestsEvent.{Fails as request_fails}
+use Rattle.host_requests.specs.declared.end.End.{End}
+use Rattle.host_requests.specs.declared.end.How.{How}
+use Rattle.host_requests.specs.declared.task.Purpose.{Purpose}
+use Rattle.host_requests.specs.declared.task.Purpose.TheVariants.{Attempt, Housekeeping, Abort}
+use Rattle.host_requests.specs.declared.task.Task.{Task}
+use Rattle.host_requests.specs.declared.task.Task.TheVariants.{NoMore}
+use Rattle.host_node.specs.declared.attempt.Moment.{Moment}
+use Rattle.host_node.specs.declared.attempt.Moment.TheVariants.{BeforeItsTick, BetweenTicks}
+use Rattle.host_node.specs.declared.no_more.NoMore.TheVariants.{Unasked}
+use Rattle.host_node.specs.declared.series.Series.{Series}
+use Rattle.host_node.specs.declared.series.Series.TheVariants.{Idle, Due, Running}
+use Rattle.host_node.specs.State.{NodeState, has_waiting, is_idle, is_open, is_running, is_up}
+use Rattle.host_node.specs.Steps.{after_again, after_again_tick, after_attempt_end, after_hold_tick, after_no_more, after_occasion, after_sleep, after_told, asleep, new_series, next_due, series_over, tried_again, with_again, with_wait, without_attempt}
+use Rattle.host_node.specs.Events.{NodeEvent, after as after_node}
+use Rattle.host_node.specs.Events.NodeEvent.{Accepts as node_accepts, Begins as node_begins, Starts as node_starts, Gives_text as node_gives_text, Succeeds, Takes_nonce as node_takes_nonce, Restores_seen, Ends_attempt, Reports, Notifies as node_notifies, Sleeps, Ends_no_more, Ticks, Restarts as node_restarts}
+use Rattle.host_model.specs.State.{HostState}
+use Rattle.host_model.specs.After.{gives_up, is_held}
+use Rattle.host_model.specs.Ends.{PartEnd, Good, Passed_over, Bad, part_end}
+use Rattle.host_model.specs.Events.{HostEvent, Accepts, Cancels, Joins, Requests_do, Interviews, Works, Finishes, Takes_nonce, Notifies, Line_ticks, Node_ticks, Queues_no_more, Drops_no_more, Starts, Gives_text, Gives_segment, Begins, Begin_unkept}
+use Rattle.proof_attempts.proofs.Doings.{Doing, did, does_at, end_does, failing_does, held_does, part_does, purpose_does, task_does}
+
+-- ---- nodes
+
+-- and where it gives none, it runs without a text only where it ran without one
+pub record Stays (given : Bool) (s t : NodeState) : Type 0 where
+  pub seen : t.seen ≡ s.seen
+  pub ran : t.series ≡ Running → s.series ≡ Running
+  pub segments : t.series ≡ Running → t.segments ≡ s.segments
+  pub text : (sealed : List ℕ) → t.text ≡ Some sealed → s.text ≡ Some sealed
+  pub pending : (plain : List ℕ) → t.pending ≡ Some plain → s.pending ≡ Some plain
+  pub kept : given ≡ false → t.series ≡ Running → t.text ≡ None → s.text ≡ None
+
+pub none_of : (o : Option (List ℕ)) → ((x : List ℕ) → o ≡ Some x → ⊥) → o ≡ None
+none_of None none = refl
+none_of (Some x) none = absurd (none x refl)
+
+pub no_some : (A : Type 0) (o : Option (List ℕ)) (x : List ℕ) → o ≡ None → o ≡ Some x → A
+no_some A o x none some = absurd (let bad : ◌≡◌ {A = Option (List ℕ)} None (Some x) = sym none ∙ some in cc)
+
+never : (A : Type 0) (x : List ℕ) → ◌≡◌ {A = Option (List ℕ)} None (Some x) → A
+never A x is = absurd (let bad : ◌≡◌ {A = Option (List ℕ)} None (Some x) = is in cc)
+
+pub due_not : Due ≡ Running → ⊥
+due_not is = cc
+
+pub idle_not : Idle ≡ Running → ⊥
+idle_not is = cc
+
+module _ (given : Bool) where
+  same : (s t : NodeState) → t.seen ≡ s.seen → t.series ≡ s.series → t.segments ≡ s.segments → t.text ≡ s.text → t.pending ≡ s.pending → Stays given s t
+  same s t seen series segments text pending = record {
+    seen = seen;
+    ran = λ runs. sym series ∙ runs;
+    segments = λ runs. segments;
+    text = λ sealed is. sym text ∙ is;
+    pending = λ plain is. sym pending ∙ is;
+    kept = λ none runs no_text. sym text ∙ no_text;
+  }
+
+  pub stays_same : (s : NodeState) → Stays given s s
+  stays_same s = same s s refl refl refl refl refl
+
+  -- it does not run
+  stopped : (s t : NodeState) → t.seen ≡ s.seen → (t.series ≡ Running → ⊥) → ((x : List ℕ) → t.text ≡ Some x → s.text ≡ Some x) → ((x : List ℕ) → t.pending ≡ Some x → s.pending ≡ Some x) → Stays given s t
+  stopped s t seen not text pending =
+      record { seen = seen; ran = λ runs. absurd (not runs); segments = λ runs. absurd (not runs); text = text; pending = pending; kept = λ none runs no_text. absurd (not runs) }
+
+  pub then_stays : (s t u : NodeState) → Stays given s t → Stays given t u → Stays given s u
+  then_stays s t u first next = record {
+    seen = next.seen ∙ first.seen;
+    ran = λ runs. first.ran (next.ran runs);
+    segments = λ runs. next.segments runs ∙ first.segments (next.ran runs);
+    text = λ sealed is. first.text sealed (next.text sealed is);
+    pending = λ plain is. first.pending plain (next.pending plain is);
+    kept = λ none runs no_text. first.kept none (next.ran runs) (next.kept none runs no_text);
+  }
+
+  either : (s : NodeState) (b : Bool) (one other : NodeState) → Stays given s one → Stays given s other → Stays given s (if b then one else other)
+  either s true one other p q = p
+  either s false one other p q = q
+
+  occasion_stays : (s : NodeState) → Stays given s (after_occasion s)
+  occasion_stays s = either s (is_open s && is_up s && is_idle s.series) (new_series s) s (stopped s (new_series s) refl due_not (λ x is. is) (λ x is. is)) (stays_same s)
+
+  sleep_stays : (s : NodeState) → Stays given s (after_sleep s)
+  sleep_stays s = either s s.listens s (asleep s) (stays_same s) (same s (asleep s) refl refl refl refl refl)
+
+  sign_stays : (s : NodeState) → Stays given s (after_node s Succeeds)
+  sign_stays s = either s (is_running s.series) (with_wait s 100) s (same s (with_wait s 100) refl refl refl refl refl) (stays_same s)
+
+  end_stays : (s : NodeState) (moment : Moment) → Stays given s (after_attempt_end s moment)
+  end_stays s moment =
+      let attempts : ℕ = s.book.attempts + 1 in
+      let over : NodeState = series_over (without_attempt s) attempts moment in
+      let due : NodeState = next_due (without_attempt s) attempts in
+      either s (is_running s.series) (if nat_lt attempts 3 then due else after_sleep over) s
+      (either s (nat_lt attempts 3) due (after_sleep over) (stopped s due refl due_not (λ x is. never _ x is) (λ x is. never _ x is))
+      (then_stays s over (after_sleep over) (stopped s over refl idle_not (λ x is. never _ x is) (λ x is. never _ x is)) (sleep_stays over))) (stays_same s)
+
+  told_stays : (s : NodeState) (status : ℕ) (told : Told) → Stays given s (after_told s status told)
+  told_stays s status (Final session) = stopped s _ refl idle_not (λ x is. never _ x is) (λ x is. never _ x is)
+  told_stays s status Working = sign_stays s
+  told_stays s status Old = stays_same s
+
+  again_stays : (s : NodeState) → Stays given s (after_again_tick s)
+  again_stays s =
+      let over : NodeState = with_again s 0 in
+      let less : NodeState = with_again s (s.again_wait - 1) in
+      either s (s.again_wait == 1) (after_again over) less
+      (either s (has_waiting over) (after_occasion over) over (then_stays s over (after_occasion over) (same s over refl refl refl refl refl) (occasion_stays over)) (same s over refl refl refl refl refl))
+      (same s less refl refl refl refl refl)
+
+  ticks_stay : (s : NodeState) → Stays given s (after_node s Ticks)
+  ticks_stay s =
+      let held : NodeState = after_hold_tick s in
+      let ticked : NodeState = after_again_tick held in
+      let less : NodeState = with_wait ticked (ticked.attempt_wait - 1) in
+      let up_to : Stays given s ticked = then_stays s held ticked (same s held refl refl refl refl refl) (again_stays held) in
+      either s (ticked.attempt_wait == 1) (after_attempt_end ticked BetweenTicks) less (then_stays s ticked (after_attempt_end ticked BetweenTicks) up_to (end_stays ticked BetweenTicks))
+      (then_stays s ticked less up_to (same ticked less refl refl refl refl refl))
+
+  -- no attempt starts, no nonce is taken, and the host does not start; nor is a text given, where none is
+  abbrev pub GoesOn : NodeEvent → Type 0
+  GoesOn (node_starts plan) = ⊥
+  GoesOn node_gives_text = given ≡ true
+  GoesOn (node_takes_nonce seen text) = ⊥
+  GoesOn (Restores_seen seen) = ⊥
+  GoesOn node_restarts = ⊥
+  GoesOn event = Unit {0}
+
+  gives_stays : (s : NodeState) → given ≡ true → Stays given s (after_node s node_gives_text)
+  gives_stays s is = record {
+    seen = refl;
+    ran = λ runs. runs;
+    segments = λ runs. refl;
+    text = λ sealed none. never _ sealed none;
+    pending = λ plain there. there;
+    kept = λ none runs no_text. absurd (let bad : true ≡ false = sym is ∙ none in cc);
+  }
+
+  pub node_stays : (s : NodeState) (event : NodeEvent) → GoesOn event → Stays given s (after_node s event)
+  node_stays s node_accepts goes = occasion_stays s
+  node_stays s node_begins goes = stopped s _ refl due_not (λ x is. is) (λ x is. is)
+  node_stays s (node_starts plan) goes = absurd goes
+  node_stays s node_gives_text goes = gives_stays s goes
+  node_stays s Succeeds goes = sign_stays s
+  node_stays s (node_takes_nonce seen text) goes = absurd goes
+  node_stays s (Restores_seen seen) goes = absurd goes
+  node_stays s (Ends_attempt moment) goes = end_stays s moment
+  node_stays s (Reports id status) goes = told_stays s status (told_of s.book id status)
+  node_stays s node_notifies goes =
+      let woken : NodeState = record s { awake = true; no_more = tried_again s.no_more } in then_stays s woken (after_occasion woken) (same s woken refl refl refl refl refl) (occasion_stays woken)
+  node_stays s Sleeps goes = sleep_stays s
+  node_stays s Ends_no_more goes =
+      let told : NodeState = after_no_more s Unasked in then_stays s told (after_sleep told) (same s told refl refl refl refl refl) (sleep_stays told)
+  node_stays s Ticks goes = ticks_stay s
+  node_stays s node_restarts goes = absurd goes
+  node_stays s event goes = same s _ refl refl refl refl refl
+
+  -- ---- the events of a host
+
+  abbrev AllGoOn : List Doing → Type 0
+  AllGoOn doings = AllByRecursion (λ (one : Doing). GoesOn one.event) doings
+
+  pub all_stay : (n : ℕ) (s : NodeState) (doings : List Doing) → AllGoOn doings → Stays given s (does_at n s doings)
+  all_stay n s [] all = stays_same s
+  all_stay n s (one ∷ more) all =
+      let next : NodeState = if one.node == n then after_node s one.event else s in
+      then_stays s next (does_at n next more) (either s (one.node == n) (after_node s one.event) s (node_stays s one.event all.0) (stays_same s)) (all_stay n next more all.1)
+
+  abbrev pub LeavesTexts : HostEvent → Type 0
+  LeavesTexts (Starts n plan more payload) = ⊥
+  LeavesTexts (Gives_text n payload) = given ≡ true
+  LeavesTexts (Takes_nonce n seen text) = ⊥
+  LeavesTexts event = Unit {0}
+
+  part_goes : (k : ℕ) (end : PartEnd) (moment : Moment) → AllGoOn (part_does k end moment)
+  part_goes k Good moment = (tt, tt)
+  part_goes k Passed_over moment = tt
+  part_goes k Bad moment = (tt, tt)
+
+  task_goes : (task : Task) → AllGoOn (task_does task)
+  task_goes (NoMore k) = (tt, tt)
+  task_goes task = tt
+
+  purpose_goes : (purpose : Purpose) (how : How) (moment : Moment) → AllGoOn (purpose_does purpose how moment)
+  purpose_goes (Attempt k more payload) how moment = part_goes k (part_end more how) moment
+  purpose_goes (Housekeeping task) how moment = task_goes task
+  purpose_goes Abort how moment = tt
+
+  end_goes : (end : Option End) (moment : Moment) → AllGoOn (end_does end moment)
+  end_goes None moment = tt
+  end_goes (Some end) moment = purpose_goes end.purpose end.how moment
+
+  failing_goes : (gives : Bool) (h : HostState) → AllGoOn (failing_does gives h)
+  failing_goes true h = end_goes (end_at h.requests request_fails) BeforeItsTick
+  failing_goes false h = tt
+
+  held_goes : (n : ℕ) (held : Bool) → AllGoOn (held_does n held)
+  held_goes n true = (tt, tt)
+  held_goes n false = tt
+
+  pub event_goes : (h : HostState) (event : HostEvent) → LeavesTexts event → AllGoOn (did h event)
+  event_goes h (Accepts order carriage) none = (tt, (tt, tt))
+  event_goes h (Cancels command) none = (tt, tt)
+  event_goes h (Joins n) none = (tt, tt)
+  event_goes h (Requests_do event moment) none = end_goes (end_at h.requests event) moment
+  event_goes h (Interviews n listens classes update) none = (tt, tt)
+  event_goes h (Works n id) none = (tt, tt)
+  event_goes h (Finishes n session id command status wake_request) none = (tt, held_goes n (is_held h n wake_request))
+  event_goes h (Takes_nonce n seen text) none = absurd none
+  event_goes h (Notifies n) none = (tt, tt)
+  event_goes h Line_ticks none = failing_goes (gives_up h.side.turn (tick_side h.side).turn) h
+  event_goes h (Node_ticks n) none = (tt, tt)
+  event_goes h (Queues_no_more n) none = (tt, tt)
+  event_goes h (Drops_no_more n) none = (tt, tt)
+  event_goes h (Starts n plan more payload) none = absurd none
+  event_goes h (Gives_text n payload) none = (none, tt)
+  event_goes h (Gives_segment n more payload) none = (tt, tt)
+  event_goes h (Begins n session command) none = (tt, tt)
+  event_goes h (Begin_unkept n) none = (tt, tt)
+  event_goes h event none = tt

@@ -1,0 +1,10 @@
+pub mod Waits
+pub mod Served
+pub mod Blocked
+pub mod Plans
+pub mod Ready
+pub mod Nodes
+pub mod Turning
+pub mod Choosing
+pub mod Resting
+pub mod Counting
