@@ -109,17 +109,17 @@ final_by true true k session is = absurd (let bad : told.Working ≡ told.Final 
 final_by false working k session is = absurd (let bad : told.Old ≡ told.Final session = is in cc)
 
 -- the last session is open, and has the id
-abbrev names_open : HostBook → ℕ → Bool
+abbrev pub names_open : HostBook → ℕ → Bool
 names_open book id = is_some (open_session book) && (length book.commands % 64 == id)
 
-is_old : (commands : List ℕ) (outcome : Option ℕ) (attempts id status : ℕ) → told_of (record { commands = commands; outcome = outcome; attempts = attempts }) id status ≡ told.Old
+pub is_old : (commands : List ℕ) (outcome : Option ℕ) (attempts id status : ℕ) → told_of (record { commands = commands; outcome = outcome; attempts = attempts }) id status ≡ told.Old
     → names_open (record { commands = commands; outcome = outcome; attempts = attempts }) id ≡ false
 is_old [] None attempts id status is = refl
 is_old (first ∷ more) None attempts id status is =
     flip id (length (first ∷ more) % 64) false (old_by (id == length (first ∷ more) % 64) (status == WORKING) (length (first ∷ more)) is)
 is_old commands (Some ended) attempts id status is = refl
 
-is_working : (commands : List ℕ) (outcome : Option ℕ) (attempts id status : ℕ) → told_of (record { commands = commands; outcome = outcome; attempts = attempts }) id status ≡ told.Working
+pub is_working : (commands : List ℕ) (outcome : Option ℕ) (attempts id status : ℕ) → told_of (record { commands = commands; outcome = outcome; attempts = attempts }) id status ≡ told.Working
     → (names_open (record { commands = commands; outcome = outcome; attempts = attempts }) id ≡ true) × ((status == WORKING) ≡ true)
 is_working [] None attempts id status is = absurd (let bad : told.Old ≡ told.Working = is in cc)
 is_working (first ∷ more) None attempts id status is =
@@ -127,21 +127,21 @@ is_working (first ∷ more) None attempts id status is =
     (flip id (length (first ∷ more) % 64) true named, working)
 is_working commands (Some ended) attempts id status is = absurd (let bad : told.Old ≡ told.Working = is in cc)
 
-last_some : (P : ℕ → Type 0) (first : ℕ) (more : List ℕ)
+pub last_some : (P : ℕ → Type 0) (first : ℕ) (more : List ℕ)
     → (command : ℕ) × (slice_get (first ∷ more) (length more) ≡ Some command) × (drop (length more) (first ∷ more) ≡ command ∷ []) × (AllByRecursion P (first ∷ more) → P command)
 last_some P first [] = (first, refl, refl, λ all. all.0)
 last_some P first (next ∷ more) = let (command, got, last, owned) = last_some P next more in (command, got, last, λ all. owned all.1)
 
 -- the command of the session that ends
-record IsEnded (P : ℕ → Type 0) (book : HostBook) (id status session : ℕ) : Type 0 where
-  named : names_open book id ≡ true
-  final : (status == WORKING) ≡ false
-  command : ℕ
-  carried : command_of_session book.commands session ≡ Some command
-  last : last_of book.commands ≡ command ∷ []
-  owned : AllByRecursion P book.commands → P command
+pub record IsEnded (P : ℕ → Type 0) (book : HostBook) (id status session : ℕ) : Type 0 where
+  pub named : names_open book id ≡ true
+  pub final : (status == WORKING) ≡ false
+  pub command : ℕ
+  pub carried : command_of_session book.commands session ≡ Some command
+  pub last : last_of book.commands ≡ command ∷ []
+  pub owned : AllByRecursion P book.commands → P command
 
-is_final : (P : ℕ → Type 0) (commands : List ℕ) (outcome : Option ℕ) (attempts id status session : ℕ)
+pub is_final : (P : ℕ → Type 0) (commands : List ℕ) (outcome : Option ℕ) (attempts id status session : ℕ)
     → told_of (record { commands = commands; outcome = outcome; attempts = attempts }) id status ≡ told.Final session
     → IsEnded P (record { commands = commands; outcome = outcome; attempts = attempts }) id status session
 is_final P [] None attempts id status session is = absurd (let bad : told.Old ≡ told.Final session = is in cc)
@@ -168,10 +168,10 @@ IsNoValues message = Unit {0}
 module _ (past : List Entry) (h : HostState) (ties : Ties past h) (n : ℕ) (payload : List ℕ) where
   -- ---- reports
 
-  of_open_is : (id : ℕ) (b : Bool) → names_open (node_of h n).book id ≡ b → is_of_open n past id ≡ b
+  pub of_open_is : (id : ℕ) (b : Bool) → names_open (node_of h n).book id ≡ b → is_of_open n past id ≡ b
   of_open_is id b is = ap₂ (λ (o : Bool) (l : List ℕ). o && (length l % 64 == id)) (ties.opened n) (ties.facts.begun n) ∙ is
 
-  openly_is : (b : Bool) → is_secure (node_of h n).classes ≡ b → lists (host_list listing_heard past n) 0x98 ≡ b
+  pub openly_is : (b : Bool) → is_secure (node_of h n).classes ≡ b → lists (host_list listing_heard past n) 0x98 ≡ b
   openly_is b is = sym (secure_is (node_of h n).classes ∙ ap (λ (o : Option (List ℕ)). lists (unwrap_or o []) 0x98) (ties.lists_so n)) ∙ is
 
   -- a node with a session has its place
@@ -212,13 +212,13 @@ module _ (past : List Entry) (h : HostState) (ties : Ties past h) (n : ℕ) (pay
         ∙ sym (ap (λ (o : Option Command). stored_entries n (settings_with final.Success o)) owned.found)
 
     -- the notes that the host puts out, and those that the transcript asks
-    abbrev put_out : FinalStatus → List Entry
+    abbrev pub put_out : FinalStatus → List Entry
     put_out by = entry.Out ended.command (ended_of by) ∷ (stored_entries n (settings_with by (command_at h.commands ended.command)) ++ held_entries n (is_held h n wake))
 
-    abbrev asked_for : FinalStatus → List Entry
+    abbrev pub asked_for : FinalStatus → List Entry
     asked_for by = flat_map (λ how. flat_map (final_notes (hearing_of n payload sealed) past wake how) (last_command n past)) (ended_of by ∷ [])
 
-    ends_so : (by : FinalStatus) → put_out by ≡ asked_for by
+    pub ends_so : (by : FinalStatus) → put_out by ≡ asked_for by
     ends_so by =
         let notes : ℕ → List Entry = final_notes (hearing_of n payload sealed) past wake (ended_of by) in
         let last : last_command n past ≡ ended.command ∷ [] = ap (λ (l : List ℕ). last_of l) (ties.facts.begun n) ∙ ended.last in
