@@ -3,7 +3,7 @@ use Rattle.std.proofs.Common.{◌≡◌, ◌<◌, ℕ, ◌&&◌, Bool, true, fal
 use Rattle.std.specs.Prelude.{Option, None, Some}
 use Rattle.std.proofs.lemmas.Bool.{cases_eq, cases_lt}
 use Rattle.std.proofs.lemmas.List.{get_or-set_same, get_or-set_other, length-set, set_past}
-use Rattle.supervision.specs.Host.{told_of}
+use Rattle.supervision.specs.Host.{open_session, told_of}
 use Rattle.supervision.specs.declared.host_node.Told.{Told}
 use Rattle.supervision.specs.declared.host_node.Told.TheVariants.{Final, Working}
 use Rattle.host_keep.specs.Status.{status_byte}
@@ -23,6 +23,8 @@ pub record Alike (old new : NodeState) : Type 0 where
   pub seen : new.seen ≡ old.seen
   pub text : new.text ≡ old.text
   pub pending : new.pending ≡ old.pending
+  pub opened : open_session new.book ≡ open_session old.book
+  pub commands : new.book.commands ≡ old.book.commands
 
 -- nothing is left to be sealed
 pub record Cleared (old new : NodeState) : Type 0 where
@@ -31,10 +33,16 @@ pub record Cleared (old new : NodeState) : Type 0 where
   pub pending : new.pending ≡ None
 
 pub same_alike : (old new : NodeState) → new ≡ old → Alike old new
-same_alike old new is = record { seen = ap (λ (n : NodeState). n.seen) is; text = ap (λ (n : NodeState). n.text) is; pending = ap (λ (n : NodeState). n.pending) is }
+same_alike old new is = record { seen = ap (λ (n : NodeState). n.seen) is; text = ap (λ (n : NodeState). n.text) is; pending = ap (λ (n : NodeState). n.pending) is; opened = ap (λ (n : NodeState). open_session n.book) is; commands = ap (λ (n : NodeState). n.book.commands) is }
 
 then_alike : (old mid new : NodeState) → Alike old mid → Alike mid new → Alike old new
-then_alike old mid new first next = record { seen = next.seen ∙ first.seen; text = next.text ∙ first.text; pending = next.pending ∙ first.pending }
+then_alike old mid new first next = record {
+  seen = next.seen ∙ first.seen;
+  text = next.text ∙ first.text;
+  pending = next.pending ∙ first.pending;
+  opened = next.opened ∙ first.opened;
+  commands = next.commands ∙ first.commands;
+}
 
 then_cleared : (old mid new : NodeState) → Cleared old mid → Alike mid new → Cleared old new
 then_cleared old mid new first next = record { seen = next.seen ∙ first.seen; text = next.text ∙ first.text; pending = next.pending ∙ first.pending }
@@ -43,8 +51,8 @@ sign_alike : (n : NodeState) → Alike n (if is_running n.series then with_wait 
 sign_alike n = by (is_running n.series)
   where
     by : (b : Bool) → Alike n (if b then with_wait n wait_ticks else n)
-    by true = record { seen = refl; text = refl; pending = refl }
-    by false = record { seen = refl; text = refl; pending = refl }
+    by true = record { seen = refl; text = refl; pending = refl; opened = refl; commands = refl }
+    by false = record { seen = refl; text = refl; pending = refl; opened = refl; commands = refl }
 
 works_alike : (n : NodeState) (id : ℕ) → told_of n.book id 1 ≡ Working → Alike n (after_node n (Reports id 1))
 works_alike n id is = subst (λ (t : Told). Alike n (after_told n 1 t)) (sym is) (sign_alike n)
@@ -56,11 +64,11 @@ occasion_alike : (n m : NodeState) → Alike n m → Alike n (after_occasion m)
 occasion_alike n m alike = by (is_open m && is_up m && is_idle m.series)
   where
     by : (b : Bool) → Alike n (if b then new_series m else m)
-    by true = record { seen = alike.seen; text = alike.text; pending = alike.pending }
+    by true = record { seen = alike.seen; text = alike.text; pending = alike.pending; opened = alike.opened; commands = alike.commands }
     by false = alike
 
 wakes_alike : (n : NodeState) → Alike n (after_node n node_notifies)
-wakes_alike n = occasion_alike n (record n { awake = true; no_more = tried_again n.no_more }) (record { seen = refl; text = refl; pending = refl })
+wakes_alike n = occasion_alike n (record n { awake = true; no_more = tried_again n.no_more }) (record { seen = refl; text = refl; pending = refl; opened = refl; commands = refl })
 
 -- ---- in the table
 
@@ -81,8 +89,8 @@ does_alike h n event m alike = elim (cases_eq m n) [
 ]
 
 hold_alike : (h : HostState) (n : ℕ) (held : Bool) (m : ℕ) → Alike (node_of h m) (node_of (holding h n held) m)
-hold_alike h n true m = does_alike h n Holds m (record { seen = refl; text = refl; pending = refl })
-hold_alike h n false m = record { seen = refl; text = refl; pending = refl }
+hold_alike h n true m = does_alike h n Holds m (record { seen = refl; text = refl; pending = refl; opened = refl; commands = refl })
+hold_alike h n false m = record { seen = refl; text = refl; pending = refl; opened = refl; commands = refl }
 
 -- ---- events
 
@@ -113,6 +121,6 @@ pub takes_other : (h : HostState) (n seen : ℕ) (text : List ℕ) (m : ℕ) →
 takes_other h n seen text m other = other_node h n (node_takes_nonce seen text) m other
 
 -- what a hold leaves
-pub hold_same : (h : HostState) (n : ℕ) (held : Bool) → ((holding h n held).nonces ≡ h.nonces) × ((holding h n held).requests ≡ h.requests)
-hold_same h n true = (refl, refl)
-hold_same h n false = (refl, refl)
+pub hold_same : (h : HostState) (n : ℕ) (held : Bool) → ((holding h n held).nonces ≡ h.nonces) × ((holding h n held).requests ≡ h.requests) × ((holding h n held).commands ≡ h.commands)
+hold_same h n true = (refl, refl, refl)
+hold_same h n false = (refl, refl, refl)

@@ -16,15 +16,16 @@ use Rattle.law_time.specs.Heeds.{Heeds}
 use Rattle.host_requests.specs.declared.task.Task.{Task}
 use Rattle.host_requests.specs.declared.task.Task.TheVariants.{Offer as waits_offer, Segment as waits_segment}
 use Rattle.host_requests.specs.Events.RequestsEvent.{Pushes}
-use Rattle.host_node.specs.State.{NodeState}
+use Rattle.supervision.specs.Host.{command_at as command_of_session}
 use Rattle.host_model.specs.State.{HostState, node_of}
 use Rattle.host_model.specs.After.{giving, requests_do, spending}
 use Rattle.proof_messages.specs.Hosts.{HasTexts}
+use Rattle.proof_host.specs.Tables.{taken_at}
 use Rattle.proof_nonces.specs.proof_known.law_host.Course.{Book, Giver, Offer, Opening, Ready, Seal, Sealer, book_of, nothing_sealed}
 use Rattle.proof_nonces.specs.proof_known.law_host.Nonces.{IsOpening, IsSeal, is_late, nonce_with}
 use Rattle.proof_nonces.specs.Counted.{LiveSo}
 use Rattle.proof_nonces.proofs.Accounts.{Redrawn, SetTo, given_next, gave_grown, gives_drawn, same_grown, set_goes, spends_grown, spent_live}
-use Rattle.proof_hearing.specs.Books.{BooksOf, GiverSo, IsLowOffer, IsLowOpening, IsReady, SealerSo, nonce_to, nonces_to}
+use Rattle.proof_hearing.specs.Books.{BooksOf, GiverSo, IsLowOffer, IsLowOpening, IsReady, SealedOpen, SealerSo, nonce_to, nonces_to}
 use Rattle.proof_hearing.proofs.Alike.{Alike, Cleared}
 use Rattle.proof_hearing.proofs.Putting.{giver_here, giver_other, givers_stay, sealer_here, sealer_other, sealers_stay, with_giver_book, with_sealer_book}
 
@@ -102,17 +103,29 @@ none_live giver = record giver { live = false }
 -- ---- sealers
 
 module _ (key : List ℕ) (heeds : Heeds) where
-  pub sealer_on : (past later : List Entry) (m : ℕ) (old new : NodeState) (sealer : Sealer) → Alike old new → (is_late heeds past m ≡ true → is_late heeds later m ≡ true) → SealerSo key heeds past m old sealer
-      → SealerSo key heeds later m new sealer
-  sealer_on past later m old new sealer alike late so = record {
+  -- a session that is open stays so
+  pub open_on : (h g : HostState) (m : ℕ) → Alike (node_of h m) (node_of g m) → ((number : ℕ) → taken_at g.commands number ≡ taken_at h.commands number) → SealedOpen h m → SealedOpen g m
+  open_on h g m alike orders was = record {
+    session = was.session;
+    opened = alike.opened ∙ was.opened;
+    number = was.number;
+    at = ap (λ (l : List ℕ). command_of_session l was.session) alike.commands ∙ was.at;
+    taken = was.taken;
+    found = orders was.number ∙ was.found;
+    form = was.form;
+  }
+
+  pub sealer_on : (past later : List Entry) (m : ℕ) (h g : HostState) (sealer : Sealer) → Alike (node_of h m) (node_of g m) → ((number : ℕ) → taken_at g.commands number ≡ taken_at h.commands number)
+      → (is_late heeds past m ≡ true → is_late heeds later m ≡ true) → SealerSo key heeds past m h sealer → SealerSo key heeds later m g sealer
+  sealer_on past later m h g sealer alike orders late so = record {
     seen = so.seen ∙ sym alike.seen;
     texts = record { text = λ t at. so.texts.text t (sym alike.text ∙ at); pending = λ p at. so.texts.pending p (sym alike.pending ∙ at) };
     waits = λ none. on (so.waits (sym alike.pending ∙ none));
   }
     where
-      on : (sealer.pending ≡ []) ⊎ (is_late heeds past m ≡ true) → (sealer.pending ≡ []) ⊎ (is_late heeds later m ≡ true)
+      on : (sealer.pending ≡ []) ⊎ ((is_late heeds past m ≡ true) × SealedOpen h m) → (sealer.pending ≡ []) ⊎ ((is_late heeds later m ≡ true) × SealedOpen g m)
       on (inl is) = inl is
-      on (inr is) = inr (late is)
+      on (inr is) = inr (late is.0, open_on h g m alike orders is.1)
 
   none_some : (t : List ℕ) (o : Option (List ℕ)) → o ≡ None → o ≡ Some t → ⊥
   none_some t o none at = let bad : ◌≡◌ {A = Option (List ℕ)} None (Some t) = sym none ∙ at in cc
@@ -120,21 +133,30 @@ module _ (key : List ℕ) (heeds : Heeds) where
   some_same : (t u : List ℕ) → Some t ≡ Some u → t ≡ u
   some_same t u e = cc
 
-  sealer_cleared : (past later : List Entry) (m : ℕ) (old new : NodeState) (sealer : Sealer) → Cleared old new → SealerSo key heeds past m old sealer → SealerSo key heeds later m new (nothing_sealed sealer)
-  sealer_cleared past later m old new sealer clear so = record {
+  sealer_cleared : (past later : List Entry) (m : ℕ) (h g : HostState) (sealer : Sealer) → Cleared (node_of h m) (node_of g m) → SealerSo key heeds past m h sealer → SealerSo key heeds later m g (nothing_sealed sealer)
+  sealer_cleared past later m h g sealer clear so = record {
     seen = so.seen ∙ sym clear.seen;
-    texts = record { text = λ t at. absurd (none_some t new.text clear.text at); pending = λ p at. absurd (none_some p new.pending clear.pending at) };
+    texts = record { text = λ t at. absurd (none_some t (node_of g m).text clear.text at); pending = λ p at. absurd (none_some p (node_of g m).pending clear.pending at) };
     waits = λ none. inl refl;
+  }
+
+  -- an attempt that is over without a sign keeps its plain text in the book
+  sealer_late : (past later : List Entry) (m : ℕ) (h g : HostState) (sealer : Sealer) → Cleared (node_of h m) (node_of g m) → (sealer.pending ≡ []) ⊎ ((is_late heeds later m ≡ true) × SealedOpen g m)
+      → SealerSo key heeds past m h sealer → SealerSo key heeds later m g sealer
+  sealer_late past later m h g sealer clear late so = record {
+    seen = so.seen ∙ sym clear.seen;
+    texts = record { text = λ t at. absurd (none_some t (node_of g m).text clear.text at); pending = λ p at. absurd (none_some p (node_of g m).pending clear.pending at) };
+    waits = λ none. late;
   }
 
   -- a plain text is sealed for a nonce that is ready
   abbrev pub ready_by : List ℕ → ℕ → Sealer → Sealer
   ready_by nonce seen sealer = record { seen = seen; pending = []; ready = flat_map (λ (text : List ℕ). record { nonce = nonce; text = text } ∷ []) sealer.pending }
 
-  sealer_taken : (later : List Entry) (m : ℕ) (new : NodeState) (sealer : Sealer) (nonce plain text : List ℕ) (seen : ℕ) → sealer.pending ≡ plain ∷ []
+  sealer_taken : (later : List Entry) (m : ℕ) (g : HostState) (sealer : Sealer) (nonce plain text : List ℕ) (seen : ℕ) → sealer.pending ≡ plain ∷ []
       → IsSeal key (record { node = m; ready = record { nonce = nonce; text = plain }; payload = text })
-      → new.seen ≡ seen → new.text ≡ Some text → new.pending ≡ None → SealerSo key heeds later m new (ready_by nonce seen sealer)
-  sealer_taken later m new sealer nonce plain text seen was seal seen_so text_so pending_so = record {
+      → (node_of g m).seen ≡ seen → (node_of g m).text ≡ Some text → (node_of g m).pending ≡ None → SealerSo key heeds later m g (ready_by nonce seen sealer)
+  sealer_taken later m g sealer nonce plain text seen was seal seen_so text_so pending_so = record {
     seen = sym seen_so;
     texts = record {
       text = λ t at. subst (IsReady key m (ready_by nonce seen sealer)) (some_same text t (sym text_so ∙ at))
@@ -143,7 +165,7 @@ module _ (key : List ℕ) (heeds : Heeds) where
             is = ap (λ (l : List (List ℕ)). flat_map (λ (one : List ℕ). record { nonce = nonce; text = one } ∷ []) l) was;
             seal = seal;
           });
-      pending = λ p at. absurd (none_some p new.pending pending_so at);
+      pending = λ p at. absurd (none_some p (node_of g m).pending pending_so at);
     };
     waits = λ none. inl refl;
   }
@@ -155,15 +177,19 @@ module _ (key : List ℕ) (heeds : Heeds) where
     abbrev pub LateOn : Type 0
     LateOn = (m : ℕ) → IsNode m → is_late heeds past m ≡ true → is_late heeds later m ≡ true
 
+    -- the orders are as they were
+    abbrev pub SameOrders : HostState → Type 0
+    SameOrders g = (number : ℕ) → taken_at g.commands number ≡ taken_at h.commands number
+
     -- an event that leaves them
-    pub books_on : (g : HostState) → g.nonces ≡ h.nonces → ((m : ℕ) → nonces_to m g.requests.queue ≡ nonces_to m h.requests.queue) → ((m : ℕ) → IsNode m → Alike (node_of h m) (node_of g m)) → LateOn
+    pub books_on : (g : HostState) → g.nonces ≡ h.nonces → ((m : ℕ) → nonces_to m g.requests.queue ≡ nonces_to m h.requests.queue) → ((m : ℕ) → IsNode m → Alike (node_of h m) (node_of g m)) → SameOrders g → LateOn
         → BooksOf key heeds later g books offered opened sealed
-    books_on g nonces queue alike late = record {
+    books_on g nonces queue alike orders late = record {
       drawn = so.drawn;
       seven = so.seven;
       live = subst (LiveSo so.drawn) (sym nonces) so.live;
       givers = λ m is. giver_on so.drawn m h g (book_of m books).giver nonces (queue m) (so.givers m is);
-      sealers = λ m is. sealer_on past later m (node_of h m) (node_of g m) (book_of m books).sealer (alike m is) (late m is) (so.sealers m is);
+      sealers = λ m is. sealer_on past later m h g (book_of m books).sealer (alike m is) orders (late m is) (so.sealers m is);
       were_offered = subst (λ (l : List Account). AllByRecursion (IsLowOffer so.drawn l) offered) (sym nonces) so.were_offered;
       were_opened = subst (λ (l : List Account). AllByRecursion (IsLowOpening key so.drawn l) opened) (sym nonces) so.were_opened;
       were_sealed = so.were_sealed;
@@ -171,7 +197,7 @@ module _ (key : List ℕ) (heeds : Heeds) where
 
     -- the sealer of one node changes
     sealers_at : (g : HostState) (n : ℕ) (sealer : Sealer) → g.nonces ≡ h.nonces → ((m : ℕ) → nonces_to m g.requests.queue ≡ nonces_to m h.requests.queue)
-        → ((m : ℕ) → IsNode m → (m ≡ n → ⊥) → SealerSo key heeds later m (node_of g m) (book_of m books).sealer) → SealerSo key heeds later n (node_of g n) sealer
+        → ((m : ℕ) → IsNode m → (m ≡ n → ⊥) → SealerSo key heeds later m g (book_of m books).sealer) → SealerSo key heeds later n g sealer
         → BooksOf key heeds later g (with_sealer_book n sealer books) offered opened sealed
     sealers_at g n sealer nonces queue others this = record {
       drawn = so.drawn;
@@ -184,31 +210,53 @@ module _ (key : List ℕ) (heeds : Heeds) where
       were_sealed = so.were_sealed;
     }
       where
-        by : (m : ℕ) → IsNode m → SealerSo key heeds later m (node_of g m) (book_of m (with_sealer_book n sealer books)).sealer
+        by : (m : ℕ) → IsNode m → SealerSo key heeds later m g (book_of m (with_sealer_book n sealer books)).sealer
         by m is = elim (cases_eq m n) [
-          | inl same ↦ subst (λ (k : ℕ). SealerSo key heeds later k (node_of g k) (book_of k (with_sealer_book n sealer books)).sealer) (sym same)
-              (subst (λ (b : Book). SealerSo key heeds later n (node_of g n) b.sealer) (sym (sealer_here n sealer books)) this)
-          | inr other ↦ subst (λ (b : Book). SealerSo key heeds later m (node_of g m) b.sealer) (sym (sealer_other m n sealer books (λ same. other (sym same)))) (others m is other)
+          | inl same ↦ subst (λ (k : ℕ). SealerSo key heeds later k g (book_of k (with_sealer_book n sealer books)).sealer) (sym same)
+              (subst (λ (b : Book). SealerSo key heeds later n g b.sealer) (sym (sealer_here n sealer books)) this)
+          | inr other ↦ subst (λ (b : Book). SealerSo key heeds later m g b.sealer) (sym (sealer_other m n sealer books (λ same. other (sym same)))) (others m is other)
         ]
 
     -- a command has ended
     pub books_end : (g : HostState) (n : ℕ) → IsNode n → g.nonces ≡ h.nonces → ((m : ℕ) → nonces_to m g.requests.queue ≡ nonces_to m h.requests.queue)
-        → ((m : ℕ) → (m ≡ n → ⊥) → Alike (node_of h m) (node_of g m)) → Cleared (node_of h n) (node_of g n) → ((m : ℕ) → IsNode m → (m ≡ n → ⊥) → is_late heeds past m ≡ true → is_late heeds later m ≡ true)
+        → ((m : ℕ) → (m ≡ n → ⊥) → Alike (node_of h m) (node_of g m)) → Cleared (node_of h n) (node_of g n) → SameOrders g → ((m : ℕ) → IsNode m → (m ≡ n → ⊥) → is_late heeds past m ≡ true → is_late heeds later m ≡ true)
         → BooksOf key heeds later g (with_sealer_book n (nothing_sealed (book_of n books).sealer) books) offered opened sealed
-    books_end g n is_node nonces queue alike clear late =
+    books_end g n is_node nonces queue alike clear orders late =
         sealers_at g n (nothing_sealed (book_of n books).sealer) nonces queue
-        (λ m is other. sealer_on past later m (node_of h m) (node_of g m) (book_of m books).sealer (alike m other) (late m is other) (so.sealers m is))
-        (sealer_cleared past later n (node_of h n) (node_of g n) (book_of n books).sealer clear (so.sealers n is_node))
+        (λ m is other. sealer_on past later m h g (book_of m books).sealer (alike m other) orders (late m is other) (so.sealers m is))
+        (sealer_cleared past later n h g (book_of n books).sealer clear (so.sealers n is_node))
+
+    -- an attempt is over without a sign
+    pub books_late : (g : HostState) (n : ℕ) → IsNode n → g.nonces ≡ h.nonces → ((m : ℕ) → nonces_to m g.requests.queue ≡ nonces_to m h.requests.queue)
+        → ((m : ℕ) → (m ≡ n → ⊥) → Alike (node_of h m) (node_of g m)) → Cleared (node_of h n) (node_of g n) → SameOrders g
+        → ((m : ℕ) → IsNode m → (m ≡ n → ⊥) → is_late heeds past m ≡ true → is_late heeds later m ≡ true)
+        → ((book_of n books).sealer.pending ≡ []) ⊎ ((is_late heeds later n ≡ true) × SealedOpen g n) → BooksOf key heeds later g books offered opened sealed
+    books_late g n is_node nonces queue alike clear orders late stale = record {
+      drawn = so.drawn;
+      seven = so.seven;
+      live = subst (LiveSo so.drawn) (sym nonces) so.live;
+      givers = λ m is. giver_on so.drawn m h g (book_of m books).giver nonces (queue m) (so.givers m is);
+      sealers = λ m is. by m is;
+      were_offered = subst (λ (l : List Account). AllByRecursion (IsLowOffer so.drawn l) offered) (sym nonces) so.were_offered;
+      were_opened = subst (λ (l : List Account). AllByRecursion (IsLowOpening key so.drawn l) opened) (sym nonces) so.were_opened;
+      were_sealed = so.were_sealed;
+    }
+      where
+        by : (m : ℕ) → IsNode m → SealerSo key heeds later m g (book_of m books).sealer
+        by m is = elim (cases_eq m n) [
+          | inl same ↦ subst (λ (k : ℕ). SealerSo key heeds later k g (book_of k books).sealer) (sym same) (sealer_late past later n h g (book_of n books).sealer clear stale (so.sealers n is_node))
+          | inr other ↦ sealer_on past later m h g (book_of m books).sealer (alike m other) orders (late m is other) (so.sealers m is)
+        ]
 
     -- a nonce is taken
     pub books_take : (g : HostState) (n seen : ℕ) (nonce plain text : List ℕ) → g.nonces ≡ h.nonces → ((m : ℕ) → nonces_to m g.requests.queue ≡ nonces_to m h.requests.queue)
-        → ((m : ℕ) → (m ≡ n → ⊥) → Alike (node_of h m) (node_of g m)) → LateOn → (book_of n books).sealer.pending ≡ plain ∷ []
+        → ((m : ℕ) → (m ≡ n → ⊥) → Alike (node_of h m) (node_of g m)) → SameOrders g → LateOn → (book_of n books).sealer.pending ≡ plain ∷ []
         → IsSeal key (record { node = n; ready = record { nonce = nonce; text = plain }; payload = text }) → (node_of g n).seen ≡ seen → (node_of g n).text ≡ Some text → (node_of g n).pending ≡ None
         → BooksOf key heeds later g (with_sealer_book n (ready_by nonce seen (book_of n books).sealer) books) offered opened sealed
-    books_take g n seen nonce plain text nonces queue alike late was seal seen_so text_so pending_so =
+    books_take g n seen nonce plain text nonces queue alike orders late was seal seen_so text_so pending_so =
         sealers_at g n (ready_by nonce seen (book_of n books).sealer) nonces queue
-        (λ m is other. sealer_on past later m (node_of h m) (node_of g m) (book_of m books).sealer (alike m other) (late m is) (so.sealers m is))
-        (sealer_taken later n (node_of g n) (book_of n books).sealer nonce plain text seen was seal seen_so text_so pending_so)
+        (λ m is other. sealer_on past later m h g (book_of m books).sealer (alike m other) orders (late m is) (so.sealers m is))
+        (sealer_taken later n g (book_of n books).sealer nonce plain text seen was seal seen_so text_so pending_so)
 
     -- ---- nonces
 
@@ -220,8 +268,8 @@ module _ (key : List ℕ) (heeds : Heeds) where
       seven = so.seven;
       live = so.live;
       givers = λ m is. by m is;
-      sealers = λ m is. subst (SealerSo key heeds later m (node_of h m)) (sym (sealers_stay m n (one_offered (book_of n books).giver) books))
-          (sealer_on past later m (node_of h m) (node_of h m) (book_of m books).sealer (record { seen = refl; text = refl; pending = refl }) (late m is) (so.sealers m is));
+      sealers = λ m is. subst (SealerSo key heeds later m (requests_do h (Pushes (waits_offer n nonce)))) (sym (sealers_stay m n (one_offered (book_of n books).giver) books))
+          (sealer_on past later m h (requests_do h (Pushes (waits_offer n nonce))) (book_of m books).sealer (record { seen = refl; text = refl; pending = refl; opened = refl; commands = refl }) (λ number. refl) (late m is) (so.sealers m is));
       were_offered = so.were_offered;
       were_opened = so.were_opened;
       were_sealed = so.were_sealed;
@@ -291,7 +339,8 @@ module _ (key : List ℕ) (heeds : Heeds) where
       seven = redrawn.seven;
       live = redrawn.live;
       givers = λ m is. by m is;
-      sealers = λ m is. subst (SealerSo key heeds past m (node_of h m)) (sym (sealers_stay m n (one_given (book_of n books).giver) books)) (so.sealers m is);
+      sealers = λ m is. subst (SealerSo key heeds past m (giving h n bytes)) (sym (sealers_stay m n (one_given (book_of n books).giver) books))
+          (sealer_on past past m h (giving h n bytes) (book_of m books).sealer (record { seen = refl; text = refl; pending = refl; opened = refl; commands = refl }) (λ number. refl) (λ late. late) (so.sealers m is));
       were_offered = offers_low so.drawn redrawn.next (giving h n bytes).nonces redrawn.agrees grown offered so.were_offered;
       were_opened = openings_low so.drawn redrawn.next (giving h n bytes).nonces redrawn.agrees grown opened so.were_opened;
       were_sealed = so.were_sealed;
@@ -335,8 +384,8 @@ module _ (key : List ℕ) (heeds : Heeds) where
       seven = so.seven;
       live = spent_live so.drawn h.nonces (spending h n).nonces n so.live (set_goes h.nonces n (record (account_of h.nonces n) { live = None }));
       givers = λ m is. by m is;
-      sealers = λ m is. subst (SealerSo key heeds later m (node_of h m)) (sym (sealers_stay m n (none_live (book_of n books).giver) books))
-          (sealer_on past later m (node_of h m) (node_of h m) (book_of m books).sealer (record { seen = refl; text = refl; pending = refl }) (late m is) (so.sealers m is));
+      sealers = λ m is. subst (SealerSo key heeds later m (spending h n)) (sym (sealers_stay m n (none_live (book_of n books).giver) books))
+          (sealer_on past later m h (spending h n) (book_of m books).sealer (record { seen = refl; text = refl; pending = refl; opened = refl; commands = refl }) (λ number. refl) (late m is) (so.sealers m is));
       were_offered = offers_low so.drawn so.drawn (spending h n).nonces (λ node number low. refl) grown offered so.were_offered;
       were_opened = all-append (IsLowOpening key so.drawn (spending h n).nonces) opened (one ∷ [])
           (openings_low so.drawn so.drawn (spending h n).nonces (λ node number low. refl) grown opened so.were_opened)

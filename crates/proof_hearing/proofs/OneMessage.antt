@@ -47,14 +47,16 @@ use Rattle.host_requests.specs.declared.task.Task.{Task}
 use Rattle.host_requests.specs.declared.task.Task.TheVariants.{Offer as waits_offer, Segment as waits_segment}
 use Rattle.host_requests.specs.State.{RequestsState}
 use Rattle.host_requests.specs.Events.RequestsEvent.{Pushes}
-use Rattle.host_model.specs.State.{HostState, node_of}
+use Rattle.host_model.specs.State.{Command, HostState, node_of}
 use Rattle.host_model.specs.Facts.{IsCommandOf}
-use Rattle.host_model.specs.After.{after, finishing, giving, is_full, is_held, offering, queues_if_room, requests_do}
+use Rattle.host_model.specs.After.{after, finishing, giving, is_full, is_held, offering, outcome_of, queues_if_room, requests_do}
 use Rattle.host_model.specs.Events.{HostEvent, Unreads, Is_unkept, Reports_old, Works, Finishes, Offers, Gives, Takes_nonce, Notifies, Resends, Hears_value, Has_no_room}
 use Rattle.host_model.specs.May.{May}
 use Rattle.host_model.specs.Outs.{dropped_if, ended_of, noted, outs}
 use Rattle.host_model.specs.Taking.{FinalEvents, IsKeptOr, IsTaken, NonceGetEvents, NonceReportEvents, ReportEvents, is_secure, resent, value_event, wanted_segment}
 use Rattle.host_model.specs.declared.out.HostOut.{HostOut}
+use Rattle.proof_host.specs.Tables.{taken_at}
+use Rattle.proof_host.proofs.Commands.{taken_set}
 use Rattle.proof_nonces.specs.proof_known.law_host.Course.{Book, Course, Giver, Ready, Sealer, book_of, each_in_turn, giver_of, if_kept, sealer_of, with_note, with_notes, with_taken, without_texts, with_giver, with_sealer}
 use Rattle.proof_nonces.specs.proof_known.law_host.Heard.{heeds_alone, listing_heard}
 use Rattle.proof_nonces.specs.proof_known.law_host.Messages.{Hearing, ended_by, ends_session, final_notes, gives_next, has_room, hears, hears_value, is_full as is_course_full, is_of_open, is_told_openly, offers_last, past_now, puts, sealed_for, takes_nonce, takes_report, unread}
@@ -65,7 +67,7 @@ use Rattle.proof_nonces.proofs.Noting.{noted_told}
 use Rattle.proof_nonces.proofs.Walking.{own_long}
 use Rattle.proof_queue.specs.Heeding.{taken_up}
 use Rattle.proof_queue.specs.proof_sending.Due.{AreCarried}
-use Rattle.proof_hearing.specs.Books.{BooksOf, BooksSo, nonces_to}
+use Rattle.proof_hearing.specs.Books.{BooksOf, BooksSo, SealedOpen, nonces_to}
 use Rattle.proof_hearing.specs.Hearing.{choosing, else_of, waited}
 use Rattle.proof_hearing.proofs.Alike.{Alike, finish_here, finish_other, hold_same, same_alike, takes_here, takes_other, wakes_go, works_go}
 use Rattle.proof_hearing.proofs.BooksGo.{books_end, books_give, books_offer, books_on, books_take, one_given, one_offered, ready_by, segment_to}
@@ -140,11 +142,12 @@ module _ (key : List ℕ) (taken : List Entry → Carried → List Told) (before
       pub nonces : g.nonces ≡ h.nonces
       pub queue : g.requests.queue ≡ h.requests.queue
       pub alike : (m : ℕ) → Alike (node_of h m) (node_of g m)
+      pub orders : g.commands ≡ h.commands
 
     pub still_books : (told : List Entry) (g : HostState) → AllByRecursion NoOut told → Late told → Still g → BooksSo key heeds (past ++ told) g course
     still_books told g quiet late still =
         books_on key heeds past (past ++ told) h course.books course.offered course.opened course.sealed books g still.nonces (λ m. ap (nonces_to m) still.queue)
-        (λ m is. still.alike m) (λ m is. late m is (λ same. quiet))
+        (λ m is. still.alike m) (λ number. ap (λ (l : List Command). taken_at l number) still.orders) (λ m is. late m is (λ same. quiet))
 
     -- a note of such an event, with no choice
     noted_so : (does : Course → Course) (messages : List Told) (e : Entry) (g : HostState) (next : Course) → NoOut e → Late (e ∷ []) → Still g
@@ -172,7 +175,7 @@ module _ (key : List ℕ) (taken : List Entry → Carried → List Told) (before
     with_is e = ap (λ (l : List Told). record course { due = course.due ++ e ∷ []; taken = l }) no_messages
 
     pub same_host : Still h
-    same_host = record { nonces = refl; queue = refl; alike = λ m. record { seen = refl; text = refl; pending = refl } }
+    same_host = record { nonces = refl; queue = refl; alike = λ m. record { seen = refl; text = refl; pending = refl; opened = refl; commands = refl }; orders = refl }
 
     -- what was asked for is not kept
     unkept_so : (does goes_on : Course → Course) (late : Late (entry.Unkept n ∷ []))
@@ -224,7 +227,7 @@ module _ (key : List ℕ) (taken : List Entry → Carried → List Told) (before
         next = with_taken (Report id statuses.Working wake) course;
         kept = [];
         goes = λ keepings texts. by_named statuses.Working true keepings texts read named;
-        books = still_books [] (after h (Works n id)) tt late (record { nonces = refl; queue = refl; alike = λ m. works_go h n id m at_work });
+        books = still_books [] (after h (Works n id)) tt late (record { nonces = refl; queue = refl; alike = λ m. works_go h n id m at_work; orders = refl });
         room = room;
         due = sym (append-nil course.due);
         heeded = refl;
@@ -259,6 +262,7 @@ module _ (key : List ℕ) (taken : List Entry → Carried → List Told) (before
               (λ m. ap (λ (r : RequestsState). nonces_to m r.queue) (hold_same (finishing h n id it.command by) n (is_held h n wake)).1)
               (λ m other. finish_other h n session id it.command by wake m other)
               (finish_here h n session id it.command by wake place final_told)
+              (λ number. ap (λ (l : List Command). taken_at l number) (hold_same (finishing h n id it.command by) n (is_held h n wake)).2 ∙ taken_set h.commands it.command (outcome_of by) number)
               (λ m is other. late m is (λ same. absurd (other same)));
           room = room ∙ sym (ap (λ (r : RequestsState). length r.queue) (hold_same (finishing h n id it.command by) n (is_held h n wake)).1);
           due = ap (λ (l : List Entry). course.due ++ l) (sym is);
@@ -379,7 +383,7 @@ module _ (key : List ℕ) (taken : List Entry → Carried → List Told) (before
         known_event Notification event (Notifies n) told is
         (λ are late may. known_notes Notification (Notifies n) told (entry.Awake n ∷ []) (note_told (entry.Awake n) told are)
         (λ late. noted_so (hears (hearing sealed) Notification) [] (entry.Awake n) (after h (Notifies n)) (with_it (entry.Awake n)) tt late
-        (record { nonces = refl; queue = refl; alike = λ m. wakes_go h n m }) (λ keepings texts. refl) (with_is (entry.Awake n))) late)
+        (record { nonces = refl; queue = refl; alike = λ m. wakes_go h n m; orders = refl }) (λ keepings texts. refl) (with_is (entry.Awake n))) late)
 
     -- ---- what is put into the queue
 
@@ -432,7 +436,7 @@ module _ (key : List ℕ) (taken : List Entry → Carried → List Told) (before
               else record (with_taken (SegmentRequest id offset) (choosing keepings texts course)) { put = course.put + 1 }) (full_is ∙ is);
           books = subst (λ (g : HostState). BooksSo key heeds (past ++ []) g course) (sym (pushed (waits_segment n text) is))
               (books_on key heeds past (past ++ []) h course.books course.offered course.opened course.sealed books (requests_do h (Pushes (waits_segment n text))) refl
-              (λ m. segment_to m n h.requests.queue text) (λ m is. record { seen = refl; text = refl; pending = refl }) (λ m is. late m is (λ same. tt)));
+              (λ m. segment_to m n h.requests.queue text) (λ m is. record { seen = refl; text = refl; pending = refl; opened = refl; commands = refl }) (λ number. refl) (λ m is. late m is (λ same. tt)));
           room = room_left (waits_segment n text) ∙ sym (ap (λ (g : HostState). length g.requests.queue) (pushed (waits_segment n text) is));
           due = sym (append-nil course.due);
           heeded = refl;
@@ -485,7 +489,7 @@ module _ (key : List ℕ) (taken : List Entry → Carried → List Told) (before
             subst (λ (e : HostEvent). Noted (hears_value (hearing sealed) s) [] course told (after h e)) (sym event_is)
             (subst (λ (l : List Entry). Late l → Noted (hears_value (hearing sealed) s) [] course l (after h (Hears_value n s))) (sym notes)
             (λ late. noted_so (hears_value (hearing sealed) s) [] (entry.Report n s) (after h (Hears_value n s)) (with_it (entry.Report n s)) tt late
-            (record { nonces = refl; queue = refl; alike = λ m. record { seen = refl; text = refl; pending = refl } })
+            (record { nonces = refl; queue = refl; alike = λ m. record { seen = refl; text = refl; pending = refl; opened = refl; commands = refl }; orders = refl })
             (λ keepings texts. room_by true keepings texts some) (with_is (entry.Report n s))) late)
 
     -- ---- a Nonce Get
@@ -526,7 +530,7 @@ module _ (key : List ℕ) (taken : List Entry → Carried → List Told) (before
       offers_books : (full : Bool) → is_full h ≡ full → Late (dropped_if full n) → BooksSo key heeds (past ++ dropped_if full n) (offering g n (Some nonce)) (offered full)
       offers_books true is late =
           subst (λ (k : HostState). BooksSo key heeds (past ++ entry.QueueFull n ∷ []) k c) (sym (host_offers true is))
-          (books_on key heeds past (past ++ entry.QueueFull n ∷ []) g c.books c.offered c.opened c.sealed so g refl (λ m. refl) (λ m is. record { seen = refl; text = refl; pending = refl })
+          (books_on key heeds past (past ++ entry.QueueFull n ∷ []) g c.books c.offered c.opened c.sealed so g refl (λ m. refl) (λ m is. record { seen = refl; text = refl; pending = refl; opened = refl; commands = refl }) (λ number. refl)
           (λ m is. late m is (λ same. (tt, tt))))
       offers_books false is late =
           subst (λ (k : HostState). BooksSo key heeds (past ++ []) k (offered false)) (sym (host_offers false is))
@@ -664,7 +668,7 @@ module _ (key : List ℕ) (taken : List Entry → Carried → List Told) (before
           (subst (λ (k : ℕ). Seals h.keys own nonce (ends_to k) plain text) number
           (subst (λ (p : List ℕ). Seals h.keys own nonce (ends_to node.node) p text) (some_of seals.plain plain (sym seals.is_pending ∙ pending)) seals.seals)) in
           books_take key heeds past (past ++ []) h course.books course.offered course.opened course.sealed books (after h (Takes_nonce n seen text)) n now nonce plain text refl (λ m. refl)
-          (λ m other. same_alike (node_of h m) (node_of (after h (Takes_nonce n seen text)) m) (takes_other h n seen text m other)) (λ m is. late m is (λ same. tt)) waits_so
+          (λ m other. same_alike (node_of h m) (node_of (after h (Takes_nonce n seen text)) m) (takes_other h n seen text m other)) (λ number. refl) (λ m is. late m is (λ same. tt)) waits_so
           (record { own = own; own_eight = eight; text = sealed_is (keys_of key) own nonce (ends_to n) plain text sealed_so })
           (ap (λ (s : NodeState). s.seen) here ∙ sym same) (ap (λ (s : NodeState). s.text) here) (ap (λ (s : NodeState). s.pending) here)
 
@@ -779,11 +783,11 @@ module _ (key : List ℕ) (taken : List Entry → Carried → List Told) (before
         both true c = refl
         both false c = refl
 
-        by : (sealer.pending ≡ []) ⊎ (is_late heeds past n ≡ true) → hears (hearing sealed) (NonceReport nonce) (choosing keepings texts course) ≡ choosing keepings texts course
+        by : (sealer.pending ≡ []) ⊎ ((is_late heeds past n ≡ true) × SealedOpen h n) → hears (hearing sealed) (NonceReport nonce) (choosing keepings texts course) ≡ choosing keepings texts course
         by (inl is) =
             ap (λ (l : List (List ℕ)). if are_none l then choosing keepings texts course
             else (if is_late heeds past n then choosing keepings texts course else takes_nonce (hearing sealed) nonce sealer (choosing keepings texts course))) is
-        by (inr late) =
+        by (inr (late, open_so)) =
             ap (λ (b : Bool). if are_none sealer.pending then choosing keepings texts course else (if b then choosing keepings texts course else takes_nonce (hearing sealed) nonce sealer (choosing keepings texts course))) late
             ∙ both (are_none sealer.pending) (choosing keepings texts course)
 

@@ -27,7 +27,7 @@ use Rattle.proof_nonces.specs.proof_known.law_host.Heard.{listing_heard}
 use Rattle.proof_nonces.proofs.ByMessage.{Ties, last_some}
 use Rattle.proof_queue.specs.proof_sending.Due.{AreCarried}
 use Rattle.proof_queue.proofs.Kept.{keeps_first}
-use Rattle.proof_queue.proofs.Segments.{IsWanted, Shows, open_is_last, resent_is_wanted}
+use Rattle.proof_queue.proofs.Segments.{IsWanted, Shows, open_is_last, resent_is_wanted, session_last}
 
 -- ---- the session that is open
 
@@ -35,11 +35,11 @@ no_session : (s : ℕ) → ◌≡◌ {A = Option ℕ} None (Some s) → ⊥
 no_session s is = cc
 
 -- it is the last one, and has a command
-record IsLast (P : ℕ → Type 0) (commands : List ℕ) (s : ℕ) : Type 0 where
-  number : ℕ
-  at : command_of_session commands s ≡ Some number
-  last : last_of commands ≡ number ∷ []
-  owned : AllByRecursion P commands → P number
+pub record IsLast (P : ℕ → Type 0) (commands : List ℕ) (s : ℕ) : Type 0 where
+  pub number : ℕ
+  pub at : command_of_session commands s ≡ Some number
+  pub last : last_of commands ≡ number ∷ []
+  pub owned : AllByRecursion P commands → P number
 
 open_last : (P : ℕ → Type 0) (commands : List ℕ) (outcome : Option ℕ) (attempts s : ℕ) → open_session (record { commands = commands; outcome = outcome; attempts = attempts }) ≡ Some s
     → IsLast P commands s
@@ -71,89 +71,101 @@ cut_none false text is = refl
 flip : (a b : ℕ) → (a == b) ≡ false → (b == a) ≡ false
 flip a b is = ne_eqb b a (λ same. both_ways (a == b) is (eq-eqb a b (sym same)))
 
-module _ (past : List Entry) (h : HostState) (ties : Ties past h) (carried : AreCarried listing_heard past h.commands) (n id offset : ℕ) where
-  abbrev Wants : List (List ℕ) → Type 0
-  Wants wants = segments_wanted listing_heard past n id offset ≡ wants
+-- it has a command, the last
+pub last_open : (h : HostState) (n s : ℕ) → open_session (node_of h n).book ≡ Some s → IsLast (IsCommandOf h.commands n) (node_of h n).book.commands s
+last_open h n s opened = open_last (IsCommandOf h.commands n) (node_of h n).book.commands (node_of h n).book.outcome (node_of h n).book.attempts s opened
 
-  module _ (s : ℕ) (is_open_now : open_session (node_of h n).book ≡ Some s) (it : IsLast (IsCommandOf h.commands n) (node_of h n).book.commands s) where
-    owned : IsCommandOf h.commands n it.number
-    owned = it.owned (recursion_from_All (IsCommandOf h.commands n) (node_of h n).book.commands (ties.facts.host.owns n).sessions)
+module _ (past : List Entry) (h : HostState) (ties : Ties past h) (carried : AreCarried listing_heard past h.commands) (n : ℕ) where
+  -- ---- a session that is open, by the transcript
 
-    abbrev command : Command
-    command = owned.command
-
+  module _ (s number : ℕ) (command : Command) (opened : open_session (node_of h n).book ≡ Some s) (at : command_of_session (node_of h n).book.commands s ≡ Some number)
+      (found : command_at h.commands number ≡ Some command) where
     count : length (sessions n past) ≡ s
-    count = ap (λ (l : List ℕ). length l) (ties.facts.begun n) ∙ sym (open_is_last (node_of h n).book s is_open_now)
+    count = ap (λ (l : List ℕ). length l) (ties.facts.begun n) ∙ sym (open_is_last (node_of h n).book s opened)
 
-    taken_so : (order_of it.number (accepted n past) ≡ Some command.order) × (command.carriage ≡ carriage_of (classes_for listing_heard past n it.number) command.order)
+    taken_so : (order_of number (accepted n past) ≡ Some command.order) × (command.carriage ≡ carriage_of (classes_for listing_heard past n number) command.order)
     taken_so =
-        carried n s it.number (record { order = command.order; carriage = command.carriage })
-        (ap (λ (l : List ℕ). command_of_session l s) (ties.facts.begun n) ∙ it.at) (ap taken_by owned.found)
+        carried n s number (record { order = command.order; carriage = command.carriage }) (ap (λ (l : List ℕ). command_of_session l s) (ties.facts.begun n) ∙ at) (ap taken_by found)
 
-    abbrev session : Session
-    session = session_of listing_heard past n it.number
+    abbrev pub session : Session
+    session = session_of listing_heard past n number
 
-    message : session.message ≡ message_for command s
+    pub message : session.message ≡ message_for command s
     message =
-        ap (λ (k : ℕ). message_told listing_heard past n k it.number) count
-        ∙ ap (λ (o : Option Order). message_by (classes_for listing_heard past n it.number) s o) taken_so.0
+        ap (λ (k : ℕ). message_told listing_heard past n k number) count
+        ∙ ap (λ (o : Option Order). message_by (classes_for listing_heard past n number) s o) taken_so.0
         ∙ ap (λ (c : Carriage). message_of c command.order s) (sym taken_so.1)
 
     form : session.form ≡ form_of command.carriage.outer
-    form = ap (λ (o : Option Order). form_by (classes_for listing_heard past n it.number) o) taken_so.0 ∙ ap (λ (c : Carriage). form_of c.outer) (sym taken_so.1)
+    form = ap (λ (o : Option Order). form_by (classes_for listing_heard past n number) o) taken_so.0 ∙ ap (λ (c : Carriage). form_of c.outer) (sym taken_so.1)
 
-    -- the host has none of that number
-    abbrev Lacks : Form → Type 0
-    Lacks f = segment_by f s (message_for command s) (offset / 39) ≡ None
+    pub last : last_command n past ≡ number ∷ []
+    last =
+        ap (λ (l : List ℕ). last_of l) (ties.facts.begun n)
+        ∙ session_last (node_of h n).book.commands number (ap (λ (k : ℕ). command_of_session (node_of h n).book.commands k) (sym (open_is_last (node_of h n).book s opened)) ∙ at)
 
-    not_of : (a : Bool) → (session.number % 16 == id) ≡ a → a ≡ false → has_segment id offset session ≡ false
-    not_of a is false_so =
-        and_left ((session.number % 16 == id) && (offset % 39 == 0)) (nat_lt offset (length session.message)) (and_left (session.number % 16 == id) (offset % 39 == 0) (is ∙ false_so))
+    -- ---- no segment of it is wanted
 
-    not_even : (offset % 39 == 0) ≡ false → has_segment id offset session ≡ false
-    not_even odd =
-        and_left ((session.number % 16 == id) && (offset % 39 == 0)) (nat_lt offset (length session.message)) (and_right (session.number % 16 == id) (offset % 39 == 0) odd)
+    module _ (id offset : ℕ) where
+      -- the host has none of that number
+      abbrev Lacks : Form → Type 0
+      Lacks f = segment_by f s (message_for command s) (offset / 39) ≡ None
 
-    not_there : (offset % 39 == 0) ≡ true → Lacks Cut → has_segment id offset session ≡ false
-    not_there even lacks =
-        let past_it : segment_count (message_for command s) ≤ offset / 39 = ltb-false (offset / 39) (segment_count (message_for command s)) (cut_none (nat_lt (offset / 39) (segment_count (message_for command s))) (segment_at s (message_for command s) (offset / 39)) lacks) in
-        and_right ((session.number % 16 == id) && (offset % 39 == 0)) (nat_lt offset (length session.message))
-        (ap (λ (m : List ℕ). nat_lt offset (length m)) message
-        ∙ le-ltb offset (length (message_for command s)) (beyond offset (length (message_for command s)) (eqb-true (offset % 39) 0 even) past_it))
+      abbrev is_named : Bool
+      is_named = (session.number % 16 == id) && (offset % 39 == 0)
 
-    asked_none : (f : Form) → (f ≡ Cut → has_segment id offset session ≡ false) → segment_asked id offset session f ≡ []
-    asked_none Plain none = refl
-    asked_none Sealed none = refl
-    asked_none Cut none = ap (λ (b : Bool). if b then (SEND_DATA ∷ session.node ∷ segment_told session (offset / 39)) ∷ [] else []) (none refl)
+      not_of : (session.number % 16 == id) ≡ false → has_segment id offset session ≡ false
+      not_of other = and_left is_named (nat_lt offset (length session.message)) (and_left (session.number % 16 == id) (offset % 39 == 0) other)
 
-    none_so : (form_of command.carriage.outer ≡ Cut → has_segment id offset session ≡ false) → Wants []
-    none_so none =
-        ap (λ (b : Bool). if b then flat_map (segment_wanted listing_heard past n id offset) (last_command n past) else []) (ties.opened n ∙ ap (λ (o : Option ℕ). is_some o) is_open_now)
-        ∙ ap (λ (l : List ℕ). flat_map (segment_wanted listing_heard past n id offset) l) (ap (λ (l : List ℕ). last_of l) (ties.facts.begun n) ∙ it.last)
-        ∙ ap (λ (f : Form). segment_asked id offset session f ++ []) form
-        ∙ ap (λ (l : List (List ℕ)). l ++ []) (asked_none (form_of command.carriage.outer) none)
+      not_even : (offset % 39 == 0) ≡ false → has_segment id offset session ≡ false
+      not_even odd = and_left is_named (nat_lt offset (length session.message)) (and_right (session.number % 16 == id) (offset % 39 == 0) odd)
 
-    lacks_so : open_segment h (node_of h n) (Some s) (offset / 39) ≡ None → Lacks (form_of command.carriage.outer)
-    lacks_so is =
-        ap (λ (o : Option Command). segment_of o s (offset / 39)) (sym (ap (λ (k : Option ℕ). command_if h.commands k) it.at ∙ owned.found)) ∙ is
+      not_there : (offset % 39 == 0) ≡ true → Lacks Cut → has_segment id offset session ≡ false
+      not_there even lacks =
+          let past_it : segment_count (message_for command s) ≤ offset / 39 =
+          ltb-false (offset / 39) (segment_count (message_for command s))
+          (cut_none (nat_lt (offset / 39) (segment_count (message_for command s))) (segment_at s (message_for command s) (offset / 39)) lacks) in
+          and_right is_named (nat_lt offset (length session.message))
+          (ap (λ (m : List ℕ). nat_lt offset (length m)) message
+          ∙ le-ltb offset (length (message_for command s)) (beyond offset (length (message_for command s)) (eqb-true (offset % 39) 0 even) past_it))
 
-    by_tests : (a b : Bool) → (id == s % 16) ≡ a → (offset % 39 == 0) ≡ b → (if a && b then open_segment h (node_of h n) (Some s) (offset / 39) else None) ≡ None → Wants []
-    by_tests true true same even is = none_so (λ cut. not_there even (subst Lacks cut (lacks_so is)))
-    by_tests true false same odd is = none_so (λ cut. not_even odd)
-    by_tests false b other even is = none_so (λ cut. not_of (session.number % 16 == id) refl (ap (λ (k : ℕ). k % 16 == id) count ∙ flip id (s % 16) other))
+      asked_none : (f : Form) → (f ≡ Cut → has_segment id offset session ≡ false) → segment_asked id offset session f ≡ []
+      asked_none Plain none = refl
+      asked_none Sealed none = refl
+      asked_none Cut none = ap (λ (b : Bool). if b then (SEND_DATA ∷ session.node ∷ segment_told session (offset / 39)) ∷ [] else []) (none refl)
 
-  by_session : (o : Option ℕ) → open_session (node_of h n).book ≡ o → wanted_segment h n o id offset ≡ None → Wants []
-  by_session None closed is =
-      ap (λ (b : Bool). if b then flat_map (segment_wanted listing_heard past n id offset) (last_command n past) else []) (ties.opened n ∙ ap (λ (o : Option ℕ). is_some o) closed)
-  by_session (Some s) opened is =
-      by_tests s opened (open_last (IsCommandOf h.commands n) (node_of h n).book.commands (node_of h n).book.outcome (node_of h n).book.attempts s opened)
-      (id == s % 16) (offset % 39 == 0) refl refl is
+      none_so : (form_of command.carriage.outer ≡ Cut → has_segment id offset session ≡ false) → segments_wanted listing_heard past n id offset ≡ []
+      none_so none =
+          ap (λ (b : Bool). if b then flat_map (segment_wanted listing_heard past n id offset) (last_command n past) else []) (ties.opened n ∙ ap (λ (o : Option ℕ). is_some o) opened)
+          ∙ ap (λ (l : List ℕ). flat_map (segment_wanted listing_heard past n id offset) l) last
+          ∙ ap (λ (f : Form). segment_asked id offset session f ++ []) form
+          ∙ ap (λ (l : List (List ℕ)). l ++ []) (asked_none (form_of command.carriage.outer) none)
 
-  pub unwanted : wanted_segment h n (open_session (node_of h n).book) id offset ≡ None → Wants []
-  unwanted is = by_session (open_session (node_of h n).book) refl is
+      lacks_so : open_segment h (node_of h n) (Some s) (offset / 39) ≡ None → Lacks (form_of command.carriage.outer)
+      lacks_so is = ap (λ (o : Option Command). segment_of o s (offset / 39)) (sym (ap (λ (k : Option ℕ). command_if h.commands k) at ∙ found)) ∙ is
 
-  pub wanted : (payload : List ℕ) → wanted_segment h n (open_session (node_of h n).book) id offset ≡ Some payload → IsWanted past n id offset payload
-  wanted payload is = resent_is_wanted past h h n shows (keeps_first h n) id offset payload is
-    where
-      shows : Shows past h n
-      shows = record { sessions_are = ties.facts.begun n; opened = ties.opened n; last = ap (λ (l : List ℕ). last_of l) (ties.facts.begun n); carried = carried }
+      by_tests : (a b : Bool) → (id == s % 16) ≡ a → (offset % 39 == 0) ≡ b → (if a && b then open_segment h (node_of h n) (Some s) (offset / 39) else None) ≡ None
+          → segments_wanted listing_heard past n id offset ≡ []
+      by_tests true true same even is = none_so (λ cut. not_there even (subst Lacks cut (lacks_so is)))
+      by_tests true false same odd is = none_so (λ cut. not_even odd)
+      by_tests false b other even is = none_so (λ cut. not_of (ap (λ (k : ℕ). k % 16 == id) count ∙ flip id (s % 16) other))
+
+  -- ---- a segment request
+
+  module _ (id offset : ℕ) where
+    by_session : (o : Option ℕ) → open_session (node_of h n).book ≡ o → wanted_segment h n o id offset ≡ None → segments_wanted listing_heard past n id offset ≡ []
+    by_session None closed is =
+        ap (λ (b : Bool). if b then flat_map (segment_wanted listing_heard past n id offset) (last_command n past) else []) (ties.opened n ∙ ap (λ (o : Option ℕ). is_some o) closed)
+    by_session (Some s) opened is =
+        let it = last_open h n s opened in
+        let owned = it.owned (recursion_from_All (IsCommandOf h.commands n) (node_of h n).book.commands (ties.facts.host.owns n).sessions) in
+        by_tests s it.number owned.command opened it.at owned.found id offset (id == s % 16) (offset % 39 == 0) refl refl is
+
+    pub unwanted : wanted_segment h n (open_session (node_of h n).book) id offset ≡ None → segments_wanted listing_heard past n id offset ≡ []
+    unwanted is = by_session (open_session (node_of h n).book) refl is
+
+    pub wanted : (payload : List ℕ) → wanted_segment h n (open_session (node_of h n).book) id offset ≡ Some payload → IsWanted past n id offset payload
+    wanted payload is = resent_is_wanted past h h n shows (keeps_first h n) id offset payload is
+      where
+        shows : Shows past h n
+        shows = record { sessions_are = ties.facts.begun n; opened = ties.opened n; last = ap (λ (l : List ℕ). last_of l) (ties.facts.begun n); carried = carried }
