@@ -70,7 +70,7 @@ spent_more nonces n node = by (set_goes nonces n (record (account_of nonces n) {
 
 -- ---- givers
 
-giver_on : (drawn : ℕ → ℕ → List ℕ) (m : ℕ) (h g : HostState) (giver : Giver) → g.nonces ≡ h.nonces → nonces_to m g.requests.queue ≡ nonces_to m h.requests.queue → GiverSo drawn m h giver → GiverSo drawn m g giver
+pub giver_on : (drawn : ℕ → ℕ → List ℕ) (m : ℕ) (h g : HostState) (giver : Giver) → g.nonces ≡ h.nonces → nonces_to m g.requests.queue ≡ nonces_to m h.requests.queue → GiverSo drawn m h giver → GiverSo drawn m g giver
 giver_on drawn m h g giver nonces queue so = record {
   given = so.given ∙ ap (λ (l : List Account). given_of l m) (sym nonces);
   live = so.live ∙ ap (λ (l : List Account). is_some (live_of l m)) (sym nonces);
@@ -196,7 +196,7 @@ module _ (key : List ℕ) (heeds : Heeds) where
     }
 
     -- the sealer of one node changes
-    sealers_at : (g : HostState) (n : ℕ) (sealer : Sealer) → g.nonces ≡ h.nonces → ((m : ℕ) → nonces_to m g.requests.queue ≡ nonces_to m h.requests.queue)
+    pub sealers_at : (g : HostState) (n : ℕ) (sealer : Sealer) → g.nonces ≡ h.nonces → ((m : ℕ) → nonces_to m g.requests.queue ≡ nonces_to m h.requests.queue)
         → ((m : ℕ) → IsNode m → (m ≡ n → ⊥) → SealerSo key heeds later m g (book_of m books).sealer) → SealerSo key heeds later n g sealer
         → BooksOf key heeds later g (with_sealer_book n sealer books) offered opened sealed
     sealers_at g n sealer nonces queue others this = record {
@@ -226,12 +226,11 @@ module _ (key : List ℕ) (heeds : Heeds) where
         (λ m is other. sealer_on past later m h g (book_of m books).sealer (alike m other) orders (late m is other) (so.sealers m is))
         (sealer_cleared past later n h g (book_of n books).sealer clear (so.sealers n is_node))
 
-    -- an attempt is over without a sign
-    pub books_late : (g : HostState) (n : ℕ) → IsNode n → g.nonces ≡ h.nonces → ((m : ℕ) → nonces_to m g.requests.queue ≡ nonces_to m h.requests.queue)
-        → ((m : ℕ) → (m ≡ n → ⊥) → Alike (node_of h m) (node_of g m)) → Cleared (node_of h n) (node_of g n) → SameOrders g
-        → ((m : ℕ) → IsNode m → (m ≡ n → ⊥) → is_late heeds past m ≡ true → is_late heeds later m ≡ true)
-        → ((book_of n books).sealer.pending ≡ []) ⊎ ((is_late heeds later n ≡ true) × SealedOpen g n) → BooksOf key heeds later g books offered opened sealed
-    books_late g n is_node nonces queue alike clear orders late stale = record {
+    -- the books stay, and one node is looked at by itself
+    pub books_one : (g : HostState) (n : ℕ) → g.nonces ≡ h.nonces → ((m : ℕ) → nonces_to m g.requests.queue ≡ nonces_to m h.requests.queue)
+        → ((m : ℕ) → IsNode m → (m ≡ n → ⊥) → SealerSo key heeds later m g (book_of m books).sealer) → SealerSo key heeds later n g (book_of n books).sealer
+        → BooksOf key heeds later g books offered opened sealed
+    books_one g n nonces queue others this = record {
       drawn = so.drawn;
       seven = so.seven;
       live = subst (LiveSo so.drawn) (sym nonces) so.live;
@@ -244,9 +243,18 @@ module _ (key : List ℕ) (heeds : Heeds) where
       where
         by : (m : ℕ) → IsNode m → SealerSo key heeds later m g (book_of m books).sealer
         by m is = elim (cases_eq m n) [
-          | inl same ↦ subst (λ (k : ℕ). SealerSo key heeds later k g (book_of k books).sealer) (sym same) (sealer_late past later n h g (book_of n books).sealer clear stale (so.sealers n is_node))
-          | inr other ↦ sealer_on past later m h g (book_of m books).sealer (alike m other) orders (late m is other) (so.sealers m is)
+          | inl same ↦ subst (λ (k : ℕ). SealerSo key heeds later k g (book_of k books).sealer) (sym same) this
+          | inr other ↦ others m is other
         ]
+
+    -- an attempt is over without a sign
+    pub books_late : (g : HostState) (n : ℕ) → IsNode n → g.nonces ≡ h.nonces → ((m : ℕ) → nonces_to m g.requests.queue ≡ nonces_to m h.requests.queue)
+        → ((m : ℕ) → (m ≡ n → ⊥) → Alike (node_of h m) (node_of g m)) → Cleared (node_of h n) (node_of g n) → SameOrders g
+        → ((m : ℕ) → IsNode m → (m ≡ n → ⊥) → is_late heeds past m ≡ true → is_late heeds later m ≡ true)
+        → ((book_of n books).sealer.pending ≡ []) ⊎ ((is_late heeds later n ≡ true) × SealedOpen g n) → BooksOf key heeds later g books offered opened sealed
+    books_late g n is_node nonces queue alike clear orders late stale =
+        books_one g n nonces queue (λ m is other. sealer_on past later m h g (book_of m books).sealer (alike m other) orders (late m is other) (so.sealers m is))
+        (sealer_late past later n h g (book_of n books).sealer clear stale (so.sealers n is_node))
 
     -- a nonce is taken
     pub books_take : (g : HostState) (n seen : ℕ) (nonce plain text : List ℕ) → g.nonces ≡ h.nonces → ((m : ℕ) → nonces_to m g.requests.queue ≡ nonces_to m h.requests.queue)

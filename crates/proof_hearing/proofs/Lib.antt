@@ -6,3 +6,4 @@ pub mod BooksGo
 pub mod Unsealing
 pub mod OneMessage
 pub mod OnePayload
+pub mod Sent

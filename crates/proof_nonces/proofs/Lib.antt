@@ -1,4 +1,4 @@
-mod Payloads
+pub mod Payloads
 mod Queued
 mod Since
 mod Taking

@@ -152,7 +152,7 @@ no_some : (x : List ℕ) → ◌≡◌ {A = Option (List ℕ)} None (Some x) →
 no_some x e = cc
 
 -- then none waits for a nonce
-none_pending : (n : NodeState) (payload : List ℕ) → NodeFacts n → n.text ≡ Some payload → n.pending ≡ None
+pub none_pending : (n : NodeState) (payload : List ℕ) → NodeFacts n → n.text ≡ Some payload → n.pending ≡ None
 none_pending n payload facts is = by n.series facts.series
   where
     by_pending : (o : Option (List ℕ)) → (is_some n.text && is_some o) ≡ false → o ≡ None
