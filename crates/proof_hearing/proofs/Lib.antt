@@ -7,3 +7,4 @@ pub mod Unsealing
 pub mod OneMessage
 pub mod OnePayload
 pub mod Sent
+pub mod Around

@@ -239,6 +239,25 @@ module _ (key : List ℕ) (taken : List Entry → Carried → List Told) (past l
           (may_by n (nonce_report nonce) true false (begins_so 0x80 nonce) (begins_else 0x80 0x81 nonce refl)
           (ap (λ (l : List ℕ). not (true && are_none l) && not (false && (are_none (sealer_of n course).ready || is_late heeds past n))) it.offers)) shown_books
 
+    -- whatever the task is
+    abbrev pub OffersNode : Task → Type 0
+    OffersNode (task.Offer n nonce) = IsNode n
+    OffersNode t = Unit {0}
+
+    pub front_sent : (id : ℕ) (t : Task) → first ≡ t → AsksOther t → OffersNode t → sending_in unit ≡ carried_by (Housekeeping t) id → Sent g unit
+    front_sent id (task.Plain n payload) first_is other is_node is = other_front (λ m. ap (nonce_to m) first_is) n payload other is
+    front_sent id (task.Offer n nonce) first_is other is_node is = offer_sent n nonce is_node first_is is
+    front_sent id (task.Segment n payload) first_is other is_node is = other_front (λ m. ap (nonce_to m) first_is) n payload other is
+    front_sent id (task.NoMore n) first_is other is_node is = other_front (λ m. ap (nonce_to m) first_is) n (132 ∷ 8 ∷ []) refl is
+    front_sent id (task.First n) first_is other is_node is = quiet_front (λ m. ap (nonce_to m) first_is) [] is refl refl
+    front_sent id (task.Second n) first_is other is_node is = quiet_front (λ m. ap (nonce_to m) first_is) [] is refl refl
+    front_sent id task.Members first_is other is_node is = quiet_front (λ m. ap (nonce_to m) first_is) [] is refl refl
+    front_sent id (task.Neighbours n) first_is other is_node is = quiet_front (λ m. ap (nonce_to m) first_is) [] is refl refl
+    front_sent id (task.IsFailed n) first_is other is_node is = quiet_front (λ m. ap (nonce_to m) first_is) [] is refl refl
+    front_sent id task.Version first_is other is_node is = quiet_front (λ m. ap (nonce_to m) first_is) [] is refl refl
+    front_sent id task.MemoryId first_is other is_node is = quiet_front (λ m. ap (nonce_to m) first_is) [] is refl refl
+    front_sent id task.Capabilities first_is other is_node is = quiet_front (λ m. ap (nonce_to m) first_is) [] is refl refl
+
   -- ---- a part of an attempt
 
   module _ (point : (n : ℕ) → Point key heeds past n h) (n : ℕ) (is_node : IsNode n) (unit : List ℕ) (late : (m : ℕ) → IsNode m → (m ≡ n → ⊥) → is_late heeds past m ≡ true → is_late heeds later m ≡ true) where
