@@ -62,38 +62,16 @@ use Rattle.proof_nonces.specs.proof_known.law_host.Heard.{heeds_alone, listing_h
 use Rattle.proof_nonces.specs.proof_known.law_host.Messages.{Hearing, ended_by, ends_session, final_notes, gives_next, has_room, hears, hears_value, is_full as is_course_full, is_of_open, is_told_openly, offers_last, past_now, puts, sealed_for, takes_nonce, takes_report, unread}
 use Rattle.proof_nonces.specs.proof_known.law_host.Nonces.{IsSeal, is_late, nonce_with}
 use Rattle.proof_nonces.specs.proof_known.proof_alone.Steps.{AreTold}
-use Rattle.proof_nonces.proofs.ByMessage.{IsEnded, IsNoValues, Ties, asked_for, ends_so, is_final, is_old, is_working, names_open, note_told, of_open_is, openly_is, put_out}
+use Rattle.proof_nonces.proofs.ByMessage.{IsEnded, IsNoValues, asked_for, ends_so, is_final, is_old, is_working, names_open, note_told, of_open_is, openly_is, put_out}
 use Rattle.proof_nonces.proofs.Noting.{noted_told}
 use Rattle.proof_nonces.proofs.Walking.{own_long}
 use Rattle.proof_queue.specs.Heeding.{taken_up}
 use Rattle.proof_queue.specs.proof_sending.Due.{AreCarried}
 use Rattle.proof_hearing.specs.Books.{BooksOf, BooksSo, SealedOpen, nonces_to}
-use Rattle.proof_hearing.specs.Hearing.{choosing, else_of, waited}
+use Rattle.proof_hearing.specs.Hearing.{KeepsLast, NoOut, Point, StaysLate, choosing, else_of, waited}
 use Rattle.proof_hearing.proofs.Alike.{Alike, finish_here, finish_other, hold_same, same_alike, takes_here, takes_other, wakes_go, works_go}
 use Rattle.proof_hearing.proofs.BooksGo.{books_end, books_give, books_offer, books_on, books_take, one_given, one_offered, ready_by, segment_to}
 use Rattle.proof_hearing.proofs.Wanted.{unwanted, wanted}
-
--- ---- what is known
-
--- what is known of a host at one point of its transcript, where it hears a payload of the node
-pub record Point (key : List ℕ) (heeds : Heeds) (past : List Entry) (n : ℕ) (h : HostState) : Type 0 where
-  pub ties : Ties past h
-  pub same_keys : h.keys ≡ keys_of key
-  pub carried : AreCarried listing_heard past h.commands
-  pub late : is_late heeds past n ≡ true → (node_of h n).pending ≡ None
-
--- an entry that is no outcome
-abbrev pub NoOut : Entry → Type 0
-NoOut (entry.Out command ended) = ⊥
-NoOut e = Unit {0}
-
--- what is noted leaves an attempt late, but for the node whose command ends
-abbrev pub StaysLate : Heeds → ℕ → List Entry → List Entry → Type 0
-StaysLate heeds n past told = (m : ℕ) → IsNode m → (m ≡ n → AllByRecursion NoOut told) → is_late heeds past m ≡ true → is_late heeds (past ++ told) m ≡ true
-
--- where the last nonce is told again nothing is to be kept, so nothing is not kept
-abbrev pub KeepsLast : Type 0
-KeepsLast = (h : HostState) (n : ℕ) (nonce : List ℕ) (seen : ℕ) → NonceReportEvents h n nonce (Some seen) (Is_unkept n ∷ []) → (node_of h n).seen ≡ seen → ⊥
 
 some_of : {A : Type 0} (x y : A) → Some x ≡ Some y → x ≡ y
 some_of x y e = cc

@@ -46,9 +46,9 @@ use Rattle.proof_nonces.specs.proof_notes.Full.{MessageNotes, hearing_of}
 use Rattle.proof_nonces.proofs.ByMessage.{IsNoValues, One, note_told, one_message}
 use Rattle.proof_queue.specs.Heeding.{heeded_of, heeded_opened, heeded_payload, heeded_sealed, taken_up}
 use Rattle.proof_hearing.specs.Books.{BooksOf, BooksSo}
-use Rattle.proof_hearing.specs.Hearing.{HeardOne, HearsSo, Remaining, Whole, Left, RemainsSo, choosing, else_of, finishes, heeded_rest, waited}
+use Rattle.proof_hearing.specs.Hearing.{HeardOne, HearsSo, KeepsLast, NoOut, Point, StaysLate, Remaining, Whole, Left, RemainsSo, choosing, else_of, finishes, heeded_rest, waited}
 use Rattle.proof_hearing.proofs.BooksGo.{books_on, books_spend, none_live}
-use Rattle.proof_hearing.proofs.OneMessage.{KeepsLast, NoOut, Noted, Point, StaysLate, account, message_one, message_quiet, same_host, still_books, value_so}
+use Rattle.proof_hearing.proofs.OneMessage.{Noted, account, message_one, message_quiet, same_host, still_books, value_so}
 use Rattle.proof_hearing.proofs.Unsealing.{shut_so, unsealed_so}
 
 first_is : (event one : HostEvent) (left rest : List HostEvent) → event ∷ left ≡ one ∷ rest → (event ≡ one) × (left ≡ rest)

@@ -54,9 +54,9 @@ use Rattle.proof_nonces.specs.proof_known.law_host.Nonces.{IsSeal, asks_nonce, i
 use Rattle.proof_nonces.proofs.Payloads.{first_differs, message_other, second_differs, segment_other}
 use Rattle.proof_nonces.proofs.Walking.{carried_by, none_pending}
 use Rattle.proof_hearing.specs.Books.{BooksOf, BooksSo, GiverSo, IsLowOffer, IsLowOpening, IsReady, SealedOpen, SealerSo, nonce_to, nonces_to}
+use Rattle.proof_hearing.specs.Hearing.{Point}
 use Rattle.proof_hearing.proofs.Alike.{Alike, here_node, other_node, same_alike}
 use Rattle.proof_hearing.proofs.BooksGo.{books_on, books_one, giver_on, sealer_on, sealers_at}
-use Rattle.proof_hearing.proofs.OneMessage.{Point}
 use Rattle.proof_hearing.proofs.Putting.{giver_here, giver_other, givers_stay, sealer_here, sealer_other, sealers_stay, with_giver_book, with_sealer_book}
 use Rattle.proof_hearing.proofs.Wanted.{last, message}
 

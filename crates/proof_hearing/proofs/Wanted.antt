@@ -24,7 +24,8 @@ use Rattle.host_model.specs.Sessions.{command_if, message_for, open_segment, seg
 use Rattle.host_model.specs.Taking.{wanted_segment}
 use Rattle.proof_host.specs.Tables.{taken_by}
 use Rattle.proof_nonces.specs.proof_known.law_host.Heard.{listing_heard}
-use Rattle.proof_nonces.proofs.ByMessage.{Ties, last_some}
+use Rattle.proof_nonces.specs.proof_notes.Ties.{Ties}
+use Rattle.proof_nonces.proofs.ByMessage.{last_some}
 use Rattle.proof_queue.specs.proof_sending.Due.{AreCarried}
 use Rattle.proof_queue.proofs.Kept.{keeps_first}
 use Rattle.proof_queue.proofs.Segments.{IsWanted, Shows, open_is_last, resent_is_wanted, session_last}

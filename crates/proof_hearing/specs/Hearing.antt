@@ -1,20 +1,29 @@
 -- What a host alone and a course make of a payload, event by event (this project's own rule): the course in the middle of it has what the events so far have noted, and its books are the
 -- host's; the next event makes of it what the course makes of the next message, whatever is chosen later.
-use Rattle.std.specs.Prelude.{◌≡◌, ℕ, ◌+◌, Bool, true, List, [], ◌∷◌, ◌++◌, length, Option}
+use Rattle.std.specs.Prelude.{◌≡◌, ℕ, ◌+◌, Bool, true, false, List, [], ◌∷◌, ◌++◌, length, Option, Some, None, ⊤}
+use Rattle.std.specs.List.{AllByRecursion}
+use Rattle.chip_functions.specs.Field.{IsNode}
+use Rattle.s0_crypto.specs.Sealing.{keys_of}
 use Rattle.serial_frame.specs.declared.unit.TheConstants.{ACK}
 use Rattle.zw_words.specs.declared.side.Side.TheVariants.{Host}
 use Rattle.zw_text.specs.declared.entry.Entry.{Entry}
-use Rattle.zw_text.specs.declared.entry.Entry.TheVariants.{Written}
+use Rattle.zw_text.specs.declared.entry.Entry.TheVariants.{Out, Written}
+use Rattle.law_transcript.specs.Units.{Carried}
+use Rattle.law_time.specs.Heeds.{Heeds}
 use Rattle.law_time.specs.Queue.{queue_before}
 use Rattle.host_heard.specs.Telling.{heard_at}
 use Rattle.host_heard.specs.declared.told.Told.{Told}
-use Rattle.host_model.specs.State.{HostState}
+use Rattle.host_model.specs.State.{HostState, node_of}
 use Rattle.host_model.specs.After.{after}
-use Rattle.host_model.specs.Events.{HostEvent}
-use Rattle.host_model.specs.Taking.{AreTaken, PayloadEvents}
+use Rattle.host_model.specs.Events.{HostEvent, Is_unkept}
+use Rattle.host_model.specs.Taking.{AreTaken, NonceReportEvents, PayloadEvents}
 use Rattle.proof_nonces.specs.proof_known.law_host.Course.{Course, each_in_turn}
 use Rattle.proof_nonces.specs.proof_known.law_host.Frames.{hears_payload}
+use Rattle.proof_nonces.specs.proof_known.law_host.Heard.{heeds_alone, listing_heard}
+use Rattle.proof_nonces.specs.proof_known.law_host.Nonces.{is_late}
 use Rattle.proof_nonces.specs.proof_known.law_host.Messages.{Hearing, hears}
+use Rattle.proof_nonces.specs.proof_notes.Ties.{Ties}
+use Rattle.proof_queue.specs.proof_sending.Due.{AreCarried}
 use Rattle.proof_queue.specs.Heeding.{heeded_of, heeded_payload}
 use Rattle.proof_hearing.specs.Books.{BooksSo}
 
@@ -25,6 +34,32 @@ choosing keepings texts course = record course { keepings = keepings; texts = te
 -- all of it that no message of a payload changes
 abbrev pub else_of : Course → Course
 else_of course = record course { due = []; put = 0; books = []; keepings = []; texts = []; taken = []; opened = [] }
+
+-- a payload of a node that a host alone judges, before it is opened
+abbrev pub hearing_at : (List Entry → Carried → List Told) → (before past : List Entry) → ℕ → List ℕ → Hearing
+hearing_at taken before past n payload = record { heeds = heeds_alone taken; before = before; past = past; node = n; payload = payload; was_sealed = false }
+
+-- ---- what is known of the host
+
+-- what is known of a host at one point of its transcript, where it hears a payload of the node
+pub record Point (key : List ℕ) (heeds : Heeds) (past : List Entry) (n : ℕ) (h : HostState) : Type 0 where
+  pub ties : Ties past h
+  pub same_keys : h.keys ≡ keys_of key
+  pub carried : AreCarried listing_heard past h.commands
+  pub late : is_late heeds past n ≡ true → (node_of h n).pending ≡ None
+
+-- an entry that is no outcome
+abbrev pub NoOut : Entry → Type 0
+NoOut (Out command ended) = ⊥
+NoOut entry = ⊤
+
+-- what is noted leaves an attempt late, but for the node whose command ends
+abbrev pub StaysLate : Heeds → ℕ → List Entry → List Entry → Type 0
+StaysLate heeds n past told = (m : ℕ) → IsNode m → (m ≡ n → AllByRecursion NoOut told) → is_late heeds past m ≡ true → is_late heeds (past ++ told) m ≡ true
+
+-- where the last nonce is told again nothing is to be kept, so nothing is not kept
+abbrev pub KeepsLast : Type 0
+KeepsLast = (h : HostState) (n : ℕ) (nonce : List ℕ) (seen : ℕ) → NonceReportEvents h n nonce (Some seen) (Is_unkept n ∷ []) → (node_of h n).seen ≡ seen → ⊥
 
 -- ---- what is left of a payload
 

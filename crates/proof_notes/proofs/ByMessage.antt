@@ -57,16 +57,8 @@ use Rattle.proof_known.specs.law_host.Messages.{final_notes, held_notes, is_of_o
 use Rattle.proof_known.specs.proof_alone.Listening.{ListensAsTold}
 use Rattle.proof_known.specs.proof_alone.Steps.{AreTold}
 use Rattle.proof_known.specs.Noted.{has_room}
+use Rattle.proof_notes.specs.Ties.{Ties}
 use Rattle.proof_notes.specs.Full.{AreNoneUnlessFull, AreUnlessUnkept, EndNotes, MessageNotes, ReportNotes, hearing_of, value_note}
-
--- what is known of a host where it takes a message
-pub record Ties (past : List Entry) (h : HostState) : Type 0 where
-  pub facts : Facts past h
-  pub lists_so : KnowsListing listing_heard past h
-  pub hears : ListensAsTold past h
-  pub opened : (n : ℕ) → is_open n past ≡ has_open (node_of h n)
-  pub rooms : (n : ℕ) (p : Property) → count_with h.store n (p ∷ []) ≡ distinct_count same_property (p ∷ properties_kept listing_heard past n)
-  pub tables : (n : ℕ) → IsTable listing_heard h.commands n past
 
 -- ---- what is told
 
