@@ -1,8 +1,8 @@
--- What each event behind a payload leaves at the nodes of a host of what waits to be sealed.
+-- What each event after a payload leaves at the nodes of a host of what waits to be sealed.
 use Rattle.std.proofs.Common.{◌≡◌, ◌<◌, ℕ, ◌&&◌, Bool, true, false, if◌then◌else◌, inl, inr, List, length, refl, sym, ap, ◌∙◌, subst}
-use Rattle.std.specs.Prelude.{Option, None, Some}
+use Rattle.std.specs.Prelude.{None}
 use Rattle.std.proofs.lemmas.Bool.{cases_eq, cases_lt}
-use Rattle.std.proofs.lemmas.List.{get_or-set_same, get_or-set_other, length-set, set_past}
+use Rattle.std.proofs.lemmas.List.{get_or-set_same, get_or-set_other, set_past}
 use Rattle.supervision.specs.Host.{open_session, told_of}
 use Rattle.supervision.specs.declared.host_node.Told.{Told}
 use Rattle.supervision.specs.declared.host_node.Told.TheVariants.{Final, Working}
@@ -15,7 +15,7 @@ use Rattle.host_node.specs.Steps.{after_nonce, after_occasion, after_told, new_s
 use Rattle.host_node.specs.TableState.{node_of as node_among}
 use Rattle.host_model.specs.State.{HostState, node_of}
 use Rattle.host_model.specs.After.{after, finishing, holding, is_held, node_does}
-use Rattle.host_model.specs.Events.{HostEvent, Finishes, Notifies, Takes_nonce, Works}
+use Rattle.host_model.specs.Events.{Finishes, Notifies, Takes_nonce, Works}
 
 -- ---- one node
 

@@ -1,22 +1,20 @@
 -- What a new request leaves of a course besides its books, whatever is chosen later; and what a restart leaves of the books.
-use Rattle.std.proofs.Common.{◌≡◌, ◌≤◌, ℕ, ◌==◌, Bool, true, false, if◌then◌else◌, inl, inr, List, [], ◌∷◌, map, refl, sym, ap, ◌∙◌, subst, arith}
+use Rattle.std.proofs.Common.{◌≡◌, ◌≤◌, ℕ, ◌==◌, Bool, true, false, if◌then◌else◌, inl, List, [], ◌∷◌, map, refl, sym, ap, ◌∙◌, subst}
 use Rattle.std.specs.Prelude.{Option, Some, None, bytes_eq, is_some}
-use Rattle.std.specs.List.{AllByRecursion}
 use Rattle.zw_base.proofs.Each.{all-weaker}
 use Rattle.chip_functions.specs.Field.{IsNode}
 use Rattle.encap.specs.Opening.{begins_with}
-use Rattle.s0_session.specs.declared.account.Account.{Account}
-use Rattle.s0_session.specs.Nonces.{given_of, live_of}
+use Rattle.s0_session.specs.Nonces.{given_of}
 use Rattle.zw_text.specs.declared.entry.Entry.{Entry}
 use Rattle.law_transcript.specs.Payloads.{nonce_get}
 use Rattle.law_transcript.specs.Units.{Carried, sending_in}
 use Rattle.law_time.specs.Heeds.{Heeds}
 use Rattle.host_model.specs.State.{HostState, node_of}
 use Rattle.proof_nonces.specs.Counted.{IsLast, LiveSo}
-use Rattle.proof_nonces.specs.proof_known.law_host.Course.{Book, Course, Offer, Opening, Seal, book_of, each_in_turn, nothing_sealed, restarted, restarted_book}
+use Rattle.proof_nonces.specs.proof_known.law_host.Course.{Book, Course, book_of, each_in_turn, nothing_sealed, restarted, restarted_book}
 use Rattle.proof_nonces.specs.proof_known.law_host.Nonces.{asks_nonce, sends, sends_carried, shows_nonce, uses_nonce}
 use Rattle.proof_nonces.proofs.Accounts.{SameAccount}
-use Rattle.proof_hearing.specs.Books.{BooksOf, BooksSo, GiverSo, IsLowOffer, IsLowOpening, SealerSo, nonces_to}
+use Rattle.proof_hearing.specs.Books.{BooksSo, GiverSo, IsLowOffer, IsLowOpening, SealerSo, nonces_to}
 use Rattle.proof_hearing.specs.Hearing.{choosing}
 use Rattle.proof_hearing.proofs.Alike.{Cleared}
 

@@ -1,5 +1,5 @@
--- How the books of a course go with those of a host, at what an event behind a payload does: what leaves them, a nonce that is given, offered or spent, a nonce that is taken, and an outcome.
-use Rattle.std.proofs.Common.{◌≡◌, ◌⊎◌, ◌<◌, ◌≤◌, ℕ, ◌+◌, ◌%◌, ◌==◌, Bool, true, false, if◌then◌else◌, inl, inr, List, [], ◌∷◌, ◌++◌, length, map, refl, sym, ap, ap₂, ◌∙◌, subst, append-nil, arith}
+-- How the books of a course go with those of a host, at what an event after a payload does: what leaves them, a nonce that is given, offered or spent, a nonce that is taken, and an outcome.
+use Rattle.std.proofs.Common.{◌≡◌, ◌⊎◌, ◌<◌, ◌≤◌, ℕ, ◌+◌, ◌%◌, Bool, true, false, if◌then◌else◌, inl, inr, List, [], ◌∷◌, ◌++◌, length, map, refl, sym, ap, ap₂, ◌∙◌, subst, append-nil, arith}
 use Rattle.std.specs.Prelude.{Option, Some, None, is_some, slice_set}
 use Rattle.std.specs.List.{AllByRecursion, flat_map}
 use Rattle.std.proofs.lemmas.Bool.{cases_eq, eq-eqb, ne_eqb}
@@ -19,9 +19,8 @@ use Rattle.host_requests.specs.Events.RequestsEvent.{Pushes}
 use Rattle.supervision.specs.Host.{command_at as command_of_session}
 use Rattle.host_model.specs.State.{HostState, node_of}
 use Rattle.host_model.specs.After.{giving, requests_do, spending}
-use Rattle.proof_messages.specs.Hosts.{HasTexts}
 use Rattle.proof_host.specs.Tables.{taken_at}
-use Rattle.proof_nonces.specs.proof_known.law_host.Course.{Book, Giver, Offer, Opening, Ready, Seal, Sealer, book_of, nothing_sealed}
+use Rattle.proof_nonces.specs.proof_known.law_host.Course.{Book, Giver, Offer, Opening, Seal, Sealer, book_of, nothing_sealed}
 use Rattle.proof_nonces.specs.proof_known.law_host.Nonces.{IsOpening, IsSeal, is_late, nonce_with}
 use Rattle.proof_nonces.specs.Counted.{LiveSo}
 use Rattle.proof_nonces.proofs.Accounts.{Redrawn, SetTo, given_next, gave_grown, gives_drawn, same_grown, set_goes, spends_grown, spent_live}

@@ -1,5 +1,5 @@
 -- What a message of a payload makes of the course, where an event of the host follows it: the event has noted what the course notes, and the books go together.
-use Rattle.std.proofs.Common.{◌≡◌, ◌⊎◌, ◌<◌, ◌≤◌, ℕ, ◌+◌, ◌-◌, ◌%◌, ◌==◌, ◌&&◌, not, nat_lt, Bool, true, false, if◌then◌else◌, inl, inr, List, [], ◌∷◌, ◌++◌, length, refl, sym, ap, ap₂, ◌∙◌, subst, append-nil, append_assoc, length-append, arith}
+use Rattle.std.proofs.Common.{◌≡◌, ◌⊎◌, ◌<◌, ◌≤◌, ℕ, ◌+◌, ◌-◌, ◌%◌, ◌==◌, ◌&&◌, not, nat_lt, Bool, true, false, if◌then◌else◌, inl, inr, List, [], ◌∷◌, ◌++◌, length, refl, sym, ap, ap₂, ◌∙◌, subst, append-nil, length-append, arith}
 use Rattle.std.specs.Prelude.{Option, Some, None, is_some, nat_le, slice_index}
 use Rattle.std.specs.List.{AllByRecursion, flat_map}
 use Rattle.std.specs.Set.{distinct_count}
@@ -54,23 +54,21 @@ use Rattle.host_model.specs.Events.{HostEvent, Unreads, Is_unkept, Reports_old, 
 use Rattle.host_model.specs.May.{May}
 use Rattle.host_model.specs.Outs.{dropped_if, ended_of, noted, outs}
 use Rattle.host_model.specs.Taking.{FinalEvents, IsKeptOr, IsTaken, NonceGetEvents, NonceReportEvents, ReportEvents, is_secure, resent, value_event, wanted_segment}
-use Rattle.host_model.specs.declared.out.HostOut.{HostOut}
 use Rattle.proof_host.specs.Tables.{taken_at}
 use Rattle.proof_host.proofs.Commands.{taken_set}
-use Rattle.proof_nonces.specs.proof_known.law_host.Course.{Book, Course, Giver, Ready, Sealer, book_of, each_in_turn, giver_of, if_kept, sealer_of, with_note, with_notes, with_taken, without_texts, with_giver, with_sealer}
+use Rattle.proof_nonces.specs.proof_known.law_host.Course.{Course, Giver, Sealer, book_of, each_in_turn, giver_of, if_kept, with_note, with_notes, with_taken, without_texts, with_giver}
 use Rattle.proof_nonces.specs.proof_known.law_host.Heard.{heeds_alone, listing_heard}
-use Rattle.proof_nonces.specs.proof_known.law_host.Messages.{Hearing, ended_by, ends_session, final_notes, gives_next, has_room, hears, hears_value, is_full as is_course_full, is_of_open, is_told_openly, offers_last, past_now, puts, sealed_for, takes_nonce, takes_report, unread}
-use Rattle.proof_nonces.specs.proof_known.law_host.Nonces.{IsSeal, is_late, nonce_with}
+use Rattle.proof_nonces.specs.proof_known.law_host.Messages.{Hearing, ends_session, final_notes, gives_next, has_room, hears, hears_value, is_full as is_course_full, is_of_open, offers_last, puts, sealed_for, takes_nonce, takes_report, unread}
+use Rattle.proof_nonces.specs.proof_known.law_host.Nonces.{is_late}
 use Rattle.proof_nonces.specs.proof_known.proof_alone.Steps.{AreTold}
-use Rattle.proof_nonces.proofs.ByMessage.{IsEnded, IsNoValues, asked_for, ends_so, is_final, is_old, is_working, names_open, note_told, of_open_is, openly_is, put_out}
+use Rattle.proof_nonces.proofs.ByMessage.{IsEnded, IsNoValues, ends_so, is_final, is_old, is_working, names_open, note_told, of_open_is, openly_is, put_out}
 use Rattle.proof_nonces.proofs.Noting.{noted_told}
 use Rattle.proof_nonces.proofs.Walking.{own_long}
 use Rattle.proof_queue.specs.Heeding.{taken_up}
-use Rattle.proof_queue.specs.proof_sending.Due.{AreCarried}
-use Rattle.proof_hearing.specs.Books.{BooksOf, BooksSo, SealedOpen, nonces_to}
+use Rattle.proof_hearing.specs.Books.{BooksSo, SealedOpen, nonces_to}
 use Rattle.proof_hearing.specs.Hearing.{KeepsLast, NoOut, Point, StaysLate, choosing, else_of, waited}
 use Rattle.proof_hearing.proofs.Alike.{Alike, finish_here, finish_other, hold_same, same_alike, takes_here, takes_other, wakes_go, works_go}
-use Rattle.proof_hearing.proofs.BooksGo.{books_end, books_give, books_offer, books_on, books_take, one_given, one_offered, ready_by, segment_to}
+use Rattle.proof_hearing.proofs.BooksGo.{books_end, books_give, books_offer, books_on, books_take, one_offered, segment_to}
 use Rattle.proof_hearing.proofs.Wanted.{unwanted, wanted}
 
 some_of : {A : Type 0} (x y : A) → Some x ≡ Some y → x ≡ y

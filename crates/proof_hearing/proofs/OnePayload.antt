@@ -1,19 +1,13 @@
 -- What a payload of a node makes of the course, event by event: each event has noted what the course notes next, and the rest is what the course makes of the messages that are left.
-use Rattle.std.proofs.Common.{◌≡◌, ◌⊎◌, ◌<◌, ◌≤◌, ℕ, ◌+◌, ◌-◌, ◌%◌, ◌==◌, ◌&&◌, Bool, true, false, if◌then◌else◌, inl, inr, List, [], ◌∷◌, ◌++◌, length, refl, sym, ap, ap₂, ◌∙◌, subst, append-nil, append_assoc, arith}
+use Rattle.std.proofs.Common.{◌≡◌, ◌≤◌, ℕ, ◌+◌, ◌-◌, ◌%◌, ◌==◌, ◌&&◌, Bool, true, false, if◌then◌else◌, inl, inr, List, [], ◌∷◌, ◌++◌, length, refl, sym, ap, ◌∙◌, subst, append-nil, append_assoc}
 use Rattle.std.specs.Prelude.{Option, Some, None, is_some, nat_le, nat_lt, slice_index}
 use Rattle.std.specs.List.{AllByRecursion}
-use Rattle.std.proofs.lemmas.Bool.{and_parts, cases_Bool, eqb-true, leb-true}
+use Rattle.std.proofs.lemmas.Bool.{eqb-true, leb-true}
 use Rattle.zw_base.specs.declared.property.Setting.{Setting}
 use Rattle.chip_functions.specs.Field.{IsNode}
-use Rattle.class_info.specs.Values.{status_byte}
-use Rattle.class_info.specs.declared.report_status.ReportStatus.{ReportStatus}
-use Rattle.class_info.specs.declared.report_status.ReportStatus.TheVariants as statuses
-use Rattle.supervision.specs.Host.{told_of}
-use Rattle.supervision.specs.declared.host_node.Told.{Told as TheTold}
-use Rattle.supervision.specs.declared.host_node.Told.TheVariants as booked
 use Rattle.s0_crypto.specs.Opening.{nonce_in}
 use Rattle.s0_crypto.specs.Seal.{Seals}
-use Rattle.s0_crypto.specs.Sealing.{keys_of, unsealed_at}
+use Rattle.s0_crypto.specs.Sealing.{unsealed_at}
 use Rattle.s0_crypto.specs.declared.key_pair.Keys.{Keys}
 use Rattle.s0_session.specs.Nonces.{live_of}
 use Rattle.value_store.specs.Values.{count_with}
@@ -25,29 +19,26 @@ use Rattle.host_heard.specs.Telling.{heard_at}
 use Rattle.host_heard.specs.declared.payload.Heard.{Heard}
 use Rattle.host_heard.specs.declared.payload.Heard.TheVariants.{Messages, Sealed, Unread}
 use Rattle.host_heard.specs.declared.told.Told.{Told}
-use Rattle.host_heard.specs.declared.told.Told.TheVariants.{Report, NonceGet, NonceReport, Notification, SegmentRequest, Values}
-use Rattle.host_keep.specs.Status.{status_of}
-use Rattle.host_model.specs.State.{HostState, node_of}
-use Rattle.host_model.specs.Facts.{IsCommandOf}
+use Rattle.host_heard.specs.declared.told.Told.TheVariants.{Values}
+use Rattle.host_model.specs.State.{HostState}
 use Rattle.host_model.specs.After.{after, spending}
 use Rattle.host_model.specs.Did.{after_all}
-use Rattle.host_model.specs.Events.{HostEvent, Finishes, Has_no_room, Hears_value, Is_unkept, Notifies, Offers, Reports_old, Spends, Spends_unread, Unreads, Works}
+use Rattle.host_model.specs.Events.{HostEvent, Has_no_room, Hears_value, Is_unkept, Spends, Spends_unread, Unreads}
 use Rattle.host_model.specs.May.{May}
 use Rattle.host_model.specs.Outs.{outs}
-use Rattle.host_model.specs.Taking.{AreTaken, FinalEvents, IsOpened, IsTaken, NonceGetEvents, OpensTo, OpensUnread, PayloadEvents, ReportEvents, SealedEvents, ends_from, is_secure, named_by, value_event, value_events}
-use Rattle.proof_nonces.specs.Counted.{LiveSo}
-use Rattle.proof_nonces.specs.proof_known.law_host.Course.{Course, Giver, Opening, book_of, each_in_turn, giver_of, if_kept, with_giver, with_note}
+use Rattle.host_model.specs.Taking.{AreTaken, IsOpened, IsTaken, OpensTo, PayloadEvents, SealedEvents, ends_from, named_by, value_event, value_events}
+use Rattle.proof_nonces.specs.proof_known.law_host.Course.{Course, Giver, Opening, book_of, each_in_turn, if_kept, with_giver, with_note}
 use Rattle.proof_nonces.specs.proof_known.law_host.Frames.{hears_all, hears_payload, hears_text, names_live, opens}
-use Rattle.proof_nonces.specs.proof_known.law_host.Heard.{heeds_alone, listing_heard}
+use Rattle.proof_nonces.specs.proof_known.law_host.Heard.{heeds_alone}
 use Rattle.proof_nonces.specs.proof_known.law_host.Messages.{Hearing, hears, hears_value, unread}
-use Rattle.proof_nonces.specs.proof_known.law_host.Nonces.{IsOpening, is_late, nonce_with}
+use Rattle.proof_nonces.specs.proof_known.law_host.Nonces.{IsOpening, nonce_with}
 use Rattle.proof_nonces.specs.proof_known.proof_alone.Steps.{AreTold}
 use Rattle.proof_nonces.specs.proof_notes.Full.{MessageNotes, hearing_of}
 use Rattle.proof_nonces.proofs.ByMessage.{IsNoValues, One, note_told, one_message}
 use Rattle.proof_queue.specs.Heeding.{heeded_of, heeded_opened, heeded_payload, heeded_sealed, taken_up}
-use Rattle.proof_hearing.specs.Books.{BooksOf, BooksSo}
+use Rattle.proof_hearing.specs.Books.{BooksSo}
 use Rattle.proof_hearing.specs.Hearing.{HeardOne, HearsSo, KeepsLast, NoOut, Point, StaysLate, Remaining, Whole, Left, RemainsSo, choosing, else_of, finishes, heeded_rest, waited}
-use Rattle.proof_hearing.proofs.BooksGo.{books_on, books_spend, none_live}
+use Rattle.proof_hearing.proofs.BooksGo.{books_spend, none_live}
 use Rattle.proof_hearing.proofs.OneMessage.{Noted, account, message_one, message_quiet, same_host, still_books, value_so}
 use Rattle.proof_hearing.proofs.Unsealing.{shut_so, unsealed_so}
 

@@ -1,17 +1,15 @@
 -- What a request that is new makes of the books of a course: a Nonce Get has the message of its session wait for a nonce, a Nonce Report shows the nonce that was offered first, and a sealed text
 -- uses its nonce up; so they go with what the host does where it submits the request.
-use Rattle.std.proofs.Common.{◌≡◌, ◌⊎◌, ◌<◌, ◌≤◌, ℕ, ◌+◌, ◌*◌, ◌%◌, ◌==◌, ◌&&◌, ◌||◌, not, Bool, true, false, if◌then◌else◌, inl, inr, List, [], ◌∷◌, ◌++◌, length, map, refl, sym, ap, ap₂, ◌∙◌, subst, append-nil, arith}
-use Rattle.std.specs.Prelude.{Option, Some, None, bytes_eq, drop, is_some, nat_le, slice_index, take}
-use Rattle.std.specs.List.{AllByRecursion, flat_map, list_all}
+use Rattle.std.proofs.Common.{◌≡◌, ◌⊎◌, ◌<◌, ◌≤◌, ℕ, ◌+◌, ◌*◌, ◌%◌, ◌==◌, ◌&&◌, ◌||◌, not, Bool, true, false, if◌then◌else◌, inl, inr, List, [], ◌∷◌, ◌++◌, length, map, refl, sym, ap, ap₂, ◌∙◌, subst, arith}
+use Rattle.std.specs.Prelude.{Option, Some, None, bytes_eq, drop, nat_le, slice_index, take}
+use Rattle.std.specs.List.{AllByRecursion, list_all}
 use Rattle.std.proofs.lemmas.Bool.{both_ways, cases_eq, eq-eqb, false_from_ne_true, le-leb, ne_eqb}
 use Rattle.zw_base.proofs.Each.{all-append}
 use Rattle.chip_functions.specs.Field.{IsNode}
-use Rattle.supervision.specs.Host.{command_at as command_of_session, open_session}
+use Rattle.supervision.specs.Host.{command_at as command_of_session}
 use Rattle.encap.specs.Opening.{begins_with}
-use Rattle.s0_crypto.specs.Sealing.{cipher_text_of, keys_of, sealed_text}
-use Rattle.s0_crypto.specs.Seal.{code_of}
-use Rattle.s0_session.specs.declared.account.Account.{Account}
-use Rattle.s0_session.specs.Nonces.{given_of, live_of}
+use Rattle.s0_crypto.specs.Sealing.{keys_of, sealed_text}
+use Rattle.s0_session.specs.Nonces.{given_of}
 use Rattle.zw_text.specs.declared.entry.Entry.{Entry}
 use Rattle.law_transcript.specs.Nodes.{controller}
 use Rattle.law_transcript.specs.Payloads.{nonce_get, nonce_report}
@@ -34,30 +32,27 @@ use Rattle.host_node.specs.declared.series.Series.{Series}
 use Rattle.host_node.specs.declared.series.Series.TheVariants.{Due, Running, Idle}
 use Rattle.host_requests.specs.declared.task.Task.{Task}
 use Rattle.host_requests.specs.declared.task.Task.TheVariants as task
-use Rattle.host_requests.specs.declared.task.Purpose.{Purpose}
-use Rattle.host_requests.specs.declared.task.Purpose.TheVariants.{Housekeeping, Attempt, Abort}
+use Rattle.host_requests.specs.declared.task.Purpose.TheVariants.{Housekeeping, Attempt}
 use Rattle.host_requests.specs.Events.{task_begun}
 use Rattle.host_requests.specs.Events.RequestsEvent.{BeginsAttempt}
-use Rattle.host_model.specs.State.{Command, HostState, command_at, node_of}
+use Rattle.host_model.specs.State.{Command, HostState, node_of}
 use Rattle.transport_segments.specs.Parts.{slice_at}
 use Rattle.host_model.specs.Sessions.{message_for, segment_count, start_by}
-use Rattle.host_model.specs.After.{after, node_does, submits}
-use Rattle.host_model.specs.Events.{HostEvent, Gives_segment, Gives_text, Starts, Submits_abort, Submits_front}
-use Rattle.host_model.specs.May.{IsStart, May}
+use Rattle.host_model.specs.After.{after, submits}
+use Rattle.host_model.specs.Events.{Gives_segment, Gives_text, Starts, Submits_abort, Submits_front}
+use Rattle.host_model.specs.May.{IsStart}
 use Rattle.proof_host.specs.Tables.{taken_at, taken_by}
-use Rattle.proof_messages.specs.Hosts.{HasTexts}
-use Rattle.proof_nonces.specs.Counted.{LiveSo}
 use Rattle.proof_nonces.specs.Known.{AsksOther, IsOther}
-use Rattle.proof_nonces.specs.proof_known.law_host.Course.{Book, Course, Giver, Offer, Opening, Ready, Seal, Sealer, book_of, each_in_turn, giver_of, restarted, restarted_book, sealer_of, with_giver, with_sealer}
+use Rattle.proof_nonces.specs.proof_known.law_host.Course.{Book, Course, Giver, Offer, Ready, Sealer, book_of, each_in_turn, giver_of, sealer_of, with_giver, with_sealer}
 use Rattle.proof_nonces.specs.proof_known.law_host.Heard.{heeds_alone, listing_heard}
 use Rattle.proof_nonces.specs.proof_known.law_host.Nonces.{IsSeal, asks_nonce, is_late, may_be_sent, may_carry, nonce_with, sends, sends_carried, shows_nonce, uses_nonce}
 use Rattle.proof_nonces.proofs.Payloads.{first_differs, message_other, second_differs, segment_other}
 use Rattle.proof_nonces.proofs.Walking.{carried_by, none_pending}
-use Rattle.proof_hearing.specs.Books.{BooksOf, BooksSo, GiverSo, IsLowOffer, IsLowOpening, IsReady, SealedOpen, SealerSo, nonce_to, nonces_to}
+use Rattle.proof_hearing.specs.Books.{BooksOf, BooksSo, GiverSo, IsLowOffer, IsReady, SealedOpen, SealerSo, nonce_to, nonces_to}
 use Rattle.proof_hearing.specs.Hearing.{Point}
 use Rattle.proof_hearing.proofs.Alike.{Alike, here_node, other_node, same_alike}
 use Rattle.proof_hearing.proofs.BooksGo.{books_on, books_one, giver_on, sealer_on, sealers_at}
-use Rattle.proof_hearing.proofs.Putting.{giver_here, giver_other, givers_stay, sealer_here, sealer_other, sealers_stay, with_giver_book, with_sealer_book}
+use Rattle.proof_hearing.proofs.Putting.{giver_here, giver_other, sealers_stay, with_giver_book, with_sealer_book}
 use Rattle.proof_hearing.proofs.Wanted.{last, message}
 
 -- ---- by what a payload is

@@ -1,5 +1,5 @@
 -- What a sealed payload opens to, as a function of its bytes and the nonce.
-use Rattle.std.proofs.Common.{◌≡◌, ◌≤◌, ℕ, ◌-◌, List, refl, sym, ap, ◌∙◌}
+use Rattle.std.proofs.Common.{◌≡◌, ◌≤◌, ℕ, ◌-◌, List, sym, ap}
 use Rattle.std.specs.Prelude.{Some, None, slice_index}
 use Rattle.s0_crypto.specs.declared.key_pair.Keys.{Keys}
 use Rattle.s0_crypto.specs.declared.ends.SealEnds.{SealEnds}

@@ -1,4 +1,4 @@
-//! What each event behind a payload makes of a course.
+//! What each event after a payload makes of a course.
 
 ghost use Rattle.std.specs.Prelude.{◌≡◌, ℕ, Bool, Option, List, [], ◌∷◌, ◌++◌};
 ghost use Rattle.chip_functions.specs.Field.{IsNode};

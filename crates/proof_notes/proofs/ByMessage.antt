@@ -7,7 +7,6 @@ use Rattle.std.proofs.lemmas.Bool.{both_ways, cases_Bool, cases_lt, eq-eqb, eqb-
 use Rattle.std.proofs.lemmas.List.{get_or_past}
 use Rattle.std.proofs.lemmas.List.Elements.{recursion_from_All}
 use Rattle.zw_base.specs.PropertyOrder.{same_property}
-use Rattle.zw_base.specs.declared.property.Property.{Property}
 use Rattle.zw_base.specs.declared.property.Setting.{Setting}
 use Rattle.class_info.specs.Values.{status_byte}
 use Rattle.class_info.specs.declared.report_status.ReportStatus.{ReportStatus}
@@ -28,13 +27,13 @@ use Rattle.law_transcript.specs.Stores.{stores_asked_at, stores_of}
 use Rattle.law_transcript.proofs.Having.{all_has}
 use Rattle.law_time.specs.Interviews.{listens}
 use Rattle.law_time.specs.Judged.{last_of}
-use Rattle.law_time.specs.Sessions.{is_open, last_command}
+use Rattle.law_time.specs.Sessions.{last_command}
 use Rattle.host_heard.specs.declared.told.Told.{Told}
 use Rattle.host_heard.specs.declared.told.Told.TheVariants.{Report, NonceGet, NonceReport, Notification, SegmentRequest, Values}
 use Rattle.host_keep.specs.Status.{status_of}
 use Rattle.host_keep.specs.declared.final_status.FinalStatus.{FinalStatus}
 use Rattle.host_keep.specs.declared.final_status.FinalStatus.TheVariants as final
-use Rattle.host_node.specs.State.{NodeState, count_at, is_false, is_open as has_open, unknown}
+use Rattle.host_node.specs.State.{NodeState, count_at, is_false, unknown}
 use Rattle.host_orders.specs.Classes.{lists}
 use Rattle.host_model.specs.State.{Command, HostState, command_at, node_of}
 use Rattle.host_model.specs.Facts.{IsCommandOf}
@@ -44,17 +43,13 @@ use Rattle.host_model.specs.Events.{HostEvent, Unreads, Is_unkept, Reports_old, 
 use Rattle.host_model.specs.Outs.{dropped_if, ended_of, held_entries, noted, outs, stored_entries}
 use Rattle.host_model.specs.Taking.{FinalEvents, IsKeptOr, IsTaken, NonceGetEvents, NonceReportEvents, ReportEvents, is_secure, resent, value_event}
 use Rattle.host_model.specs.declared.out.HostOut.TheVariants.{Note}
-use Rattle.proof_host.specs.Facts.{Facts}
 use Rattle.proof_host.specs.Laws.{accepted_for, numbers_for}
 use Rattle.proof_host.specs.Tables.{nodes_by, taken_at, taken_by}
 use Rattle.proof_known.proofs.Noting.{noted_told, secure_is}
-use Rattle.proof_known.specs.proof_transcript.proof_once.ByTable.{IsTable}
 use Rattle.proof_known.specs.proof_transcript.proof_once.Tied.{settings_taken}
-use Rattle.proof_known.specs.proof_transcript.proof_spoken.Said.{KnowsListing}
 use Rattle.proof_known.proofs.StoredValues.{number_among}
 use Rattle.proof_known.specs.law_host.Heard.{listing_heard}
 use Rattle.proof_known.specs.law_host.Messages.{final_notes, held_notes, is_of_open}
-use Rattle.proof_known.specs.proof_alone.Listening.{ListensAsTold}
 use Rattle.proof_known.specs.proof_alone.Steps.{AreTold}
 use Rattle.proof_known.specs.Noted.{has_room}
 use Rattle.proof_notes.specs.Ties.{Ties}
