@@ -8,3 +8,4 @@ pub mod OneMessage
 pub mod OnePayload
 pub mod Sent
 pub mod Around
+pub mod Payload
