@@ -13,6 +13,7 @@ use Rattle.s0_session.specs.Nonces.{account_of, after_give, given_of, live_of, u
 use Rattle.zw_text.specs.declared.entry.Entry.{Entry}
 use Rattle.law_transcript.specs.Nodes.{controller}
 use Rattle.law_time.specs.Heeds.{Heeds}
+use Rattle.host_keep.specs.Kept.{Taken}
 use Rattle.host_requests.specs.declared.task.Task.{Task}
 use Rattle.host_requests.specs.declared.task.Task.TheVariants.{Offer as waits_offer, Segment as waits_segment}
 use Rattle.host_requests.specs.Events.RequestsEvent.{Pushes}
@@ -99,22 +100,26 @@ one_given giver = record giver { given = giver.given + 1; live = true }
 abbrev pub none_live : Giver → Giver
 none_live giver = record giver { live = false }
 
+-- each order that was taken stays, and how it is carried
+abbrev pub KeepsOrders : HostState → HostState → Type 0
+KeepsOrders h g = (number : ℕ) (taken : Taken) → taken_at h.commands number ≡ Some taken → taken_at g.commands number ≡ Some taken
+
 -- ---- sealers
 
 module _ (key : List ℕ) (heeds : Heeds) where
   -- a session that is open stays so
-  pub open_on : (h g : HostState) (m : ℕ) → Alike (node_of h m) (node_of g m) → ((number : ℕ) → taken_at g.commands number ≡ taken_at h.commands number) → SealedOpen h m → SealedOpen g m
+  pub open_on : (h g : HostState) (m : ℕ) → Alike (node_of h m) (node_of g m) → KeepsOrders h g → SealedOpen h m → SealedOpen g m
   open_on h g m alike orders was = record {
     session = was.session;
     opened = alike.opened ∙ was.opened;
     number = was.number;
     at = ap (λ (l : List ℕ). command_of_session l was.session) alike.commands ∙ was.at;
     taken = was.taken;
-    found = orders was.number ∙ was.found;
+    found = orders was.number was.taken was.found;
     form = was.form;
   }
 
-  pub sealer_on : (past later : List Entry) (m : ℕ) (h g : HostState) (sealer : Sealer) → Alike (node_of h m) (node_of g m) → ((number : ℕ) → taken_at g.commands number ≡ taken_at h.commands number)
+  pub sealer_on : (past later : List Entry) (m : ℕ) (h g : HostState) (sealer : Sealer) → Alike (node_of h m) (node_of g m) → KeepsOrders h g
       → (is_late heeds past m ≡ true → is_late heeds later m ≡ true) → SealerSo key heeds past m h sealer → SealerSo key heeds later m g sealer
   sealer_on past later m h g sealer alike orders late so = record {
     seen = so.seen ∙ sym alike.seen;
@@ -176,12 +181,8 @@ module _ (key : List ℕ) (heeds : Heeds) where
     abbrev pub LateOn : Type 0
     LateOn = (m : ℕ) → IsNode m → is_late heeds past m ≡ true → is_late heeds later m ≡ true
 
-    -- the orders are as they were
-    abbrev pub SameOrders : HostState → Type 0
-    SameOrders g = (number : ℕ) → taken_at g.commands number ≡ taken_at h.commands number
-
     -- an event that leaves them
-    pub books_on : (g : HostState) → g.nonces ≡ h.nonces → ((m : ℕ) → nonces_to m g.requests.queue ≡ nonces_to m h.requests.queue) → ((m : ℕ) → IsNode m → Alike (node_of h m) (node_of g m)) → SameOrders g → LateOn
+    pub books_on : (g : HostState) → g.nonces ≡ h.nonces → ((m : ℕ) → nonces_to m g.requests.queue ≡ nonces_to m h.requests.queue) → ((m : ℕ) → IsNode m → Alike (node_of h m) (node_of g m)) → KeepsOrders h g → LateOn
         → BooksOf key heeds later g books offered opened sealed
     books_on g nonces queue alike orders late = record {
       drawn = so.drawn;
@@ -218,7 +219,7 @@ module _ (key : List ℕ) (heeds : Heeds) where
 
     -- a command has ended
     pub books_end : (g : HostState) (n : ℕ) → IsNode n → g.nonces ≡ h.nonces → ((m : ℕ) → nonces_to m g.requests.queue ≡ nonces_to m h.requests.queue)
-        → ((m : ℕ) → (m ≡ n → ⊥) → Alike (node_of h m) (node_of g m)) → Cleared (node_of h n) (node_of g n) → SameOrders g → ((m : ℕ) → IsNode m → (m ≡ n → ⊥) → is_late heeds past m ≡ true → is_late heeds later m ≡ true)
+        → ((m : ℕ) → (m ≡ n → ⊥) → Alike (node_of h m) (node_of g m)) → Cleared (node_of h n) (node_of g n) → KeepsOrders h g → ((m : ℕ) → IsNode m → (m ≡ n → ⊥) → is_late heeds past m ≡ true → is_late heeds later m ≡ true)
         → BooksOf key heeds later g (with_sealer_book n (nothing_sealed (book_of n books).sealer) books) offered opened sealed
     books_end g n is_node nonces queue alike clear orders late =
         sealers_at g n (nothing_sealed (book_of n books).sealer) nonces queue
@@ -248,7 +249,7 @@ module _ (key : List ℕ) (heeds : Heeds) where
 
     -- an attempt is over without a sign
     pub books_late : (g : HostState) (n : ℕ) → IsNode n → g.nonces ≡ h.nonces → ((m : ℕ) → nonces_to m g.requests.queue ≡ nonces_to m h.requests.queue)
-        → ((m : ℕ) → (m ≡ n → ⊥) → Alike (node_of h m) (node_of g m)) → Cleared (node_of h n) (node_of g n) → SameOrders g
+        → ((m : ℕ) → (m ≡ n → ⊥) → Alike (node_of h m) (node_of g m)) → Cleared (node_of h n) (node_of g n) → KeepsOrders h g
         → ((m : ℕ) → IsNode m → (m ≡ n → ⊥) → is_late heeds past m ≡ true → is_late heeds later m ≡ true)
         → ((book_of n books).sealer.pending ≡ []) ⊎ ((is_late heeds later n ≡ true) × SealedOpen g n) → BooksOf key heeds later g books offered opened sealed
     books_late g n is_node nonces queue alike clear orders late stale =
@@ -257,7 +258,7 @@ module _ (key : List ℕ) (heeds : Heeds) where
 
     -- a nonce is taken
     pub books_take : (g : HostState) (n seen : ℕ) (nonce plain text : List ℕ) → g.nonces ≡ h.nonces → ((m : ℕ) → nonces_to m g.requests.queue ≡ nonces_to m h.requests.queue)
-        → ((m : ℕ) → (m ≡ n → ⊥) → Alike (node_of h m) (node_of g m)) → SameOrders g → LateOn → (book_of n books).sealer.pending ≡ plain ∷ []
+        → ((m : ℕ) → (m ≡ n → ⊥) → Alike (node_of h m) (node_of g m)) → KeepsOrders h g → LateOn → (book_of n books).sealer.pending ≡ plain ∷ []
         → IsSeal key (record { node = n; ready = record { nonce = nonce; text = plain }; payload = text }) → (node_of g n).seen ≡ seen → (node_of g n).text ≡ Some text → (node_of g n).pending ≡ None
         → BooksOf key heeds later g (with_sealer_book n (ready_by nonce seen (book_of n books).sealer) books) offered opened sealed
     books_take g n seen nonce plain text nonces queue alike orders late was seal seen_so text_so pending_so =
@@ -276,7 +277,7 @@ module _ (key : List ℕ) (heeds : Heeds) where
       live = so.live;
       givers = λ m is. by m is;
       sealers = λ m is. subst (SealerSo key heeds later m (requests_do h (Pushes (waits_offer n nonce)))) (sym (sealers_stay m n (one_offered (book_of n books).giver) books))
-          (sealer_on past later m h (requests_do h (Pushes (waits_offer n nonce))) (book_of m books).sealer (record { seen = refl; text = refl; pending = refl; opened = refl; commands = refl }) (λ number. refl) (late m is) (so.sealers m is));
+          (sealer_on past later m h (requests_do h (Pushes (waits_offer n nonce))) (book_of m books).sealer (record { seen = refl; text = refl; pending = refl; opened = refl; commands = refl }) (λ number taken found. found) (late m is) (so.sealers m is));
       were_offered = so.were_offered;
       were_opened = so.were_opened;
       were_sealed = so.were_sealed;
@@ -347,7 +348,7 @@ module _ (key : List ℕ) (heeds : Heeds) where
       live = redrawn.live;
       givers = λ m is. by m is;
       sealers = λ m is. subst (SealerSo key heeds past m (giving h n bytes)) (sym (sealers_stay m n (one_given (book_of n books).giver) books))
-          (sealer_on past past m h (giving h n bytes) (book_of m books).sealer (record { seen = refl; text = refl; pending = refl; opened = refl; commands = refl }) (λ number. refl) (λ late. late) (so.sealers m is));
+          (sealer_on past past m h (giving h n bytes) (book_of m books).sealer (record { seen = refl; text = refl; pending = refl; opened = refl; commands = refl }) (λ number taken found. found) (λ late. late) (so.sealers m is));
       were_offered = offers_low so.drawn redrawn.next (giving h n bytes).nonces redrawn.agrees grown offered so.were_offered;
       were_opened = openings_low so.drawn redrawn.next (giving h n bytes).nonces redrawn.agrees grown opened so.were_opened;
       were_sealed = so.were_sealed;
@@ -392,7 +393,7 @@ module _ (key : List ℕ) (heeds : Heeds) where
       live = spent_live so.drawn h.nonces (spending h n).nonces n so.live (set_goes h.nonces n (record (account_of h.nonces n) { live = None }));
       givers = λ m is. by m is;
       sealers = λ m is. subst (SealerSo key heeds later m (spending h n)) (sym (sealers_stay m n (none_live (book_of n books).giver) books))
-          (sealer_on past later m h (spending h n) (book_of m books).sealer (record { seen = refl; text = refl; pending = refl; opened = refl; commands = refl }) (λ number. refl) (late m is) (so.sealers m is));
+          (sealer_on past later m h (spending h n) (book_of m books).sealer (record { seen = refl; text = refl; pending = refl; opened = refl; commands = refl }) (λ number taken found. found) (late m is) (so.sealers m is));
       were_offered = offers_low so.drawn so.drawn (spending h n).nonces (λ node number low. refl) grown offered so.were_offered;
       were_opened = all-append (IsLowOpening key so.drawn (spending h n).nonces) opened (one ∷ [])
           (openings_low so.drawn so.drawn (spending h n).nonces (λ node number low. refl) grown opened so.were_opened)

@@ -9,3 +9,4 @@ pub mod OnePayload
 pub mod Sent
 pub mod Around
 pub mod Payload
+pub mod Beginning

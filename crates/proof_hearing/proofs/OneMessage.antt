@@ -123,7 +123,7 @@ module _ (key : List ℕ) (taken : List Entry → Carried → List Told) (before
     pub still_books : (told : List Entry) (g : HostState) → AllByRecursion NoOut told → Late told → Still g → BooksSo key heeds (past ++ told) g course
     still_books told g quiet late still =
         books_on key heeds past (past ++ told) h course.books course.offered course.opened course.sealed books g still.nonces (λ m. ap (nonces_to m) still.queue)
-        (λ m is. still.alike m) (λ number. ap (λ (l : List Command). taken_at l number) still.orders) (λ m is. late m is (λ same. quiet))
+        (λ m is. still.alike m) (λ number taken found. ap (λ (l : List Command). taken_at l number) still.orders ∙ found) (λ m is. late m is (λ same. quiet))
 
     -- a note of such an event, with no choice
     noted_so : (does : Course → Course) (messages : List Told) (e : Entry) (g : HostState) (next : Course) → NoOut e → Late (e ∷ []) → Still g
@@ -238,7 +238,8 @@ module _ (key : List ℕ) (taken : List Entry → Carried → List Told) (before
               (λ m. ap (λ (r : RequestsState). nonces_to m r.queue) (hold_same (finishing h n id it.command by) n (is_held h n wake)).1)
               (λ m other. finish_other h n session id it.command by wake m other)
               (finish_here h n session id it.command by wake place final_told)
-              (λ number. ap (λ (l : List Command). taken_at l number) (hold_same (finishing h n id it.command by) n (is_held h n wake)).2 ∙ taken_set h.commands it.command (outcome_of by) number)
+              (λ number taken found. ap (λ (l : List Command). taken_at l number) (hold_same (finishing h n id it.command by) n (is_held h n wake)).2
+              ∙ taken_set h.commands it.command (outcome_of by) number ∙ found)
               (λ m is other. late m is (λ same. absurd (other same)));
           room = room ∙ sym (ap (λ (r : RequestsState). length r.queue) (hold_same (finishing h n id it.command by) n (is_held h n wake)).1);
           due = ap (λ (l : List Entry). course.due ++ l) (sym is);
@@ -412,7 +413,7 @@ module _ (key : List ℕ) (taken : List Entry → Carried → List Told) (before
               else record (with_taken (SegmentRequest id offset) (choosing keepings texts course)) { put = course.put + 1 }) (full_is ∙ is);
           books = subst (λ (g : HostState). BooksSo key heeds (past ++ []) g course) (sym (pushed (waits_segment n text) is))
               (books_on key heeds past (past ++ []) h course.books course.offered course.opened course.sealed books (requests_do h (Pushes (waits_segment n text))) refl
-              (λ m. segment_to m n h.requests.queue text) (λ m is. record { seen = refl; text = refl; pending = refl; opened = refl; commands = refl }) (λ number. refl) (λ m is. late m is (λ same. tt)));
+              (λ m. segment_to m n h.requests.queue text) (λ m is. record { seen = refl; text = refl; pending = refl; opened = refl; commands = refl }) (λ number taken found. found) (λ m is. late m is (λ same. tt)));
           room = room_left (waits_segment n text) ∙ sym (ap (λ (g : HostState). length g.requests.queue) (pushed (waits_segment n text) is));
           due = sym (append-nil course.due);
           heeded = refl;
@@ -506,7 +507,7 @@ module _ (key : List ℕ) (taken : List Entry → Carried → List Told) (before
       offers_books : (full : Bool) → is_full h ≡ full → Late (dropped_if full n) → BooksSo key heeds (past ++ dropped_if full n) (offering g n (Some nonce)) (offered full)
       offers_books true is late =
           subst (λ (k : HostState). BooksSo key heeds (past ++ entry.QueueFull n ∷ []) k c) (sym (host_offers true is))
-          (books_on key heeds past (past ++ entry.QueueFull n ∷ []) g c.books c.offered c.opened c.sealed so g refl (λ m. refl) (λ m is. record { seen = refl; text = refl; pending = refl; opened = refl; commands = refl }) (λ number. refl)
+          (books_on key heeds past (past ++ entry.QueueFull n ∷ []) g c.books c.offered c.opened c.sealed so g refl (λ m. refl) (λ m is. record { seen = refl; text = refl; pending = refl; opened = refl; commands = refl }) (λ number taken found. found)
           (λ m is. late m is (λ same. (tt, tt))))
       offers_books false is late =
           subst (λ (k : HostState). BooksSo key heeds (past ++ []) k (offered false)) (sym (host_offers false is))
@@ -644,7 +645,7 @@ module _ (key : List ℕ) (taken : List Entry → Carried → List Told) (before
           (subst (λ (k : ℕ). Seals h.keys own nonce (ends_to k) plain text) number
           (subst (λ (p : List ℕ). Seals h.keys own nonce (ends_to node.node) p text) (some_of seals.plain plain (sym seals.is_pending ∙ pending)) seals.seals)) in
           books_take key heeds past (past ++ []) h course.books course.offered course.opened course.sealed books (after h (Takes_nonce n seen text)) n now nonce plain text refl (λ m. refl)
-          (λ m other. same_alike (node_of h m) (node_of (after h (Takes_nonce n seen text)) m) (takes_other h n seen text m other)) (λ number. refl) (λ m is. late m is (λ same. tt)) waits_so
+          (λ m other. same_alike (node_of h m) (node_of (after h (Takes_nonce n seen text)) m) (takes_other h n seen text m other)) (λ number taken found. found) (λ m is. late m is (λ same. tt)) waits_so
           (record { own = own; own_eight = eight; text = sealed_is (keys_of key) own nonce (ends_to n) plain text sealed_so })
           (ap (λ (s : NodeState). s.seen) here ∙ sym same) (ap (λ (s : NodeState). s.text) here) (ap (λ (s : NodeState). s.pending) here)
 

@@ -120,7 +120,7 @@ module _ (key : List ℕ) (taken : List Entry → Carried → List Told) (past l
   -- nothing of it is seen in the books
   still : (g : HostState) → g.nonces ≡ h.nonces → Queue_same g → ((m : ℕ) → IsNode m → Alike (node_of h m) (node_of g m)) → g.commands ≡ h.commands → LateOn → BooksSo key heeds later g course
   still g nonces queue alike orders late =
-      books_on key heeds past later h course.books course.offered course.opened course.sealed books g nonces queue alike (λ number. ap (λ (l : List Command). taken_at l number) orders) late
+      books_on key heeds past later h course.books course.offered course.opened course.sealed books g nonces queue alike (λ number taken found. ap (λ (l : List Command). taken_at l number) orders ∙ found) late
 
   abbrev same : (m : ℕ) → Alike (node_of h m) (node_of h m)
   same m = record { seen = refl; text = refl; pending = refl; opened = refl; commands = refl }
@@ -222,7 +222,7 @@ module _ (key : List ℕ) (taken : List Entry → Carried → List Told) (past l
         live = books.live;
         givers = givers_go;
         sealers = λ m is. subst (SealerSo key heeds later m g) (sym (sealers_stay m n (record (giver_of n course) { offers = it.more }) course.books))
-            (sealer_on key heeds past later m h g (book_of m course.books).sealer (same m) (λ number. refl) (late m is) (books.sealers m is));
+            (sealer_on key heeds past later m h g (book_of m course.books).sealer (same m) (λ number taken found. found) (late m is) (books.sealers m is));
         were_offered = all-append (IsLowOffer books.drawn h.nonces) course.offered (offer it.number ∷ []) books.were_offered (record { is = it.is; low = it.low }, tt);
         were_opened = books.were_opened;
         were_sealed = books.were_sealed;
@@ -277,7 +277,7 @@ module _ (key : List ℕ) (taken : List Entry → Carried → List Told) (past l
 
     others_go : (g : HostState) → ((m : ℕ) → (m ≡ n → ⊥) → node_of g m ≡ node_of h m) → g.commands ≡ h.commands → (m : ℕ) → IsNode m → (m ≡ n → ⊥) → SealerSo key heeds later m g (book_of m course.books).sealer
     others_go g stay orders m is other =
-        sealer_on key heeds past later m h g (book_of m course.books).sealer (same_alike (node_of h m) (node_of g m) (stay m other)) (λ number. ap (λ (l : List Command). taken_at l number) orders)
+        sealer_on key heeds past later m h g (book_of m course.books).sealer (same_alike (node_of h m) (node_of g m) (stay m other)) (λ number taken found. ap (λ (l : List Command). taken_at l number) orders ∙ found)
         (late m is other) (books.sealers m is)
 
     -- ---- one that is not sealed
@@ -487,4 +487,4 @@ module _ (key : List ℕ) (taken : List Entry → Carried → List Told) (past l
     segment_sent more payload other late_here is =
         other_part (after h (Gives_segment n more payload)) payload other is refl (λ m. refl) (λ m apart. other_node (asking more payload) n node_gives_segment m apart) refl
         (sealer_on key heeds past later n h (after h (Gives_segment n more payload)) (sealer_of n course)
-        (subst (Alike (node_of h n)) (sym (here_node (asking more payload) n node_gives_segment place)) (record { seen = refl; text = refl; pending = refl; opened = refl; commands = refl })) (λ number. refl) late_here so)
+        (subst (Alike (node_of h n)) (sym (here_node (asking more payload) n node_gives_segment place)) (record { seen = refl; text = refl; pending = refl; opened = refl; commands = refl })) (λ number taken found. found) late_here so)
