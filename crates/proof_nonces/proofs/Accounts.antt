@@ -21,10 +21,10 @@ use Rattle.proof_nonces.specs.Counted.{IsLast, LiveSo, spent_by, spent_of}
 -- ---- each account
 
 -- one that is set, or stays
-abbrev SetTo : ℕ → ℕ → Account → List Account → List Account → Type 0
+abbrev pub SetTo : ℕ → ℕ → Account → List Account → List Account → Type 0
 SetTo k n account old new = ((k ≡ n) × (account_of new k ≡ account)) ⊎ (account_of new k ≡ account_of old k)
 
-set_goes : (nonces : List Account) (n : ℕ) (account : Account) (k : ℕ) → SetTo k n account nonces (slice_set nonces n account)
+pub set_goes : (nonces : List Account) (n : ℕ) (account : Account) (k : ℕ) → SetTo k n account nonces (slice_set nonces n account)
 set_goes nonces n account k = elim (cases_eq k n) [
   | inl is ↦ elim (cases_lt n (length nonces)) [
     | inl within ↦ inl (is, subst (λ (j : ℕ). account_of (slice_set nonces n account) j ≡ account) (sym is) (get_or-set_same nonces n account unused within))
@@ -67,7 +67,7 @@ pub record Grown (old new : List Account) (k : ℕ) : Type 0 where
 no_less : (a b : ℕ) → a ≡ b → b ≤ a
 no_less a b is = omega (arith, is)
 
-same_grown : (old new : List Account) (k : ℕ) → account_of new k ≡ account_of old k → Grown old new k
+pub same_grown : (old new : List Account) (k : ℕ) → account_of new k ≡ account_of old k → Grown old new k
 same_grown old new k is = record {
   given = no_less (given_of new k) (given_of old k) (ap (λ (a : Account). a.given) is);
   spent = no_less (spent_of new k) (spent_of old k) (ap (λ (a : Account). spent_by a.live a.given) is);
@@ -76,7 +76,7 @@ same_grown old new k is = record {
 pub given_next : (live : Option (List ℕ)) (given : ℕ) → live ≡ None → given_from live given ≡ given + 1
 given_next live given none = ap (λ (l : Option (List ℕ)). given_from l given) none
 
-gave_grown : (old new : List Account) (k n : ℕ) (drawn : List ℕ) → live_of old n ≡ None → (k ≡ n) × (account_of new k ≡ after_give (account_of old n) drawn) → Grown old new k
+pub gave_grown : (old new : List Account) (k n : ℕ) (drawn : List ℕ) → live_of old n ≡ None → (k ≡ n) × (account_of new k ≡ after_give (account_of old n) drawn) → Grown old new k
 gave_grown old new k n drawn none (at, is) =
     let a : Account = account_of old n in
     let here : account_of old k ≡ a = ap (λ (j : ℕ). account_of old j) at in
@@ -94,7 +94,7 @@ spent_most (Some nonce) given = omega arith
 pub spent_given : (nonces : List Account) (k : ℕ) → spent_of nonces k ≤ given_of nonces k
 spent_given nonces k = spent_most (account_of nonces k).live (account_of nonces k).given
 
-spends_grown : (old new : List Account) (k n : ℕ) → (k ≡ n) × (account_of new k ≡ record (account_of old n) { live = None }) → Grown old new k
+pub spends_grown : (old new : List Account) (k n : ℕ) → (k ≡ n) × (account_of new k ≡ record (account_of old n) { live = None }) → Grown old new k
 spends_grown old new k n (at, is) =
     let a : Account = account_of old n in
     let here : account_of old k ≡ a = ap (λ (j : ℕ). account_of old j) at in
@@ -169,17 +169,17 @@ stays_last drawn next old new node nonce agrees live is at =
     last_so next node nonce (given_of old node) (given_of new node) (ap (λ (a : Account). a.given) is)
     (record { is = was.is ∙ ap (λ (b : List ℕ). given_of old node % 256 ∷ b) (sym (agrees (given_of old node) (omega arith))); some = was.some })
 
-same_drawn : (drawn : ℕ → ℕ → List ℕ) (old new : List Account) → ((node number : ℕ) → length (drawn node number) ≡ 7) → LiveSo drawn new → Redrawn drawn old new
+pub same_drawn : (drawn : ℕ → ℕ → List ℕ) (old new : List Account) → ((node number : ℕ) → length (drawn node number) ≡ 7) → LiveSo drawn new → Redrawn drawn old new
 same_drawn drawn old new seven live = record { next = drawn; seven = seven; live = live; agrees = λ node number low. refl }
 
-spent_live : (drawn : ℕ → ℕ → List ℕ) (old new : List Account) (n : ℕ) → LiveSo drawn old → ((k : ℕ) → SetTo k n (record (account_of old n) { live = None }) old new) → LiveSo drawn new
+pub spent_live : (drawn : ℕ → ℕ → List ℕ) (old new : List Account) (n : ℕ) → LiveSo drawn old → ((k : ℕ) → SetTo k n (record (account_of old n) { live = None }) old new) → LiveSo drawn new
 spent_live drawn old new n live goes node nonce at = by (goes node)
   where
     by : SetTo node n (record (account_of old n) { live = None }) old new → IsLast drawn node nonce (given_of new node)
     by (inl (same, is)) = absurd (none_some nonce (sym (ap (λ (a : Account). a.live) is) ∙ at))
     by (inr is) = stays_last drawn drawn old new node nonce (λ number low. refl) live is at
 
-gives_drawn : (drawn : ℕ → ℕ → List ℕ) (old new : List Account) (n : ℕ) (bytes : List ℕ) → ((node number : ℕ) → length (drawn node number) ≡ 7) → LiveSo drawn old → live_of old n ≡ None → length bytes ≡ 8
+pub gives_drawn : (drawn : ℕ → ℕ → List ℕ) (old new : List Account) (n : ℕ) (bytes : List ℕ) → ((node number : ℕ) → length (drawn node number) ≡ 7) → LiveSo drawn old → live_of old n ≡ None → length bytes ≡ 8
     → ((k : ℕ) → SetTo k n (after_give (account_of old n) bytes) old new) → Redrawn drawn old new
 gives_drawn drawn old new n bytes seven live none eight goes = record {
   next = next;

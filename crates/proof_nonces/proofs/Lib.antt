@@ -1,16 +1,17 @@
-mod Payloads
+pub mod Payloads
 mod Queued
 mod Since
 mod Taking
-mod Walking
+pub mod Walking
 mod Grounds
 mod Ordered
-mod Accounts
+pub mod Accounts
 mod Reports
 mod Opening
 mod Counting
 mod Standing
 mod Unsealed
+pub use Rattle.proof_notes.proofs.ByMessage
 pub use Rattle.proof_notes.proofs.Lasting
 pub use Rattle.proof_notes.proofs.Queueing
 pub use Rattle.proof_notes.proofs.Running as Running

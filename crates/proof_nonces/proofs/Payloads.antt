@@ -61,12 +61,12 @@ addressed_other : (ends : Option Ends) (inner : List ℕ) → IsOther inner → 
 addressed_other None inner other = other
 addressed_other (Some ends) inner other = refl
 
-message_other : (carriage : Carriage) (order : Order) (session : ℕ) → IsOther (message_of carriage order session)
+pub message_other : (carriage : Carriage) (order : Order) (session : ℕ) → IsOther (message_of carriage order session)
 message_other carriage order session = checked_other carriage.outer _ (addressed_other (ends_of order.end) _ refl)
 
 -- ---- segments
 
-segment_other : (id size offset : ℕ) (payload : List ℕ) → IsOther (segment_text id size offset payload)
+pub segment_other : (id size offset : ℕ) (payload : List ℕ) → IsOther (segment_text id size offset payload)
 segment_other id size offset payload = by (offset == 0) _ _
   where
     by : (b : Bool) (first later : List ℕ) → IsOther (with_check (if b then 85 ∷ first else 85 ∷ later))

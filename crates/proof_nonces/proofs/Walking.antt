@@ -152,7 +152,7 @@ no_some : (x : List ℕ) → ◌≡◌ {A = Option (List ℕ)} None (Some x) →
 no_some x e = cc
 
 -- then none waits for a nonce
-none_pending : (n : NodeState) (payload : List ℕ) → NodeFacts n → n.text ≡ Some payload → n.pending ≡ None
+pub none_pending : (n : NodeState) (payload : List ℕ) → NodeFacts n → n.text ≡ Some payload → n.pending ≡ None
 none_pending n payload facts is = by n.series facts.series
   where
     by_pending : (o : Option (List ℕ)) → (is_some n.text && is_some o) ≡ false → o ≡ None
@@ -171,7 +171,7 @@ seal_starts Cut session message plain is = absurd (let bad = is in cc)
 seal_starts in_seal session message plain is = refl
 
 -- the nonces of the two ends that seal one text are as long, for it is one plain text
-own_long : (n : NodeState) (keys : Keys) (own other nonce another text : List ℕ) → SealsText n keys own nonce text → SealsText n keys other another text → length other ≡ 8 → length own ≡ 8
+pub own_long : (n : NodeState) (keys : Keys) (own other nonce another text : List ℕ) → SealsText n keys own nonce text → SealsText n keys other another text → length other ≡ 8 → length own ≡ 8
 own_long n keys own other nonce another text x y eight =
     let plain : x.plain ≡ y.plain = same_some x.plain y.plain (sym x.is_pending ∙ y.is_pending) in
     let one = sealed_length keys own nonce (ends_to n.node) x.plain text x.seals in

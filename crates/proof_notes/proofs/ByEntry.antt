@@ -39,7 +39,7 @@ use Rattle.proof_known.specs.proof_waking.Judged.{IsOfRequest}
 use Rattle.proof_known.proofs.Apart.{IsApart, apart_judged}
 use Rattle.proof_known.proofs.Parts.{IsNoted}
 use Rattle.proof_notes.specs.Full.{AreWhole, GoesOnWith, IsElse, MayGoOn, MessagesNotes, PayloadNotes, SinceUnit, goes_on, hearing_of, since_step, since_unit}
-use Rattle.proof_notes.proofs.ByMessage.{Ties}
+use Rattle.proof_notes.specs.Ties.{Ties}
 use Rattle.proof_notes.proofs.ByPayload.{messages_go, messages_over, messages_some, payload_goes, payload_over}
 
 -- ---- what stands since the last unit of the host

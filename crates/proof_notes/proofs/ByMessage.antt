@@ -7,7 +7,6 @@ use Rattle.std.proofs.lemmas.Bool.{both_ways, cases_Bool, cases_lt, eq-eqb, eqb-
 use Rattle.std.proofs.lemmas.List.{get_or_past}
 use Rattle.std.proofs.lemmas.List.Elements.{recursion_from_All}
 use Rattle.zw_base.specs.PropertyOrder.{same_property}
-use Rattle.zw_base.specs.declared.property.Property.{Property}
 use Rattle.zw_base.specs.declared.property.Setting.{Setting}
 use Rattle.class_info.specs.Values.{status_byte}
 use Rattle.class_info.specs.declared.report_status.ReportStatus.{ReportStatus}
@@ -28,13 +27,13 @@ use Rattle.law_transcript.specs.Stores.{stores_asked_at, stores_of}
 use Rattle.law_transcript.proofs.Having.{all_has}
 use Rattle.law_time.specs.Interviews.{listens}
 use Rattle.law_time.specs.Judged.{last_of}
-use Rattle.law_time.specs.Sessions.{is_open, last_command}
+use Rattle.law_time.specs.Sessions.{last_command}
 use Rattle.host_heard.specs.declared.told.Told.{Told}
 use Rattle.host_heard.specs.declared.told.Told.TheVariants.{Report, NonceGet, NonceReport, Notification, SegmentRequest, Values}
 use Rattle.host_keep.specs.Status.{status_of}
 use Rattle.host_keep.specs.declared.final_status.FinalStatus.{FinalStatus}
 use Rattle.host_keep.specs.declared.final_status.FinalStatus.TheVariants as final
-use Rattle.host_node.specs.State.{NodeState, count_at, is_false, is_open as has_open, unknown}
+use Rattle.host_node.specs.State.{NodeState, count_at, is_false, unknown}
 use Rattle.host_orders.specs.Classes.{lists}
 use Rattle.host_model.specs.State.{Command, HostState, command_at, node_of}
 use Rattle.host_model.specs.Facts.{IsCommandOf}
@@ -44,29 +43,17 @@ use Rattle.host_model.specs.Events.{HostEvent, Unreads, Is_unkept, Reports_old, 
 use Rattle.host_model.specs.Outs.{dropped_if, ended_of, held_entries, noted, outs, stored_entries}
 use Rattle.host_model.specs.Taking.{FinalEvents, IsKeptOr, IsTaken, NonceGetEvents, NonceReportEvents, ReportEvents, is_secure, resent, value_event}
 use Rattle.host_model.specs.declared.out.HostOut.TheVariants.{Note}
-use Rattle.proof_host.specs.Facts.{Facts}
 use Rattle.proof_host.specs.Laws.{accepted_for, numbers_for}
 use Rattle.proof_host.specs.Tables.{nodes_by, taken_at, taken_by}
 use Rattle.proof_known.proofs.Noting.{noted_told, secure_is}
-use Rattle.proof_known.specs.proof_transcript.proof_once.ByTable.{IsTable}
 use Rattle.proof_known.specs.proof_transcript.proof_once.Tied.{settings_taken}
-use Rattle.proof_known.specs.proof_transcript.proof_spoken.Said.{KnowsListing}
 use Rattle.proof_known.proofs.StoredValues.{number_among}
 use Rattle.proof_known.specs.law_host.Heard.{listing_heard}
 use Rattle.proof_known.specs.law_host.Messages.{final_notes, held_notes, is_of_open}
-use Rattle.proof_known.specs.proof_alone.Listening.{ListensAsTold}
 use Rattle.proof_known.specs.proof_alone.Steps.{AreTold}
 use Rattle.proof_known.specs.Noted.{has_room}
+use Rattle.proof_notes.specs.Ties.{Ties}
 use Rattle.proof_notes.specs.Full.{AreNoneUnlessFull, AreUnlessUnkept, EndNotes, MessageNotes, ReportNotes, hearing_of, value_note}
-
--- what is known of a host where it takes a message
-pub record Ties (past : List Entry) (h : HostState) : Type 0 where
-  pub facts : Facts past h
-  pub lists_so : KnowsListing listing_heard past h
-  pub hears : ListensAsTold past h
-  pub opened : (n : ℕ) → is_open n past ≡ has_open (node_of h n)
-  pub rooms : (n : ℕ) (p : Property) → count_with h.store n (p ∷ []) ≡ distinct_count same_property (p ∷ properties_kept listing_heard past n)
-  pub tables : (n : ℕ) → IsTable listing_heard h.commands n past
 
 -- ---- what is told
 
@@ -109,17 +96,17 @@ final_by true true k session is = absurd (let bad : told.Working ≡ told.Final 
 final_by false working k session is = absurd (let bad : told.Old ≡ told.Final session = is in cc)
 
 -- the last session is open, and has the id
-abbrev names_open : HostBook → ℕ → Bool
+abbrev pub names_open : HostBook → ℕ → Bool
 names_open book id = is_some (open_session book) && (length book.commands % 64 == id)
 
-is_old : (commands : List ℕ) (outcome : Option ℕ) (attempts id status : ℕ) → told_of (record { commands = commands; outcome = outcome; attempts = attempts }) id status ≡ told.Old
+pub is_old : (commands : List ℕ) (outcome : Option ℕ) (attempts id status : ℕ) → told_of (record { commands = commands; outcome = outcome; attempts = attempts }) id status ≡ told.Old
     → names_open (record { commands = commands; outcome = outcome; attempts = attempts }) id ≡ false
 is_old [] None attempts id status is = refl
 is_old (first ∷ more) None attempts id status is =
     flip id (length (first ∷ more) % 64) false (old_by (id == length (first ∷ more) % 64) (status == WORKING) (length (first ∷ more)) is)
 is_old commands (Some ended) attempts id status is = refl
 
-is_working : (commands : List ℕ) (outcome : Option ℕ) (attempts id status : ℕ) → told_of (record { commands = commands; outcome = outcome; attempts = attempts }) id status ≡ told.Working
+pub is_working : (commands : List ℕ) (outcome : Option ℕ) (attempts id status : ℕ) → told_of (record { commands = commands; outcome = outcome; attempts = attempts }) id status ≡ told.Working
     → (names_open (record { commands = commands; outcome = outcome; attempts = attempts }) id ≡ true) × ((status == WORKING) ≡ true)
 is_working [] None attempts id status is = absurd (let bad : told.Old ≡ told.Working = is in cc)
 is_working (first ∷ more) None attempts id status is =
@@ -127,21 +114,21 @@ is_working (first ∷ more) None attempts id status is =
     (flip id (length (first ∷ more) % 64) true named, working)
 is_working commands (Some ended) attempts id status is = absurd (let bad : told.Old ≡ told.Working = is in cc)
 
-last_some : (P : ℕ → Type 0) (first : ℕ) (more : List ℕ)
+pub last_some : (P : ℕ → Type 0) (first : ℕ) (more : List ℕ)
     → (command : ℕ) × (slice_get (first ∷ more) (length more) ≡ Some command) × (drop (length more) (first ∷ more) ≡ command ∷ []) × (AllByRecursion P (first ∷ more) → P command)
 last_some P first [] = (first, refl, refl, λ all. all.0)
 last_some P first (next ∷ more) = let (command, got, last, owned) = last_some P next more in (command, got, last, λ all. owned all.1)
 
 -- the command of the session that ends
-record IsEnded (P : ℕ → Type 0) (book : HostBook) (id status session : ℕ) : Type 0 where
-  named : names_open book id ≡ true
-  final : (status == WORKING) ≡ false
-  command : ℕ
-  carried : command_of_session book.commands session ≡ Some command
-  last : last_of book.commands ≡ command ∷ []
-  owned : AllByRecursion P book.commands → P command
+pub record IsEnded (P : ℕ → Type 0) (book : HostBook) (id status session : ℕ) : Type 0 where
+  pub named : names_open book id ≡ true
+  pub final : (status == WORKING) ≡ false
+  pub command : ℕ
+  pub carried : command_of_session book.commands session ≡ Some command
+  pub last : last_of book.commands ≡ command ∷ []
+  pub owned : AllByRecursion P book.commands → P command
 
-is_final : (P : ℕ → Type 0) (commands : List ℕ) (outcome : Option ℕ) (attempts id status session : ℕ)
+pub is_final : (P : ℕ → Type 0) (commands : List ℕ) (outcome : Option ℕ) (attempts id status session : ℕ)
     → told_of (record { commands = commands; outcome = outcome; attempts = attempts }) id status ≡ told.Final session
     → IsEnded P (record { commands = commands; outcome = outcome; attempts = attempts }) id status session
 is_final P [] None attempts id status session is = absurd (let bad : told.Old ≡ told.Final session = is in cc)
@@ -168,10 +155,10 @@ IsNoValues message = Unit {0}
 module _ (past : List Entry) (h : HostState) (ties : Ties past h) (n : ℕ) (payload : List ℕ) where
   -- ---- reports
 
-  of_open_is : (id : ℕ) (b : Bool) → names_open (node_of h n).book id ≡ b → is_of_open n past id ≡ b
+  pub of_open_is : (id : ℕ) (b : Bool) → names_open (node_of h n).book id ≡ b → is_of_open n past id ≡ b
   of_open_is id b is = ap₂ (λ (o : Bool) (l : List ℕ). o && (length l % 64 == id)) (ties.opened n) (ties.facts.begun n) ∙ is
 
-  openly_is : (b : Bool) → is_secure (node_of h n).classes ≡ b → lists (host_list listing_heard past n) 0x98 ≡ b
+  pub openly_is : (b : Bool) → is_secure (node_of h n).classes ≡ b → lists (host_list listing_heard past n) 0x98 ≡ b
   openly_is b is = sym (secure_is (node_of h n).classes ∙ ap (λ (o : Option (List ℕ)). lists (unwrap_or o []) 0x98) (ties.lists_so n)) ∙ is
 
   -- a node with a session has its place
@@ -212,13 +199,13 @@ module _ (past : List Entry) (h : HostState) (ties : Ties past h) (n : ℕ) (pay
         ∙ sym (ap (λ (o : Option Command). stored_entries n (settings_with final.Success o)) owned.found)
 
     -- the notes that the host puts out, and those that the transcript asks
-    abbrev put_out : FinalStatus → List Entry
+    abbrev pub put_out : FinalStatus → List Entry
     put_out by = entry.Out ended.command (ended_of by) ∷ (stored_entries n (settings_with by (command_at h.commands ended.command)) ++ held_entries n (is_held h n wake))
 
-    abbrev asked_for : FinalStatus → List Entry
+    abbrev pub asked_for : FinalStatus → List Entry
     asked_for by = flat_map (λ how. flat_map (final_notes (hearing_of n payload sealed) past wake how) (last_command n past)) (ended_of by ∷ [])
 
-    ends_so : (by : FinalStatus) → put_out by ≡ asked_for by
+    pub ends_so : (by : FinalStatus) → put_out by ≡ asked_for by
     ends_so by =
         let notes : ℕ → List Entry = final_notes (hearing_of n payload sealed) past wake (ended_of by) in
         let last : last_command n past ≡ ended.command ∷ [] = ap (λ (l : List ℕ). last_of l) (ties.facts.begun n) ∙ ended.last in

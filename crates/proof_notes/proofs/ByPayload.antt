@@ -35,8 +35,9 @@ use Rattle.host_model.specs.Taking.{AreTaken, FrameEvents, IsOpened, IsTaken, No
 use Rattle.proof_known.proofs.Bodies.{body_is}
 use Rattle.proof_known.specs.law_host.Messages.{Hearing, is_of_open}
 use Rattle.proof_known.specs.proof_alone.Steps.{AreTold}
+use Rattle.proof_notes.specs.Ties.{Ties}
 use Rattle.proof_notes.specs.Full.{EndNotes, MessageNotes, MessagesNotes, OpensTo, PayloadNotes, ReportNotes, hearing_of, is_openly, value_note, value_notes}
-use Rattle.proof_notes.proofs.ByMessage.{One, Ties, note_told, one_message, value_told}
+use Rattle.proof_notes.proofs.ByMessage.{One, note_told, one_message, value_told}
 
 -- ---- some notes there are
 

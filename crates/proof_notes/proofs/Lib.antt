@@ -1,4 +1,4 @@
-mod ByMessage
+pub mod ByMessage
 mod ByPayload
 mod ByEntry
 mod Walking

@@ -47,7 +47,7 @@ use Rattle.proof_known.proofs.Apart.{acknowledged_frames}
 use Rattle.proof_known.proofs.Followed.{MayFollow, frame_all}
 use Rattle.proof_known.proofs.Parts.{IsNoted, follow_told}
 use Rattle.proof_notes.specs.Full.{IsElse, MayGoOn, PayloadNotes, SinceUnit, since_unit}
-use Rattle.proof_notes.proofs.ByMessage.{Ties}
+use Rattle.proof_notes.specs.Ties.{Ties}
 use Rattle.proof_notes.proofs.ByPayload.{AllFollow, frame_follows}
 use Rattle.proof_notes.proofs.ByEntry.{Goes, IsLeft, IsPlain, NotesLeft, NotesWhole, Stand, all_over, and_none, behind_goes, end_goes, following_one, joined, marks_off, marks_on, nothing_goes, off_whole, own_goes, plain_goes, request_goes, since_one, whole_may}
 

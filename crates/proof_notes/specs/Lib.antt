@@ -1,4 +1,5 @@
 pub mod Full
+pub mod Ties
 pub mod Unkept
 pub use Rattle.proof_known.specs as proof_known
 pub use Rattle.proof_attempts.specs as proof_attempts

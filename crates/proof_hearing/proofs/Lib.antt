@@ -1,0 +1,12 @@
+pub mod Putting
+pub mod Wanted
+pub mod Grows
+pub mod Alike
+pub mod BooksGo
+pub mod Unsealing
+pub mod OneMessage
+pub mod OnePayload
+pub mod Sent
+pub mod Around
+pub mod Payload
+pub mod Beginning
