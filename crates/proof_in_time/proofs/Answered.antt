@@ -1,6 +1,5 @@
 -- What a device answers to the message of a session, and at the end of its work.
-use Rattle.std.proofs.Common.{◌≡◌, ◌≢◌, ◌≤◌, ℕ, ◌+◌, ◌-◌, ◌%◌, ◌==◌, ◌&&◌, not, nat_lt, inl, inr, Bool, true, false, if◌then◌else◌, Option, Some, None, List, [], ◌∷◌, refl, sym, ap, ◌∙◌, subst, arith}
-use Rattle.std.specs.Prelude.{◌⊎◌}
+use Rattle.std.proofs.Common.{◌≡◌, ◌≢◌, ◌≤◌, ℕ, ◌+◌, ◌-◌, ◌/◌, ◌%◌, ◌==◌, ◌&&◌, not, nat_lt, inl, inr, Bool, true, false, if◌then◌else◌, Option, Some, None, List, [], ◌∷◌, length, length-append, refl, sym, ap, ◌∙◌, subst, arith}
 use Rattle.std.specs.Option.{option_map, option_to_list}
 use Rattle.std.proofs.lemmas.Bool.{eq-eqb, eqb-true}
 use Rattle.std.proofs.lemmas.Bool.Decides.{nat_tests}
@@ -8,16 +7,20 @@ use Rattle.zw_base.specs.declared.property.Setting.{Setting}
 use Rattle.zw_base.specs.declared.order.Order.{Order}
 use Rattle.supervision.specs.Session.{wire_id}
 use Rattle.supervision.specs.Device.{Taken, is_new, is_again, heard_of}
-use Rattle.supervision.specs.declared.session.TheConstants.{WORKING, SUCCESS}
+use Rattle.supervision.specs.declared.session.TheConstants.{NO_SUPPORT, WORKING, FAIL, SUCCESS}
 use Rattle.supervision.specs.declared.device_book.Heard.{Heard}
 use Rattle.supervision.specs.declared.device_book.Heard.TheVariants.{New, Again, Old}
 use Rattle.encap.specs.Opening.{Message, opened_at}
-use Rattle.encap.specs.Written.{AreEnds}
+use Rattle.class_info.specs.InfoSpelling.{form}
+use Rattle.class_info.specs.declared.message.InfoMessage.TheVariants.{SupervisionReport}
+use Rattle.class_info.specs.declared.report_status.ReportStatus.TheVariants as statuses
+use Rattle.encap.specs.Written.{AreEnds, addressed_form, checked_form}
+use Rattle.zw_base.specs.Crc.{crc}
+use Rattle.encap.specs.declared.plan.Outer.TheVariants.{None as no_outer, Crc16, Security, Transport}
 use Rattle.encap.specs.declared.plan.Plan.{Plan}
 use Rattle.encap.specs.declared.plan.Supervised.{Supervised}
 use Rattle.encap.specs.declared.plan.Ends.{Ends}
 use Rattle.encap.specs.declared.plan.Outer.{Outer}
-use Rattle.host_orders.specs.Refusals.{IsFit}
 use Rattle.host_orders.specs.Settings.{settings}
 use Rattle.host_orders.specs.Wrapping.{ends_of, message_of, supervised_of}
 use Rattle.host_orders.specs.declared.carriage.Carriage.{Carriage}
@@ -25,22 +28,22 @@ use Rattle.device_kinds.specs.declared.effect.Effect.{Effect}
 use Rattle.device_kinds.specs.declared.effect.Effect.TheVariants.{Ignores, Repeats, Takes}
 use Rattle.device_kinds.specs.declared.verdict.Verdict.{Verdict}
 use Rattle.device_kinds.specs.declared.verdict.Verdict.TheVariants.{NoSupport, Fails, Makes, Works}
-use Rattle.device_kinds.specs.Answers.{answer_plan, swapped, worded}
+use Rattle.device_kinds.specs.Answers.{answer_plan, report_status, swapped, worded}
 use Rattle.device_kinds.specs.Effects.{effect_in_session, end_of}
 use Rattle.device_kinds.specs.Judging.{judged_message, status_of}
 use Rattle.device_kinds.specs.Kind.{lists}
 use Rattle.device_stack.specs.State.{State, Outcome, silent, value_of, last_level_of}
-use Rattle.device_stack.specs.Answers.{final_report, status_report}
+use Rattle.device_stack.specs.Answers.{asks_to_wake, final_report, status_report}
 use Rattle.device_stack.specs.Effects.{after_effect, answer_of, effect_of, takes}
 use Rattle.device_stack.specs.Hearing.{active, answers, answers_bytes, hears, hears_by, hears_openly, sent_openly}
 use Rattle.device_stack.specs.Ticking.{aged, ticked, works_out}
 use Rattle.device_sim.specs.Event.{Hears, Ticks, device_after, device_replies, outcome_of}
-use Rattle.proof_messages.specs.Asking.{MakesOnly, message_in, takes_openly, verdict_on}
-use Rattle.proof_messages.specs.Reporting.{CanBeAnswered, TellsOwn}
-use Rattle.proof_messages.proofs.DeviceReports.{opened_ends, own_heard, taken_own}
+use Rattle.proof_messages.specs.Asking.{Follows, MakesOnly, message_in, takes_openly, verdict_on}
+use Rattle.proof_messages.specs.Reporting.{CanBeAnswered}
+use Rattle.proof_messages.proofs.DeviceReports.{opened_ends, own_heard, taken_own, text_by}
 use Rattle.proof_messages.proofs.SessionMessages.{awake_after, headed_no_segment, knows_supervision, message_headed, openly_by}
 use Rattle.proof_in_time.specs.Answering.{AnswersSession, Goes_on, Ends as Ends_work, IsAtWork, IsDone, IsDoneOrAtWork, IsInStep, Last, Next, StaysDone, WorksOn}
-use Rattle.proof_in_time.proofs.Levels.{works_time}
+use Rattle.proof_in_time.proofs.Levels.{never_works, works_time}
 
 -- ---- what a device makes of the id
 
@@ -79,6 +82,34 @@ heard_last sessions id session last some named =
     ap (λ (b : Bool). if b then New (sessions.taken + 1) else (if is_again sessions id then Again sessions.status else Old)) (never_new sessions id (λ e. other_id sessions.taken (sym is ∙ e)))
     ∙ ap (λ (b : Bool). if b then Again sessions.status else Old) (both (nat_lt 0 sessions.taken) (id == wire_id sessions.taken) more (eq-eqb id (wire_id sessions.taken) is))
 
+-- ---- a report is short
+
+report_length : (device : State) (asked : Supervised) (status : ℕ) → length (form (status_report device asked status)) ≡ 5
+report_length device asked status = by (status == WORKING)
+  where
+    by : (b : Bool) → length (form (if b then SupervisionReport asked.updates false asked.id statuses.Working 1 else SupervisionReport false (asks_to_wake device) asked.id (report_status status) 0)) ≡ 5
+    by true = refl
+    by false = refl
+
+abbrev IsShort : List ℕ → Type 0
+IsShort text = (1 ≤ length text) × (length text ≤ 46)
+
+addressed_length : (channel : Option Ends) (inner : List ℕ) → length inner ≡ 5 → (1 ≤ length (addressed_form channel inner)) × (length (addressed_form channel inner) ≤ 9)
+addressed_length None inner is = (omega (arith, is), omega (arith, is))
+addressed_length (Some ends) inner is = (omega (arith, is), omega (arith, is))
+
+checked_length : (outer : Outer) (inner : List ℕ) → 1 ≤ length inner → length inner ≤ 9 → IsShort (checked_form outer inner)
+checked_length Crc16 inner some few =
+    let all = length-append (86 ∷ 1 ∷ inner) (crc (86 ∷ 1 ∷ inner) / 256 ∷ crc (86 ∷ 1 ∷ inner) % 256 ∷ []) in (omega (arith, some, all), omega (arith, few, all))
+checked_length no_outer inner some few = (some, omega (arith, few))
+checked_length Security inner some few = (some, omega (arith, few))
+checked_length Transport inner some few = (some, omega (arith, few))
+
+text_short : (channel : Option Ends) (outer : Outer) (device : State) (asked : Supervised) (status : ℕ) → IsShort (text_by channel outer (status_report device asked status))
+text_short channel outer device asked status =
+    let inner = addressed_length channel (form (status_report device asked status)) (report_length device asked status) in
+    checked_length outer (addressed_form channel (form (status_report device asked status))) inner.0 inner.1
+
 -- ---- what it answers
 
 abbrev plan_with : Bool → Supervised → Option Ends → Outer → Plan
@@ -101,6 +132,8 @@ module _ (device : State) (batch : Bool) (asked : Supervised) (channel : Option 
     payload = _;
     says = refl;
     tells = taken_own plan (swapped channel) outer device asked (Makes made) ends (named ∙ ap wire_id next);
+    some = (text_short (swapped channel) outer device asked SUCCESS).0;
+    few = (text_short (swapped channel) outer device asked SUCCESS).1;
     comes_to = inl (record { over = λ e. let no : 255 ≡ 1 = e in absurd cc; no_work = done.no_work });
   }
   taken_answers (Works made) next done late = record {
@@ -108,6 +141,8 @@ module _ (device : State) (batch : Bool) (asked : Supervised) (channel : Option 
     payload = _;
     says = refl;
     tells = taken_own plan (swapped channel) outer device asked (Works made) ends (named ∙ ap wire_id next);
+    some = (text_short (swapped channel) outer device asked WORKING).0;
+    few = (text_short (swapped channel) outer device asked WORKING).1;
     comes_to = inr (record { working = refl; some = omega arith; few = omega arith; plan = plan; told = ap (λ (b : Bool). if b then Some plan else None) (late made refl) });
   }
   taken_answers Fails next done late = record {
@@ -115,6 +150,8 @@ module _ (device : State) (batch : Bool) (asked : Supervised) (channel : Option 
     payload = _;
     says = refl;
     tells = taken_own plan (swapped channel) outer device asked Fails ends (named ∙ ap wire_id next);
+    some = (text_short (swapped channel) outer device asked FAIL).0;
+    few = (text_short (swapped channel) outer device asked FAIL).1;
     comes_to = inl (record { over = λ e. let no : 2 ≡ 1 = e in absurd cc; no_work = done.no_work });
   }
   taken_answers NoSupport next done late = record {
@@ -122,6 +159,8 @@ module _ (device : State) (batch : Bool) (asked : Supervised) (channel : Option 
     payload = _;
     says = refl;
     tells = taken_own plan (swapped channel) outer device asked NoSupport ends (named ∙ ap wire_id next);
+    some = (text_short (swapped channel) outer device asked NO_SUPPORT).0;
+    few = (text_short (swapped channel) outer device asked NO_SUPPORT).1;
     comes_to = inl (record { over = λ e. let no : 0 ≡ 1 = e in absurd cc; no_work = done.no_work });
   }
 
@@ -131,6 +170,8 @@ module _ (device : State) (batch : Bool) (asked : Supervised) (channel : Option 
     payload = _;
     says = refl;
     tells = own_heard (swapped channel) outer device device asked device.sessions.status ends (named ∙ ap wire_id last) refl refl;
+    some = (text_short (swapped channel) outer device asked device.sessions.status).0;
+    few = (text_short (swapped channel) outer device asked device.sessions.status).1;
     comes_to = is;
   }
 
@@ -244,3 +285,23 @@ pub done_ticks_on : (device : State) (drawn : List ℕ) → IsDone device → St
 done_ticks_on device drawn done =
     after_outcome (StaysDone device) device drawn (silent (aged device)) (no_outcome device drawn (eq-eqb device.work_left 0 done.no_work))
     (record { silent = refl; sessions = refl; is_done = record { over = done.over; no_work = done.no_work } })
+
+-- ---- it ends at once
+
+not_working : (verdict : Verdict) → ((made : List Setting) → verdict ≡ Works made → ⊥) → status_of verdict ≢ WORKING
+not_working NoSupport never e = let no : 0 ≡ 1 = e in absurd cc
+not_working Fails never e = let no : 2 ≡ 1 = e in absurd cc
+not_working (Makes made) never e = let no : 255 ≡ 1 = e in absurd cc
+not_working (Works made) never e = never made refl
+
+followed_over : (device new : State) (verdict : Verdict) (heard : Heard) → Follows device new verdict heard → ((made : List Setting) → verdict ≡ Works made → ⊥) → device.sessions.status ≢ WORKING → new.sessions.status ≢ WORKING
+followed_over device new verdict (New session) is never over = λ e. not_working verdict never (sym (ap (λ (t : Taken). t.status) is.sessions) ∙ e)
+followed_over device new verdict (Again status) is never over = λ e. over (sym (ap (λ (t : Taken). t.status) is.0.sessions) ∙ e)
+followed_over device new verdict Old is never over = λ e. over (sym (ap (λ (t : Taken). t.status) is.0.sessions) ∙ e)
+
+pub message_over : (device : State) (drawn : List ℕ) (carriage : Carriage) (order : Order) (session : ℕ)
+    → Follows device (device_after device (Hears (message_of carriage order session) drawn)) (verdict_on device carriage order) (heard_of device.sessions (wire_id session))
+    → lists device.kind 0x26 ≡ false → device.sessions.status ≢ WORKING → (device_after device (Hears (message_of carriage order session) drawn)).sessions.status ≢ WORKING
+message_over device drawn carriage order session follows none over =
+    followed_over device (device_after device (Hears (message_of carriage order session) drawn)) (verdict_on device carriage order) (heard_of device.sessions (wire_id session)) follows
+    (λ made works. never_works device carriage order made none works) over

@@ -5,7 +5,6 @@ use Rattle.zw_base.specs.declared.property.Name.{Name}
 use Rattle.zw_base.specs.declared.property.Name.TheVariants as names
 use Rattle.zw_base.specs.declared.property.Property.{Property}
 use Rattle.zw_base.specs.declared.property.Setting.{Setting}
-use Rattle.zw_base.specs.declared.order.Word.{Word}
 use Rattle.zw_base.specs.declared.order.What.{What}
 use Rattle.zw_base.specs.declared.order.What.TheVariants as what
 use Rattle.zw_base.specs.declared.order.Order.{Order}
@@ -37,66 +36,70 @@ abbrev first_name : List Setting → Name
 first_name [] = names.Switch
 first_name (one ∷ more) = one.property.name
 
-abbrev SetsLevel : Verdict → Type 0
-SetsLevel (Works made) = first_name made ≡ names.Level
-SetsLevel (Makes made) = Unit {0}
-SetsLevel Fails = Unit {0}
-SetsLevel NoSupport = Unit {0}
+abbrev SetsLevel : Kind → Verdict → Type 0
+SetsLevel kind (Works made) = (first_name made ≡ names.Level) × (lists kind 0x26 ≡ true)
+SetsLevel kind (Makes made) = Unit {0}
+SetsLevel kind Fails = Unit {0}
+SetsLevel kind NoSupport = Unit {0}
 
-listed_sets : (b : Bool) (verdict : Verdict) → SetsLevel verdict → SetsLevel (if b then verdict else NoSupport)
-listed_sets true verdict is = is
-listed_sets false verdict is = tt
+listed_sets : (kind : Kind) (b : Bool) (verdict : Verdict) → SetsLevel kind verdict → SetsLevel kind (if b then verdict else NoSupport)
+listed_sets kind true verdict is = is
+listed_sets kind false verdict is = tt
 
-inside_sets : (b : Bool) (made : List Setting) → SetsLevel (where_inside b made)
-inside_sets true made = tt
-inside_sets false made = tt
+inside_sets : (kind : Kind) (b : Bool) (made : List Setting) → SetsLevel kind (where_inside b made)
+inside_sets kind true made = tt
+inside_sets kind false made = tt
 
-members_set : (values : Property → ℕ) (end value group : ℕ) (nodes : List ℕ) → SetsLevel (judged_members values end value group nodes)
+level_sets : (kind : Kind) (b : Bool) (made : List Setting) → lists kind 0x26 ≡ b → first_name made ≡ names.Level → SetsLevel kind (if b then Works made else NoSupport)
+level_sets kind true made is level = (level, is)
+level_sets kind false made is level = tt
+
+members_set : (kind : Kind) (values : Property → ℕ) (end value group : ℕ) (nodes : List ℕ) → SetsLevel kind (judged_members values end value group nodes)
 unfolding judged_members
-members_set values end value group nodes =
-    inside_sets ((group == 1) && nat_lt 0 (length nodes) && nat_le (member_count values (memberships end value nodes) end) 5) (memberships end value nodes)
+members_set kind values end value group nodes =
+    inside_sets kind ((group == 1) && nat_lt 0 (length nodes) && nat_le (member_count values (memberships end value nodes) end) 5) (memberships end value nodes)
 
-set_sets : (kind : Kind) (values : Property → ℕ) (last end : ℕ) (message : CoreMessage) → SetsLevel (judged_set kind values last end message)
-set_sets kind values last end (SwitchBinarySet value) = listed_sets (lists kind 0x25) _ tt
-set_sets kind values last end (SwitchMultilevelSet level) = listed_sets (lists kind 0x26) _ refl
-set_sets kind values last end (ThermostatModeSet mode) = listed_sets (lists kind 0x40) _ (inside_sets _ _)
-set_sets kind values last end (ThermostatSetpointSet type value) = listed_sets (lists kind 0x43) _ (inside_sets _ _)
-set_sets kind values last end (DoorLockOperationSet mode) = listed_sets (lists kind 0x62) _ tt
-set_sets kind values last end (ConfigurationSet parameter default value) = listed_sets (lists kind 0x70) _ (inside_sets _ _)
-set_sets kind values last end (ConfigurationBulkSet offset default numbers) = listed_sets (lists kind 0x70) _ (inside_sets _ _)
-set_sets kind values last end (AssociationSet group nodes) = listed_sets (lists kind 0x85) _ (members_set values end 1 group nodes)
-set_sets kind values last end (AssociationRemove group nodes) = listed_sets (lists kind 0x85) _ (members_set values end 0 group nodes)
-set_sets kind values last end (WakeUpIntervalSet seconds target) = listed_sets (lists kind 0x84) _ (inside_sets _ _)
+set_sets : (kind : Kind) (values : Property → ℕ) (last end : ℕ) (message : CoreMessage) → SetsLevel kind (judged_set kind values last end message)
+set_sets kind values last end (SwitchBinarySet value) = listed_sets kind (lists kind 0x25) _ tt
+set_sets kind values last end (SwitchMultilevelSet level) = level_sets kind (lists kind 0x26) _ refl refl
+set_sets kind values last end (ThermostatModeSet mode) = listed_sets kind (lists kind 0x40) _ (inside_sets kind _ _)
+set_sets kind values last end (ThermostatSetpointSet type value) = listed_sets kind (lists kind 0x43) _ (inside_sets kind _ _)
+set_sets kind values last end (DoorLockOperationSet mode) = listed_sets kind (lists kind 0x62) _ tt
+set_sets kind values last end (ConfigurationSet parameter default value) = listed_sets kind (lists kind 0x70) _ (inside_sets kind _ _)
+set_sets kind values last end (ConfigurationBulkSet offset default numbers) = listed_sets kind (lists kind 0x70) _ (inside_sets kind _ _)
+set_sets kind values last end (AssociationSet group nodes) = listed_sets kind (lists kind 0x85) _ (members_set kind values end 1 group nodes)
+set_sets kind values last end (AssociationRemove group nodes) = listed_sets kind (lists kind 0x85) _ (members_set kind values end 0 group nodes)
+set_sets kind values last end (WakeUpIntervalSet seconds target) = listed_sets kind (lists kind 0x84) _ (inside_sets kind _ _)
 set_sets kind values last end message = tt
 
-read_sets : (kind : Kind) (values : Property → ℕ) (last end : ℕ) (read : Result InfoMessage ClassFault) → SetsLevel (judged kind values last end read)
+read_sets : (kind : Kind) (values : Property → ℕ) (last end : ℕ) (read : Result InfoMessage ClassFault) → SetsLevel kind (judged kind values last end read)
 read_sets kind values last end (Ok (Core message)) = set_sets kind values last end message
 read_sets kind values last end (Ok _) = tt
 read_sets kind values last end (Err fault) = tt
 
 first_sets : (kind : Kind) (values : Property → ℕ) (last end : ℕ) (made : List Setting) (command : List ℕ) (commands : List (List ℕ)) (verdict : Verdict)
-    → judged kind (λ property. value_by made property (values property)) last end (info_at command) ≡ verdict → SetsLevel verdict
-    → ((settings : List Setting) → SetsLevel (judged_all kind values last end (merged made settings) commands)) → SetsLevel (judged_all kind values last end made (command ∷ commands))
+    → judged kind (λ property. value_by made property (values property)) last end (info_at command) ≡ verdict → SetsLevel kind verdict
+    → ((settings : List Setting) → SetsLevel kind (judged_all kind values last end (merged made settings) commands)) → SetsLevel kind (judged_all kind values last end made (command ∷ commands))
 first_sets kind values last end made command commands (Makes settings) e is more = rw e (more settings)
 first_sets kind values last end made command commands (Works settings) e is more = rw e is
 first_sets kind values last end made command commands Fails e is more = rw e tt
 first_sets kind values last end made command commands NoSupport e is more = rw e tt
 
-all_set : (kind : Kind) (values : Property → ℕ) (last end : ℕ) (made : List Setting) (commands : List (List ℕ)) → SetsLevel (judged_all kind values last end made commands)
+all_set : (kind : Kind) (values : Property → ℕ) (last end : ℕ) (made : List Setting) (commands : List (List ℕ)) → SetsLevel kind (judged_all kind values last end made commands)
 all_set kind values last end made [] = tt
 all_set kind values last end made (command ∷ commands) =
     first_sets kind values last end made command commands _ refl (read_sets kind (λ property. value_by made property (values property)) last end (info_at command))
     (λ settings. all_set kind values last end (merged made settings) commands)
 
-unless_sets : (no_end no_batch : Bool) (verdict : Verdict) → SetsLevel verdict → SetsLevel (if no_end then NoSupport else if no_batch then NoSupport else verdict)
-unless_sets true no_batch verdict is = tt
-unless_sets false true verdict is = tt
-unless_sets false false verdict is = is
+unless_sets : (kind : Kind) (no_end no_batch : Bool) (verdict : Verdict) → SetsLevel kind verdict → SetsLevel kind (if no_end then NoSupport else if no_batch then NoSupport else verdict)
+unless_sets kind true no_batch verdict is = tt
+unless_sets kind false true verdict is = tt
+unless_sets kind false false verdict is = is
 
-message_sets : (device : State) (carriage : Carriage) (order : Order) → SetsLevel (verdict_on device carriage order)
+message_sets : (device : State) (carriage : Carriage) (order : Order) → SetsLevel device.kind (verdict_on device carriage order)
 unfolding judged_message
 message_sets device carriage order =
-    unless_sets (not (has_end device.kind order.end))
+    unless_sets device.kind (not (has_end device.kind order.end))
     (is_batch order.what && (not (lists device.kind 0x8F) || (length (commands_of carriage.actuator order.what) == 0))) _
     (all_set device.kind (value_of device) (last_level_of device) order.end [] (commands_of carriage.actuator order.what))
 
@@ -120,5 +123,9 @@ pub works_time : (device : State) (carriage : Carriage) (order : Order) (made : 
     → takes_time carriage.actuator order.what ≡ true
 works_time device carriage order made only is =
     let made_is : made ≡ settings carriage.actuator order = subst (MakesOnly (settings carriage.actuator order)) is only in
-    let level : first_name made ≡ names.Level = subst SetsLevel is (message_sets device carriage order) in
+    let level : first_name made ≡ names.Level = (subst (SetsLevel device.kind) is (message_sets device carriage order)).0 in
     level_time carriage.actuator order.end order.what (ap first_name (sym made_is) ∙ level)
+
+-- so a device without levels is at no work on it
+pub never_works : (device : State) (carriage : Carriage) (order : Order) (made : List Setting) → lists device.kind 0x26 ≡ false → verdict_on device carriage order ≡ Works made → ⊥
+never_works device carriage order made none is = let yes = (subst (SetsLevel device.kind) is (message_sets device carriage order)).1 in let wrong : true ≡ false = sym yes ∙ none in absurd cc

@@ -1,3 +1,11 @@
 mod Levels
 mod Answered
 mod Reported
+mod NodeWaits
+mod Grown
+mod Landed
+mod JudgedWaits
+mod Carried
+mod Bounded
+mod Settled
+mod Lasting

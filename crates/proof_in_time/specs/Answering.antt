@@ -1,6 +1,6 @@
 -- What a device answers to the message of a session, and what it comes to (this project's own kinds; Supervision Report is that of the Z-Wave
 -- Transport-Encapsulation Command Class Specification).
-use Rattle.std.specs.Prelude.{◌≡◌, ◌≢◌, ◌⊎◌, ℕ, ◌+◌, ◌≤◌, List, [], ◌∷◌, Some}
+use Rattle.std.specs.Prelude.{◌≡◌, ◌≢◌, ◌⊎◌, ℕ, ◌+◌, ◌≤◌, List, [], ◌∷◌, length, Some}
 use Rattle.supervision.specs.declared.session.TheConstants.{WORKING}
 use Rattle.encap.specs.declared.plan.Plan.{Plan}
 use Rattle.device_stack.specs.Effects.{work_ticks}
@@ -34,6 +34,8 @@ pub record AnswersSession (session : ℕ) (new : State) (replies : List (List �
   pub payload : List ℕ
   pub says : replies ≡ payload ∷ []
   pub tells : TellsOwn new payload
+  pub some : 1 ≤ length payload
+  pub few : length payload ≤ 46
   pub comes_to : IsDoneOrAtWork new
 
 -- a tick of its work, which goes on silently, or ends and is told
