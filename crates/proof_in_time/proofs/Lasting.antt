@@ -41,6 +41,7 @@ use Rattle.proof_answered.proofs.Staffed.{worked_before}
 use Rattle.proof_answered.proofs.Staffing.{sent_on}
 use Rattle.proof_answered.proofs.Walking.{none_given}
 use Rattle.proof_in_time.specs.Coming.{AllWaitFor, AsksFor, Asked, Coming, Flies, Has, IsAsking, IsPlainly, KnowPlainly, KnowWaits, Sent, Told, WaitsFor, brings, one_later, ticks_left}
+use Rattle.proof_in_time.proofs.Aired.{request_airs}
 use Rattle.proof_in_time.proofs.Bounded.{Devices, arrives_wait, begins_waits, chip_waits, effect_waits, idle_lasts, lasts_of, line_waits, session_of, still_fits, tick_event, ticks_wait, turn_waits, unfinished_waits}
 use Rattle.proof_in_time.proofs.Carried.{Fits, carry, many_on_air}
 use Rattle.proof_in_time.proofs.Grown.{same_adds}
@@ -149,7 +150,8 @@ module _ (airs : Airs) (these : List Bool) (many : length these ≡ 233) (laws :
       let takes : Event = Outside_does (Chip_takes (length m.outside.outer.to_chip.bytes) rest ways) in
       as_is next (Moved true passes ticks) m event _ is to
       (λ later.
-      takes_wait airs these many n marked node below passes ticks m rest ways awaits (may_is m event takes is may) line_at room tie later (sent_is m event takes is sent) (plain_is m event takes is plainly) w)
+      takes_wait airs these many n marked node below passes ticks m rest ways awaits (may_is m event takes is may) line_at room tie later (sent_is m event takes is sent)
+      (λ asks. request_airs airs m awaits n (session_of n m) below asks passes rest ways (may_is m event takes is may) line_at room tie peopled) w)
   event_waits (Moved b passes ticks) next m event (rest, items, done, is, to) may plainly line_at awaits room routed tie peopled listen sent w =
       let takes : Event = Host_takes (length m.outside.outer.to_host.bytes) rest items done in
       as_is next (Sleeping passes ticks) m event _ is to

@@ -8,4 +8,5 @@ mod JudgedWaits
 mod Carried
 mod Bounded
 mod Settled
+mod Aired
 mod Lasting

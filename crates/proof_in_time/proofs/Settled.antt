@@ -44,7 +44,7 @@ use Rattle.proof_calm.proofs.Reading.{goods}
 use Rattle.proof_calm.proofs.Requested.{moved_frames}
 use Rattle.proof_answered.specs.Outward.{IsSentTo}
 use Rattle.proof_answered.proofs.Unheard.{chip_part_says, unheard_idle, unheard_judged}
-use Rattle.proof_in_time.specs.Coming.{AsksFor, Coming, Has, IsHeardInStep, IsKept, IsMessage, IsOnAir, IsPlainStart, IsRequest, Sent, Stands, TellsEnd, Told, WaitsFor, brings, one_later, ticks_left}
+use Rattle.proof_in_time.specs.Coming.{AsksFor, Coming, Has, IsKept, IsMessage, IsOnAir, IsPlainStart, IsRequest, Sent, Stands, TellsEnd, Told, WaitsFor, brings, one_later, ticks_left}
 use Rattle.proof_in_time.proofs.Bounded.{again_far, does_waits, either_node, host_stays, open_where, outer_waits, refuses_waits, session_of, start_waits, still_fits, waits_none}
 use Rattle.proof_in_time.proofs.Carried.{Fits, IsThere, carry, carry_or, many_on_air}
 use Rattle.proof_in_time.proofs.Grown.{Adds, calm_adds, takes_add}
@@ -116,12 +116,12 @@ module _ (airs : Airs) (these : List Bool) (many : length these ≡ 233) (n : �
 
   pub takes_wait : (passes ticks : ℕ) (m : Machine) (rest : Rest) (ways : List (Item × Option Route)) → Awaits m → ChipMayTake m rest ways → IsDone m ⊎ CanMove passes m → HasRoom m.outside.outer.chip.state
       → TieOf true m (on_line m.host.state.side.turn) → IsDone (chip_taken m rest ways) ⊎ HasMoved true passes (chip_taken m rest ways) → IsSentTo these m (Outside_does (Chip_takes (length m.outside.outer.to_chip.bytes) rest ways))
-      → IsHeardInStep m (Chip_takes (length m.outside.outer.to_chip.bytes) rest ways) → WaitsFor n (Moving passes ticks) m → WaitsFor n (Moved true passes ticks) (chip_taken m rest ways)
-  takes_wait passes ticks m rest ways awaits may at room tie later sent heard w =
+      → ((asks : AsksFor n (session_of n m) m.host.state) → Stands (IsOnAir n asks.payload) (on_air (chip_taken m rest ways).outside.outer.air.frames)) → WaitsFor n (Moving passes ticks) m → WaitsFor n (Moved true passes ticks) (chip_taken m rest ways)
+  takes_wait passes ticks m rest ways awaits may at room tie later sent airs_it w =
       outer_waits n (Moving passes ticks) (Moved true passes ticks) m (Chip_takes (length m.outside.outer.to_chip.bytes) rest ways)
       (λ left comes.
       carry n (session_of n m) left left (Moving passes ticks) (Moved true passes ticks) m (chip_taken m rest ways)
-      (λ asking asks two. Sent (aired (session_of n m) asks.payload (on_air (chip_taken m rest ways).outside.outer.air.frames) asks.message (heard n (session_of n m) asks)) (omega (arith, two)))
+      (λ asking asks two. Sent (aired (session_of n m) asks.payload (on_air (chip_taken m rest ways).outside.outer.air.frames) asks.message (airs_it asks)) (omega (arith, two)))
       (takes_add airs m awaits these many (length m.outside.outer.to_chip.bytes) rest ways sent) (λ x has. chip_part_says Any (Has x) (has_piled x) tt passes m rest ways may at room tie later has)
       (still_fits n (many_on_air m) left (Moving passes ticks) (Moved true passes ticks) (λ place. omega arith) (omega arith)) comes)
       w

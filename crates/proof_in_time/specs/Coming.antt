@@ -27,8 +27,8 @@ use Rattle.host_node.specs.declared.series.Series.TheVariants.{Running}
 use Rattle.host_model.specs.Events.{HostEvent, Is_unkept, Node_ticks, Starts}
 use Rattle.host_model.specs.State.{HostState, node_of}
 use Rattle.host_model.specs.Taking.{is_secure}
-use Rattle.outside_model.specs.Events.{OuterEvent, Arrives, Chip_takes}
-use Rattle.world_model.specs.Events.{Event, Outside_does, Host_does, Host_takes, happens}
+use Rattle.outside_model.specs.Events.{OuterEvent, Arrives}
+use Rattle.world_model.specs.Events.{Event, Outside_does, Host_does, Host_takes}
 use Rattle.world_model.specs.State.{Machine}
 use Rattle.proof_calm.specs.proof_traffic.OnAir.{on_air}
 use Rattle.proof_calm.specs.proof_work.proof_walk.Phases.{Phase, Arriving, Giving, Ticking_devices, Ticking_chip, Ticking_decoder, Ticking_host, Sleeping, Submitting, Moving, Moved}
@@ -77,6 +77,12 @@ pub record IsRequest (n session : ℕ) (frame : Flown) : Type 0 where
   pub node : frame.node ≡ n
   pub out : frame.heading ≡ Outward
   pub message : IsMessage session frame.payload
+
+-- a frame of the host has that payload for a node
+pub record IsOnAir (n : ℕ) (payload : List ℕ) (frame : Flown) : Type 0 where
+  pub node : frame.node ≡ n
+  pub out : frame.heading ≡ Outward
+  pub is : frame.payload ≡ payload
 
 -- one of these frames is so, behind others
 pub record Stands (Is : Flown → Type 0) (flights : List Flown) : Type 0 where
@@ -176,18 +182,10 @@ pub record HearsInStep (session : ℕ) (device : State) : Type 0 where
   pub step : IsInStep session device
   pub is_done : IsDone device
 
--- what the chip takes of an attempt goes on the air
-pub record IsOnAir (n : ℕ) (payload : List ℕ) (frame : Flown) : Type 0 where
-  pub node : frame.node ≡ n
-  pub out : frame.heading ≡ Outward
-  pub is : frame.payload ≡ payload
-
 abbrev pub IsHeardInStep : Machine → OuterEvent → Type 0
 IsHeardInStep m (Arrives drawn route) =
     (frame : Flown) → next_of m.outside.outer.air.frames ≡ Some frame → frame.heading ≡ Outward → (place : ℕ) (device : State) → fate_of m.outside.outer.air.network m.outside.devices frame ≡ AtDevice place
     → slice_get m.outside.devices place ≡ Some device → (is_joined m.outside.outer.air frame.node ≡ true) × HearsInStep (begun_of (node_of m.host.state frame.node).book) device
-IsHeardInStep m (Chip_takes count rest ways) =
-    (n session : ℕ) (asks : AsksFor n session m.host.state) → Stands (IsOnAir n asks.payload) (on_air (happens m (Outside_does (Chip_takes count rest ways))).outside.outer.air.frames)
 IsHeardInStep m event = Unit {0}
 
 abbrev pub IsPlainly : List Bool → Machine → Event → Type 0

@@ -25,8 +25,8 @@ use proof_calm::waking::traffic::frames_fly_in_order;
 
 /// Over a stretch of lines for nodes that listen, while an attempt of one of these runs its request is on its way to the chip, or its message is on the air, or
 /// the report of its device is, or the chip has that for the host: so the host is told within two ticks of the node, and the wait of no attempt runs out. Then
-/// each series stays at its first attempt. It is assumed of events that an attempt gives the message of its session whole and unsealed, that the chip puts
-/// it on the air, that a device without levels that hears it is in step with the host, and that the keeper keeps what the host is told.
+/// each series stays at its first attempt. It is assumed of events that an attempt gives the message of its session whole and unsealed, that a device without
+/// levels that hears it is in step with the host, and that the keeper keeps what the host is told.
 pub fn waits_never_run_out()
     ensures walk { (these : List Bool) → length these ≡ 233 → is_marked these 0 ≡ false → WalkWhere (IsPlainly these) AsksNothing (KnowWaits these) }
     ensures in_time { (these : List Bool) (here : Phase) (past : List Entry) (m : Machine) (event : Event) → IsWorkedFor these past →
