@@ -2,6 +2,8 @@
 use Rattle.std.proofs.Common.{◌≡◌, ◌≢◌, ◌≤◌, ◌<◌, ℕ, zero, suc, ◌+◌, ◌-◌, nat_lt, inl, inr, Bool, true, false, if◌then◌else◌, List, [], ◌∷◌, ◌++◌, length, refl, sym, ap, ◌∙◌, subst, arith}
 use Rattle.std.proofs.lemmas.Bool.Decides.{nat_tests}
 use Rattle.std.specs.Prelude.{◌⊎◌, Some, None}
+use Rattle.std.specs.List.{AllByRecursion, list_any}
+use Rattle.law_time.specs.Stretches.{is_keeper_fault}
 use Rattle.zw_base.proofs.Each.{all-right}
 use Rattle.zw_text.specs.declared.line.Line.{Line}
 use Rattle.zw_text.specs.declared.entry.Entry.{Entry}
@@ -37,14 +39,14 @@ use Rattle.proof_answered.specs.FirstAttempts.{IsInTime, KnowFirst}
 use Rattle.proof_answered.specs.Outward.{AllListen, IsSentTo}
 use Rattle.proof_answered.specs.Workers.{IsWorkedFor, KnowStaff, KnowsWorkers}
 use Rattle.proof_answered.proofs.Outwards.{marked_within}
-use Rattle.proof_answered.proofs.Staffed.{worked_before}
 use Rattle.proof_answered.proofs.Staffing.{sent_on}
 use Rattle.proof_answered.proofs.Walking.{none_given}
-use Rattle.proof_in_time.specs.Coming.{AllWaitFor, AsksFor, Asked, Coming, Flies, Has, IsAsking, IsPlainly, KnowPlainly, KnowWaits, Sent, Told, WaitsFor, brings, one_later, ticks_left}
+use Rattle.proof_in_time.specs.Coming.{AllWaitFor, AsksFor, Asked, Coming, Flies, Has, IsAsking, IsKept, IsKeptFor, IsPlainly, KnowPlainly, KnowWaits, Sent, Told, WaitsFor, brings, one_later, ticks_left}
 use Rattle.proof_in_time.proofs.Aired.{request_airs}
 use Rattle.proof_in_time.proofs.Bounded.{Devices, arrives_wait, begins_waits, chip_waits, effect_waits, idle_lasts, lasts_of, line_waits, session_of, still_fits, tick_event, ticks_wait, turn_waits, unfinished_waits}
 use Rattle.proof_in_time.proofs.Carried.{Fits, carry, many_on_air}
 use Rattle.proof_in_time.proofs.Grown.{same_adds}
+use Rattle.proof_in_time.proofs.Keeping.{judged_kept, kept_before, told_kept}
 use Rattle.proof_in_time.proofs.Settled.{judges_wait, sleeps_wait, submits_wait, takes_wait}
 
 -- ---- a request that is on its way is no more where nothing of the host is
@@ -93,6 +95,18 @@ never_sooner place = ap (λ (b : Bool). if b then 0 else 1) (let so : nat_lt pla
 rests_none : (m : Machine) → LineRests m → unheard m.outside.outer ≡ []
 rests_none m line = ap (λ (bs : List ℕ). unheard_by bs m.outside.outer.chip.state.port) line.at_chip.down_bytes ∙ line.at_chip.waiting
 
+-- ---- where the host judges, what it is told is kept
+abbrev KeepsAll : Event → Type 0
+KeepsAll (Host_takes count rest items events) = AllByRecursion IsKept events
+KeepsAll event = Unit {0}
+
+keeps_is : (event is : Event) → event ≡ is → KeepsAll event → KeepsAll is
+keeps_is event is same keeps = subst KeepsAll same keeps
+
+keeps : (m : Machine) (event : Event) → list_any is_keeper_fault (entries m event) ≡ false → KeepsAll event
+keeps m (Host_takes count rest items events) none = judged_kept m count rest items events none
+keeps m event none = tt
+
 -- ---- each node of these
 
 node_within : (these : List Bool) → length these ≡ 233 → is_marked these 0 ≡ false → (n : ℕ) → is_marked these n ≡ true → IsNode n
@@ -120,44 +134,44 @@ module _ (airs : Airs) (these : List Bool) (many : length these ≡ 233) (laws :
   sent_is : (m : Machine) (event is : Event) → event ≡ is → IsSentTo these m event → IsSentTo these m is
   sent_is m event is same sent = subst (IsSentTo these m) same sent
 
-  pub event_waits : (here next : Phase) (m : Machine) (event : Event) → Goes here m event next → May m event → IsPlainly these m event → LineAt here m → AwaitsAt here m → RoomAt here m → IsRouted m.outside.outer → TieAt here m → IsPeopled m
+  pub event_waits : (here next : Phase) (m : Machine) (event : Event) → Goes here m event next → May m event → IsPlainly these m event → KeepsAll event → LineAt here m → AwaitsAt here m → RoomAt here m → IsRouted m.outside.outer → TieAt here m → IsPeopled m
       → AllListen these m → IsSentTo these m event → WaitsFor n here m → Leads next m event
-  event_waits (Said_line line) next m event (is, to) may plainly line_at awaits room routed tie peopled listen sent w = as_is next (Begun line) m event _ is to (λ later. line_waits airs these many laws n marked node line m w)
-  event_waits (Doing line (first ∷ left)) next m event (is, to) may plainly line_at awaits room routed tie peopled listen sent w =
+  event_waits (Said_line line) next m event (is, to) may plainly keeps line_at awaits room routed tie peopled listen sent w = as_is next (Begun line) m event _ is to (λ later. line_waits airs these many laws n marked node line m w)
+  event_waits (Doing line (first ∷ left)) next m event (is, to) may plainly keeps line_at awaits room routed tie peopled listen sent w =
       as_is next (Doing line left) m event first is to (λ later. effect_waits airs these many laws n marked node line left m first line_at.0.0 awaits peopled.facts.nodes.places w)
-  event_waits (To_tick (suc ticks)) next m event (is, to) may plainly line_at awaits room routed tie peopled listen sent w = as_is next (Ticked ticks) m event _ is to (λ later. begins_waits airs these many laws n marked node ticks m w)
-  event_waits (Arriving (suc frames) ticks) next m event (drawn, route, is, to) may plainly line_at awaits room routed tie peopled listen sent w =
+  event_waits (To_tick (suc ticks)) next m event (is, to) may plainly keeps line_at awaits room routed tie peopled listen sent w = as_is next (Ticked ticks) m event _ is to (λ later. begins_waits airs these many laws n marked node ticks m w)
+  event_waits (Arriving (suc frames) ticks) next m event (drawn, route, is, to) may plainly keeps line_at awaits room routed tie peopled listen sent w =
       as_is next (Arriving frames ticks) m event _ is to
       (λ later.
       arrives_wait airs these many laws n marked node frames ticks m drawn route (may_is m event _ is may) (plain_is m event _ is plainly) awaits.awaits listen peopled.live line_at later (omega (arith, room)) w)
-  event_waits (Giving (suc results) ticks) next m event (route, is, to) may plainly line_at awaits room routed tie peopled listen sent w = absurd (none_given m results routed awaits.many)
-  event_waits (Ticking_devices place (suc count) ticks) next m event (drawn, route, is, to) may plainly line_at awaits room routed tie peopled listen sent w =
+  event_waits (Giving (suc results) ticks) next m event (route, is, to) may plainly keeps line_at awaits room routed tie peopled listen sent w = absurd (none_given m results routed awaits.many)
+  event_waits (Ticking_devices place (suc count) ticks) next m event (drawn, route, is, to) may plainly keeps line_at awaits room routed tie peopled listen sent w =
       as_is next (Ticking_devices (place + 1) count ticks) m event _ is to (λ later. ticks_wait airs these many laws n marked node place count ticks m drawn route awaits.awaits w)
-  event_waits (Ticking_chip ticks) next m event (is, to) may plainly line_at awaits room routed tie peopled listen sent w =
+  event_waits (Ticking_chip ticks) next m event (is, to) may plainly keeps line_at awaits room routed tie peopled listen sent w =
       as_is next (Ticking_decoder ticks) m event _ is to (λ later. chip_waits airs these many laws n marked node ticks m line_at later w)
-  event_waits (Ticking_decoder ticks) next m event (is, to) may plainly line_at awaits room routed tie peopled listen sent w = as_is next (Ticking_host _ ticks) m event _ is to (λ later. unfinished_waits airs these many laws n marked node ticks m w)
-  event_waits (Ticking_host (first ∷ events) ticks) next m event (is, to) may plainly line_at awaits room routed tie peopled listen sent w =
+  event_waits (Ticking_decoder ticks) next m event (is, to) may plainly keeps line_at awaits room routed tie peopled listen sent w = as_is next (Ticking_host _ ticks) m event _ is to (λ later. unfinished_waits airs these many laws n marked node ticks m w)
+  event_waits (Ticking_host (first ∷ events) ticks) next m event (is, to) may plainly keeps line_at awaits room routed tie peopled listen sent w =
       as_is next (Ticking_host events ticks) m event _ is to
       (λ later.
       tick_event airs these many laws n marked node first events ticks m line_at.0.0 line_at.1.at_host.turn_is peopled.facts.nodes.places
       (lasts_of n (Ticking_host (first ∷ events) ticks) m (peopled.facts.nodes.facts n) w) w)
-  event_waits (Sleeping passes ticks) next m event (k, wants, is, to) may plainly line_at awaits room routed tie peopled listen sent w =
+  event_waits (Sleeping passes ticks) next m event (k, wants, is, to) may plainly keeps line_at awaits room routed tie peopled listen sent w =
       as_is next (Sleeping passes ticks) m event _ is to (λ later. sleeps_wait airs these many n marked node below passes ticks m k peopled.facts.nodes.places w)
-  event_waits (Submitting passes ticks) next m event (asked, next_is, is, to) may plainly line_at awaits room routed tie peopled listen sent w =
+  event_waits (Submitting passes ticks) next m event (asked, next_is, is, to) may plainly keeps line_at awaits room routed tie peopled listen sent w =
       as_is next (Submitting passes ticks) m event _ is to
       (λ later. submits_wait airs these many n marked node below passes ticks m asked next_is (may_is m event _ is may) (plain_is m event (Host_does asked) is plainly) peopled.facts.nodes.places (peopled.facts.nodes.facts n) w)
-  event_waits (Moving passes ticks) next m event (rest, ways, is, to) may plainly line_at awaits room routed tie peopled listen sent w =
+  event_waits (Moving passes ticks) next m event (rest, ways, is, to) may plainly keeps line_at awaits room routed tie peopled listen sent w =
       let takes : Event = Outside_does (Chip_takes (length m.outside.outer.to_chip.bytes) rest ways) in
       as_is next (Moved true passes ticks) m event _ is to
       (λ later.
       takes_wait airs these many n marked node below passes ticks m rest ways awaits (may_is m event takes is may) line_at room tie later (sent_is m event takes is sent)
       (λ asks. request_airs airs m awaits n (session_of n m) below asks passes rest ways (may_is m event takes is may) line_at room tie peopled) w)
-  event_waits (Moved b passes ticks) next m event (rest, items, done, is, to) may plainly line_at awaits room routed tie peopled listen sent w =
+  event_waits (Moved b passes ticks) next m event (rest, items, done, is, to) may plainly keeps line_at awaits room routed tie peopled listen sent w =
       let takes : Event = Host_takes (length m.outside.outer.to_host.bytes) rest items done in
       as_is next (Sleeping passes ticks) m event _ is to
       (λ later.
-      judges_wait airs these many n marked node below b passes ticks m rest items done (may_is m event takes is may) line_at tie (plain_is m event takes is plainly) peopled.facts.nodes.places (peopled.facts.nodes.facts n) w)
-  event_waits here next m event goes may plainly line_at awaits room routed tie peopled listen sent w = absurd goes
+      judges_wait airs these many n marked node below b passes ticks m rest items done (may_is m event takes is may) line_at tie (keeps_is event takes is keeps) peopled.facts.nodes.places (peopled.facts.nodes.facts n) w)
+  event_waits here next m event goes may plainly keeps line_at awaits room routed tie peopled listen sent w = absurd goes
 
   -- ---- and with no event
 
@@ -249,24 +263,26 @@ node_in_time : (these : List Bool) (here : Phase) (m : Machine) (n : ℕ) → No
 node_in_time these here m n facts all knows (inl marked) = lasts_of n here m facts (all n marked)
 node_in_time these here m n facts all knows (inr other) = idle_lasts (node_of m.host.state n) facts (knows.others n other).idle
 
-pub in_time : (these : List Bool) (here : Phase) (past : List Entry) (m : Machine) (event : Event) → IsWorkedFor these past → KnowWaits these here past m → IsInTime m event
+pub in_time : (these : List Bool) (here : Phase) (past : List Entry) (m : Machine) (event : Event) → IsKeptFor these past → KnowWaits these here past m → IsInTime m event
 in_time these here past m (Host_does (Node_ticks n)) is known =
-    let at = known.0 is in
-    let tied = (at.0.0 is.stretched).0.0.tied is.stretched.quiet in
-    node_in_time these here m n (tied.7.facts.nodes.facts n) (known.1 is) (at.0.1 is.stretched) (marked_or these n)
+    let stretched = is.worked.stretched in
+    let at = known.0 is.worked in
+    let tied = (at.0.0 stretched).0.0.tied stretched.quiet in
+    node_in_time these here m n (tied.7.facts.nodes.facts n) (known.1 is) (at.0.1 stretched) (marked_or these n)
 in_time these here past m (Host_does event) is known = tt
 in_time these here past m event is known = tt
 
 module _ (airs : Airs) (these : List Bool) (many : length these ≡ 233) (none : is_marked these 0 ≡ false) (laws : Devices) (staff : Walk AsksNothing (KnowStaff these)) where
-  all_on : (here next : Phase) (past : List Entry) (m : Machine) (event : Event) → Goes here m event next → May m event → IsPlainly these m event → IsWorkedFor these (past ++ entries m event) → KnowWaits these here past m
+  all_on : (here next : Phase) (past : List Entry) (m : Machine) (event : Event) → Goes here m event next → May m event → IsPlainly these m event → IsKeptFor these (past ++ entries m event) → KnowWaits these here past m
       → KnowStaff these next (past ++ entries m event) (happens m event) → AllWaitFor these next (happens m event)
   all_on here next past m event goes may plainly is known later n marked =
-      let before = worked_before these past (entries m event) is in
-      let at = known.0 before in
-      let tied = (at.0.0 before.stretched).0.0.tied before.stretched.quiet in
-      let next_tied = ((later is).0.0 is.stretched).0.0.tied is.stretched.quiet in
-      let sent = sent_on these here next m event goes may tied.0 tied.6 (at.0.1 before.stretched) in
-      event_waits airs these many laws n marked (node_within these many none n marked) here next m event goes may plainly tied.0 tied.1 tied.2 tied.3 tied.6 tied.7 (at.0.0 before.stretched).1 sent (known.1 before n marked) next_tied.0
+      let before = kept_before these past (entries m event) is in
+      let stretched = before.worked.stretched in
+      let at = known.0 before.worked in
+      let tied = (at.0.0 stretched).0.0.tied stretched.quiet in
+      let next_tied = ((later is.worked).0.0 is.worked.stretched).0.0.tied is.worked.stretched.quiet in
+      let sent = sent_on these here next m event goes may tied.0 tied.6 (at.0.1 stretched) in
+      event_waits airs these many laws n marked (node_within these many none n marked) here next m event goes may plainly (keeps m event (told_kept these past (entries m event) is)) tied.0 tied.1 tied.2 tied.3 tied.6 tied.7 (at.0.0 stretched).1 sent (known.1 before n marked) next_tied.0
 
   pub waits_walk : WalkWhere (IsPlainly these) AsksNothing (KnowWaits these)
   waits_walk = record {
@@ -274,7 +290,7 @@ module _ (airs : Airs) (these : List Bool) (many : length these ≡ 233) (none :
       tt,
       (
         (staff.said past m words line read known.0).1,
-        λ is n marked. said_waits airs these many laws n marked (node_within these many none n marked) line m (known.1 (worked_before these past (entry.Said words ∷ []) is) n marked),
+        λ is n marked. said_waits airs these many laws n marked (node_within these many none n marked) line m (known.1 (kept_before these past (entry.Said words ∷ []) is) n marked),
       ),
     );
     event = λ here next past m event goes may plainly known.
@@ -284,8 +300,9 @@ module _ (airs : Airs) (these : List Bool) (many : length these ≡ 233) (none :
         let later = staff.turn here next past m turns known.0 in (
           later,
           λ is n marked.
-              let tied = ((known.0 is).0.0 is.stretched).0.0.tied is.stretched.quiet in
-              let next_tied = ((later is).0.0 is.stretched).0.0.tied is.stretched.quiet in
+              let stretched = is.worked.stretched in
+              let tied = ((known.0 is.worked).0.0 stretched).0.0.tied stretched.quiet in
+              let next_tied = ((later is.worked).0.0 stretched).0.0.tied stretched.quiet in
               turns_wait airs these many laws n marked (node_within these many none n marked) here next m turns tied.1 tied.6 next_tied.0 next_tied.6 (known.1 is n marked),
         );
   }
@@ -293,15 +310,26 @@ module _ (airs : Airs) (these : List Bool) (many : length these ≡ 233) (none :
   -- so each series stays at its first attempt
   pub plainly_walk : WalkWhere IsInTime AsksNothing (KnowFirst (IsWorkedFor these) (KnowStaff these)) → WalkWhere (IsPlainly these) AsksNothing (KnowPlainly these)
   plainly_walk first = record {
-    said = λ past m words line read known. (tt, ((waits_walk.said past m words line read known.0).1, ((first.said past m words line read (known.0.0, known.1)).1).1));
+    said = λ past m words line read known. (
+      tt,
+      (
+        (waits_walk.said past m words line read known.0).1,
+        λ is.
+            let before = kept_before these past (entry.Said words ∷ []) is in
+            ((first.said past m words line read (known.0.0, λ worked. known.1 before)).1).1 is.worked,
+      ),
+    );
     event = λ here next past m event goes may plainly known. (
       nothing_asked past (entries m event),
       (
         (waits_walk.event here next past m event goes may plainly known.0).1,
         λ is.
-            let before = worked_before these past (entries m event) is in
-            ((first.event here next past m event goes may (in_time these here past m event before known.0) (known.0.0, known.1)).1).1 is,
+            let before = kept_before these past (entries m event) is in
+            ((first.event here next past m event goes may (in_time these here past m event before known.0) (known.0.0, λ worked. known.1 before)).1).1 is.worked,
       ),
     );
-    turn = λ here next past m turns known. (waits_walk.turn here next past m turns known.0, (first.turn here next past m turns (known.0.0, known.1)).1);
+    turn = λ here next past m turns known. (
+      waits_walk.turn here next past m turns known.0,
+      λ is. ((first.turn here next past m turns (known.0.0, λ worked. known.1 is)).1) is.worked,
+    );
   }

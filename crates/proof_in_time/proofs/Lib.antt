@@ -9,4 +9,5 @@ mod Carried
 mod Bounded
 mod Settled
 mod Aired
+mod Keeping
 mod Lasting

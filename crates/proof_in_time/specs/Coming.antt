@@ -1,8 +1,9 @@
 -- What is on its way while an attempt of a node runs, at each phase of quiet lines and ticks (this project's own rule), and how many ticks of the node are to come before its session is over.
 use Rattle.std.specs.Prelude.{◌≡◌, ◌≢◌, ◌⊎◌, ℕ, ◌+◌, ◌≤◌, ◌==◌, nat_lt, Bool, false, true, if◌then◌else◌, List, [], ◌∷◌, ◌++◌, length, slice_get, Some}
-use Rattle.std.specs.List.{AllByRecursion}
+use Rattle.std.specs.List.{list_any}
 use Rattle.zw_base.specs.declared.order.Order.{Order}
 use Rattle.zw_text.specs.declared.entry.Entry.{Entry}
+use Rattle.law_time.specs.Stretches.{is_keeper_fault}
 use Rattle.supervision.specs.Host.{begun_of}
 use Rattle.supervision.specs.declared.session.TheConstants.{WORKING}
 use Rattle.serial_frame.specs.Frame.{FrameParts}
@@ -28,7 +29,7 @@ use Rattle.host_model.specs.Events.{HostEvent, Is_unkept, Node_ticks, Starts}
 use Rattle.host_model.specs.State.{HostState, node_of}
 use Rattle.host_model.specs.Taking.{is_secure}
 use Rattle.outside_model.specs.Events.{OuterEvent, Arrives}
-use Rattle.world_model.specs.Events.{Event, Outside_does, Host_does, Host_takes}
+use Rattle.world_model.specs.Events.{Event, Outside_does, Host_does}
 use Rattle.world_model.specs.State.{Machine}
 use Rattle.proof_calm.specs.proof_traffic.OnAir.{on_air}
 use Rattle.proof_calm.specs.proof_work.proof_walk.Phases.{Phase, Arriving, Giving, Ticking_devices, Ticking_chip, Ticking_decoder, Ticking_host, Sleeping, Submitting, Moving, Moved}
@@ -169,7 +170,7 @@ abbrev pub IsPlainStart : List Bool → HostState → HostEvent → Type 0
 IsPlainStart these h (Starts n plan more payload) = is_marked these n ≡ true → IsMessage (begun_of (node_of h n).book) payload
 IsPlainStart these h event = Unit {0}
 
--- that is kept which the host is told
+-- the keeper keeps what the host is told
 abbrev pub IsKept : HostEvent → Type 0
 IsKept (Is_unkept n) = ⊥
 IsKept event = Unit {0}
@@ -191,14 +192,18 @@ IsHeardInStep m event = Unit {0}
 abbrev pub IsPlainly : List Bool → Machine → Event → Type 0
 IsPlainly these m (Outside_does event) = IsHeardInStep m event
 IsPlainly these m (Host_does event) = IsPlainStart these m.host.state event
-IsPlainly these m (Host_takes count rest items events) = AllByRecursion IsKept events
 IsPlainly these m event = Unit {0}
 
 -- ---- at each phase
 
+-- lines for these nodes, over which the keeper does not fail
+pub record IsKeptFor (these : List Bool) (past : List Entry) : Type 0 where
+  pub worked : IsWorkedFor these past
+  pub kept : list_any is_keeper_fault past ≡ false
+
 abbrev pub KnowWaits : List Bool → Phase → List Entry → Machine → Type 0
-KnowWaits these here past m = KnowStaff these here past m × (IsWorkedFor these past → AllWaitFor these here m)
+KnowWaits these here past m = KnowStaff these here past m × (IsKeptFor these past → AllWaitFor these here m)
 
 -- and each series is at its first attempt
 abbrev pub KnowPlainly : List Bool → Phase → List Entry → Machine → Type 0
-KnowPlainly these here past m = KnowWaits these here past m × (IsWorkedFor these past → AllFirst m.host.state)
+KnowPlainly these here past m = KnowWaits these here past m × (IsKeptFor these past → AllFirst m.host.state)
