@@ -41,10 +41,11 @@ use Rattle.proof_answered.specs.Workers.{IsWorkedFor, KnowStaff, KnowsWorkers}
 use Rattle.proof_answered.proofs.Outwards.{marked_within}
 use Rattle.proof_answered.proofs.Staffing.{sent_on}
 use Rattle.proof_answered.proofs.Walking.{none_given}
-use Rattle.proof_in_time.specs.Coming.{AllWaitFor, AsksFor, Asked, Coming, Flies, Has, IsAsking, IsKept, IsKeptFor, IsPlainly, KnowPlainly, KnowWaits, Sent, Told, WaitsFor, brings, one_later, ticks_left}
+use Rattle.proof_in_time.specs.Coming.{AllWaitFor, AsksFor, Asked, Coming, Flies, GoWhole, Has, IsAsking, IsKept, IsKeptFor, IsPlainly, KnowPlainly, KnowWaits, Sent, Told, WaitsFor, brings, one_later, ticks_left}
 use Rattle.proof_in_time.proofs.Aired.{request_airs}
 use Rattle.proof_in_time.proofs.Bounded.{Devices, arrives_wait, begins_waits, chip_waits, effect_waits, idle_lasts, lasts_of, line_waits, session_of, still_fits, tick_event, ticks_wait, turn_waits, unfinished_waits}
 use Rattle.proof_in_time.proofs.Carried.{Fits, carry, many_on_air}
+use Rattle.proof_in_time.proofs.Commands.{on_whole, plain_start}
 use Rattle.proof_in_time.proofs.Grown.{same_adds}
 use Rattle.proof_in_time.proofs.Keeping.{judged_kept, kept_before, told_kept}
 use Rattle.proof_in_time.proofs.Settled.{judges_wait, sleeps_wait, submits_wait, takes_wait}
@@ -134,44 +135,44 @@ module _ (airs : Airs) (these : List Bool) (many : length these ≡ 233) (laws :
   sent_is : (m : Machine) (event is : Event) → event ≡ is → IsSentTo these m event → IsSentTo these m is
   sent_is m event is same sent = subst (IsSentTo these m) same sent
 
-  pub event_waits : (here next : Phase) (m : Machine) (event : Event) → Goes here m event next → May m event → IsPlainly these m event → KeepsAll event → LineAt here m → AwaitsAt here m → RoomAt here m → IsRouted m.outside.outer → TieAt here m → IsPeopled m
+  pub event_waits : (here next : Phase) (m : Machine) (event : Event) → Goes here m event next → May m event → IsPlainly these m event → KeepsAll event → GoWhole these m.host.state.commands → LineAt here m → AwaitsAt here m → RoomAt here m → IsRouted m.outside.outer → TieAt here m → IsPeopled m
       → AllListen these m → IsSentTo these m event → WaitsFor n here m → Leads next m event
-  event_waits (Said_line line) next m event (is, to) may plainly keeps line_at awaits room routed tie peopled listen sent w = as_is next (Begun line) m event _ is to (λ later. line_waits airs these many laws n marked node line m w)
-  event_waits (Doing line (first ∷ left)) next m event (is, to) may plainly keeps line_at awaits room routed tie peopled listen sent w =
+  event_waits (Said_line line) next m event (is, to) may plainly keeps go line_at awaits room routed tie peopled listen sent w = as_is next (Begun line) m event _ is to (λ later. line_waits airs these many laws n marked node line m w)
+  event_waits (Doing line (first ∷ left)) next m event (is, to) may plainly keeps go line_at awaits room routed tie peopled listen sent w =
       as_is next (Doing line left) m event first is to (λ later. effect_waits airs these many laws n marked node line left m first line_at.0.0 awaits peopled.facts.nodes.places w)
-  event_waits (To_tick (suc ticks)) next m event (is, to) may plainly keeps line_at awaits room routed tie peopled listen sent w = as_is next (Ticked ticks) m event _ is to (λ later. begins_waits airs these many laws n marked node ticks m w)
-  event_waits (Arriving (suc frames) ticks) next m event (drawn, route, is, to) may plainly keeps line_at awaits room routed tie peopled listen sent w =
+  event_waits (To_tick (suc ticks)) next m event (is, to) may plainly keeps go line_at awaits room routed tie peopled listen sent w = as_is next (Ticked ticks) m event _ is to (λ later. begins_waits airs these many laws n marked node ticks m w)
+  event_waits (Arriving (suc frames) ticks) next m event (drawn, route, is, to) may plainly keeps go line_at awaits room routed tie peopled listen sent w =
       as_is next (Arriving frames ticks) m event _ is to
       (λ later.
       arrives_wait airs these many laws n marked node frames ticks m drawn route (may_is m event _ is may) (plain_is m event _ is plainly) awaits.awaits listen peopled.live line_at later (omega (arith, room)) w)
-  event_waits (Giving (suc results) ticks) next m event (route, is, to) may plainly keeps line_at awaits room routed tie peopled listen sent w = absurd (none_given m results routed awaits.many)
-  event_waits (Ticking_devices place (suc count) ticks) next m event (drawn, route, is, to) may plainly keeps line_at awaits room routed tie peopled listen sent w =
+  event_waits (Giving (suc results) ticks) next m event (route, is, to) may plainly keeps go line_at awaits room routed tie peopled listen sent w = absurd (none_given m results routed awaits.many)
+  event_waits (Ticking_devices place (suc count) ticks) next m event (drawn, route, is, to) may plainly keeps go line_at awaits room routed tie peopled listen sent w =
       as_is next (Ticking_devices (place + 1) count ticks) m event _ is to (λ later. ticks_wait airs these many laws n marked node place count ticks m drawn route awaits.awaits w)
-  event_waits (Ticking_chip ticks) next m event (is, to) may plainly keeps line_at awaits room routed tie peopled listen sent w =
+  event_waits (Ticking_chip ticks) next m event (is, to) may plainly keeps go line_at awaits room routed tie peopled listen sent w =
       as_is next (Ticking_decoder ticks) m event _ is to (λ later. chip_waits airs these many laws n marked node ticks m line_at later w)
-  event_waits (Ticking_decoder ticks) next m event (is, to) may plainly keeps line_at awaits room routed tie peopled listen sent w = as_is next (Ticking_host _ ticks) m event _ is to (λ later. unfinished_waits airs these many laws n marked node ticks m w)
-  event_waits (Ticking_host (first ∷ events) ticks) next m event (is, to) may plainly keeps line_at awaits room routed tie peopled listen sent w =
+  event_waits (Ticking_decoder ticks) next m event (is, to) may plainly keeps go line_at awaits room routed tie peopled listen sent w = as_is next (Ticking_host _ ticks) m event _ is to (λ later. unfinished_waits airs these many laws n marked node ticks m w)
+  event_waits (Ticking_host (first ∷ events) ticks) next m event (is, to) may plainly keeps go line_at awaits room routed tie peopled listen sent w =
       as_is next (Ticking_host events ticks) m event _ is to
       (λ later.
       tick_event airs these many laws n marked node first events ticks m line_at.0.0 line_at.1.at_host.turn_is peopled.facts.nodes.places
       (lasts_of n (Ticking_host (first ∷ events) ticks) m (peopled.facts.nodes.facts n) w) w)
-  event_waits (Sleeping passes ticks) next m event (k, wants, is, to) may plainly keeps line_at awaits room routed tie peopled listen sent w =
+  event_waits (Sleeping passes ticks) next m event (k, wants, is, to) may plainly keeps go line_at awaits room routed tie peopled listen sent w =
       as_is next (Sleeping passes ticks) m event _ is to (λ later. sleeps_wait airs these many n marked node below passes ticks m k peopled.facts.nodes.places w)
-  event_waits (Submitting passes ticks) next m event (asked, next_is, is, to) may plainly keeps line_at awaits room routed tie peopled listen sent w =
+  event_waits (Submitting passes ticks) next m event (asked, next_is, is, to) may plainly keeps go line_at awaits room routed tie peopled listen sent w =
       as_is next (Submitting passes ticks) m event _ is to
-      (λ later. submits_wait airs these many n marked node below passes ticks m asked next_is (may_is m event _ is may) (plain_is m event (Host_does asked) is plainly) peopled.facts.nodes.places (peopled.facts.nodes.facts n) w)
-  event_waits (Moving passes ticks) next m event (rest, ways, is, to) may plainly keeps line_at awaits room routed tie peopled listen sent w =
+      (λ later. submits_wait airs these many n marked node below passes ticks m asked next_is (may_is m event _ is may) (plain_start these m asked (may_is m event (Host_does asked) is may) peopled.facts go) peopled.facts.nodes.places (peopled.facts.nodes.facts n) w)
+  event_waits (Moving passes ticks) next m event (rest, ways, is, to) may plainly keeps go line_at awaits room routed tie peopled listen sent w =
       let takes : Event = Outside_does (Chip_takes (length m.outside.outer.to_chip.bytes) rest ways) in
       as_is next (Moved true passes ticks) m event _ is to
       (λ later.
       takes_wait airs these many n marked node below passes ticks m rest ways awaits (may_is m event takes is may) line_at room tie later (sent_is m event takes is sent)
       (λ asks. request_airs airs m awaits n (session_of n m) below asks passes rest ways (may_is m event takes is may) line_at room tie peopled) w)
-  event_waits (Moved b passes ticks) next m event (rest, items, done, is, to) may plainly keeps line_at awaits room routed tie peopled listen sent w =
+  event_waits (Moved b passes ticks) next m event (rest, items, done, is, to) may plainly keeps go line_at awaits room routed tie peopled listen sent w =
       let takes : Event = Host_takes (length m.outside.outer.to_host.bytes) rest items done in
       as_is next (Sleeping passes ticks) m event _ is to
       (λ later.
       judges_wait airs these many n marked node below b passes ticks m rest items done (may_is m event takes is may) line_at tie (keeps_is event takes is keeps) peopled.facts.nodes.places (peopled.facts.nodes.facts n) w)
-  event_waits here next m event goes may plainly keeps line_at awaits room routed tie peopled listen sent w = absurd goes
+  event_waits here next m event goes may plainly keeps go line_at awaits room routed tie peopled listen sent w = absurd goes
 
   -- ---- and with no event
 
@@ -268,21 +269,26 @@ in_time these here past m (Host_does (Node_ticks n)) is known =
     let stretched = is.worked.stretched in
     let at = known.0 is.worked in
     let tied = (at.0.0 stretched).0.0.tied stretched.quiet in
-    node_in_time these here m n (tied.7.facts.nodes.facts n) (known.1 is) (at.0.1 stretched) (marked_or these n)
+    node_in_time these here m n (tied.7.facts.nodes.facts n) (known.1 is).0 (at.0.1 stretched) (marked_or these n)
 in_time these here past m (Host_does event) is known = tt
 in_time these here past m event is known = tt
 
 module _ (airs : Airs) (these : List Bool) (many : length these ≡ 233) (none : is_marked these 0 ≡ false) (laws : Devices) (staff : Walk AsksNothing (KnowStaff these)) where
   all_on : (here next : Phase) (past : List Entry) (m : Machine) (event : Event) → Goes here m event next → May m event → IsPlainly these m event → IsKeptFor these (past ++ entries m event) → KnowWaits these here past m
-      → KnowStaff these next (past ++ entries m event) (happens m event) → AllWaitFor these next (happens m event)
-  all_on here next past m event goes may plainly is known later n marked =
+      → KnowStaff these next (past ++ entries m event) (happens m event) → AllWaitFor these next (happens m event) × GoWhole these (happens m event).host.state.commands
+  all_on here next past m event goes may plainly is known later =
       let before = kept_before these past (entries m event) is in
       let stretched = before.worked.stretched in
       let at = known.0 before.worked in
       let tied = (at.0.0 stretched).0.0.tied stretched.quiet in
       let next_tied = ((later is.worked).0.0 is.worked.stretched).0.0.tied is.worked.stretched.quiet in
       let sent = sent_on these here next m event goes may tied.0 tied.6 (at.0.1 stretched) in
-      event_waits airs these many laws n marked (node_within these many none n marked) here next m event goes may plainly (keeps m event (told_kept these past (entries m event) is)) tied.0 tied.1 tied.2 tied.3 tied.6 tied.7 (at.0.0 stretched).1 sent (known.1 before n marked) next_tied.0
+      let was = known.1 before in (
+        λ n marked.
+            event_waits airs these many laws n marked (node_within these many none n marked) here next m event goes may plainly (keeps m event (told_kept these past (entries m event) is)) was.1 tied.0 tied.1 tied.2 tied.3 tied.6 tied.7
+            (at.0.0 stretched).1 sent (was.0 n marked) next_tied.0,
+        on_whole these here next m event goes tied.0 may plainly was.1,
+      )
 
   pub waits_walk : WalkWhere (IsPlainly these) AsksNothing (KnowWaits these)
   waits_walk = record {
@@ -290,20 +296,22 @@ module _ (airs : Airs) (these : List Bool) (many : length these ≡ 233) (none :
       tt,
       (
         (staff.said past m words line read known.0).1,
-        λ is n marked. said_waits airs these many laws n marked (node_within these many none n marked) line m (known.1 (kept_before these past (entry.Said words ∷ []) is) n marked),
+        λ is.
+            let was = known.1 (kept_before these past (entry.Said words ∷ []) is) in
+            (λ n marked. said_waits airs these many laws n marked (node_within these many none n marked) line m (was.0 n marked), was.1),
       ),
     );
     event = λ here next past m event goes may plainly known.
         let later = (staff.event here next past m event goes may known.0).1 in
-        (nothing_asked past (entries m event), (later, λ is n marked. all_on here next past m event goes may plainly is known later n marked));
+        (nothing_asked past (entries m event), (later, λ is. all_on here next past m event goes may plainly is known later));
     turn = λ here next past m turns known.
         let later = staff.turn here next past m turns known.0 in (
           later,
-          λ is n marked.
+          λ is.
               let stretched = is.worked.stretched in
               let tied = ((known.0 is.worked).0.0 stretched).0.0.tied stretched.quiet in
               let next_tied = ((later is.worked).0.0 stretched).0.0.tied stretched.quiet in
-              turns_wait airs these many laws n marked (node_within these many none n marked) here next m turns tied.1 tied.6 next_tied.0 next_tied.6 (known.1 is n marked),
+              (λ n marked. turns_wait airs these many laws n marked (node_within these many none n marked) here next m turns tied.1 tied.6 next_tied.0 next_tied.6 ((known.1 is).0 n marked), (known.1 is).1),
         );
   }
 

@@ -9,5 +9,6 @@ mod Carried
 mod Bounded
 mod Settled
 mod Aired
+mod Commands
 mod Keeping
 mod Lasting

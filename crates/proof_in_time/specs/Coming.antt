@@ -19,14 +19,15 @@ use Rattle.mesh_sim.specs.declared.fate.Fate.TheVariants.{AtDevice}
 use Rattle.device_kinds.specs.Kind.{lists}
 use Rattle.device_sim.specs.State.{State}
 use Rattle.host_orders.specs.Refusals.{IsFit}
-use Rattle.host_orders.specs.Wrapping.{message_of}
+use Rattle.host_orders.specs.Wrapping.{form_of, message_of}
 use Rattle.host_orders.specs.declared.carriage.Carriage.{Carriage}
+use Rattle.host_orders.specs.declared.carriage.Form.TheVariants.{Plain}
 use Rattle.host_requests.specs.Frames.{frame_of}
 use Rattle.host_requests.specs.declared.task.Purpose.TheVariants.{Attempt}
 use Rattle.host_requests.specs.declared.under_way.UnderWay.{UnderWay}
 use Rattle.host_node.specs.declared.series.Series.TheVariants.{Running}
-use Rattle.host_model.specs.Events.{HostEvent, Is_unkept, Node_ticks, Starts}
-use Rattle.host_model.specs.State.{HostState, node_of}
+use Rattle.host_model.specs.Events.{HostEvent, Accepts, Is_unkept, Node_ticks, Starts}
+use Rattle.host_model.specs.State.{Command, HostState, command_at, node_of}
 use Rattle.host_model.specs.Taking.{is_secure}
 use Rattle.outside_model.specs.Events.{OuterEvent, Arrives}
 use Rattle.world_model.specs.Events.{Event, Outside_does, Host_does}
@@ -163,9 +164,25 @@ pub record WaitsFor (n : ℕ) (here : Phase) (m : Machine) : Type 0 where
 abbrev pub AllWaitFor : List Bool → Phase → Machine → Type 0
 AllWaitFor these here m = (n : ℕ) → is_marked these n ≡ true → WaitsFor n here m
 
+-- ---- commands
+
+-- a command goes in one payload, unsealed, to an end point that has a number on the wire
+pub record GoesWhole (order : Order) (carriage : Carriage) : Type 0 where
+  pub plain : form_of carriage.outer ≡ Plain
+  pub end : order.end ≤ 127
+
+-- so does each of these nodes
+abbrev pub GoWhole : List Bool → List Command → Type 0
+GoWhole these commands = (number : ℕ) (command : Command) → command_at commands number ≡ Some command → is_marked these command.order.node ≡ true → GoesWhole command.order command.carriage
+
 -- ---- what is assumed of events
 
--- an attempt gives the message of the session that was begun last
+-- an order for one of these nodes goes whole
+abbrev pub IsPlainOrder : List Bool → HostEvent → Type 0
+IsPlainOrder these (Accepts order carriage) = is_marked these order.node ≡ true → GoesWhole order carriage
+IsPlainOrder these event = Unit {0}
+
+-- so an attempt gives the message of the session that was begun last
 abbrev pub IsPlainStart : List Bool → HostState → HostEvent → Type 0
 IsPlainStart these h (Starts n plan more payload) = is_marked these n ≡ true → IsMessage (begun_of (node_of h n).book) payload
 IsPlainStart these h event = Unit {0}
@@ -191,7 +208,7 @@ IsHeardInStep m event = Unit {0}
 
 abbrev pub IsPlainly : List Bool → Machine → Event → Type 0
 IsPlainly these m (Outside_does event) = IsHeardInStep m event
-IsPlainly these m (Host_does event) = IsPlainStart these m.host.state event
+IsPlainly these m (Host_does event) = IsPlainOrder these event
 IsPlainly these m event = Unit {0}
 
 -- ---- at each phase
@@ -202,7 +219,7 @@ pub record IsKeptFor (these : List Bool) (past : List Entry) : Type 0 where
   pub kept : list_any is_keeper_fault past ≡ false
 
 abbrev pub KnowWaits : List Bool → Phase → List Entry → Machine → Type 0
-KnowWaits these here past m = KnowStaff these here past m × (IsKeptFor these past → AllWaitFor these here m)
+KnowWaits these here past m = KnowStaff these here past m × (IsKeptFor these past → AllWaitFor these here m × GoWhole these m.host.state.commands)
 
 -- and each series is at its first attempt
 abbrev pub KnowPlainly : List Bool → Phase → List Entry → Machine → Type 0

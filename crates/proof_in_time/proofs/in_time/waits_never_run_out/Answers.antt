@@ -44,7 +44,8 @@ returns-clause-first c = λ these many none. plainly_walk airs these many none d
     devices = record { heard = c.messages_are_answered.ensures.heard; at_once = c.messages_are_answered.ensures.at_once }
 
 pub returns-clause-lines : goal.returns-clause-lines
-returns-clause-lines c = λ these m lines many none are whole plainly worked tied few listen knows speak waits first.
+returns-clause-lines c = λ these m lines many none are whole plainly worked tied few listen knows speak waits go first.
     let known = where_whole (IsPlainly these) AsksNothing (KnowPlainly these) (returns-clause-first c these many none) [] m lines are whole plainly
-    (((λ is. (((λ stretched. ((begins_known m tied few, rests_heard m tied.rests), listen)), λ stretched. knows), record { lines = tt; speak = speak })), λ is. waits), λ is. first) in
-    (known.0.1 worked, known.1 worked)
+    (((λ is. (((λ stretched. ((begins_known m tied few, rests_heard m tied.rests), listen)), λ stretched. knows), record { lines = tt; speak = speak })), λ is. (waits, go)), λ is. first) in
+    let later = known.0.1 worked in
+    (later.0, later.1, known.1 worked)
