@@ -1,5 +1,5 @@
 -- A host at whose events no attempt ends without a report leaves each series at its first attempt; and so it is at what the chip tells, where payloads are heard.
-use Rattle.std.proofs.Common.{◌≡◌, ◌≢◌, ℕ, ◌+◌, ◌-◌, ◌==◌, ◌&&◌, ◌||◌, not, nat_lt, Bool, true, false, if◌then◌else◌, List, [], ◌∷◌, ◌++◌, length, refl, sym, ap, ◌∙◌, subst}
+use Rattle.std.proofs.Common.{◌≡◌, ◌≢◌, ℕ, ◌+◌, ◌-◌, ◌==◌, ◌&&◌, ◌||◌, not, nat_lt, Bool, true, false, if◌then◌else◌, List, [], ◌∷◌, ◌++◌, refl, sym, ap, ◌∙◌, subst}
 use Rattle.std.proofs.lemmas.Bool.{eq-eqb, eqb-true}
 use Rattle.std.specs.Prelude.{Option, Some, None}
 use Rattle.std.specs.List.{AllByRecursion}
@@ -7,12 +7,10 @@ use Rattle.zw_base.proofs.Each.{all-right}
 use Rattle.supervision.specs.Host.{told_of}
 use Rattle.supervision.specs.declared.host_node.Told.{Told}
 use Rattle.supervision.specs.declared.host_node.Told.TheVariants.{Final, Working, Old}
-use Rattle.s0_session.specs.Nonces.{live_of}
 use Rattle.serial_frame.specs.Frame.{FrameParts}
 use Rattle.serial_frame.specs.declared.item.Item.TheVariants.{Good}
 use Rattle.serial_frame.specs.declared.unit.Unit.{Unit as LineUnit}
 use Rattle.serial_frame.specs.declared.unit.Unit.TheVariants.{Ack, Nak, Can, Framed}
-use Rattle.serial_link.specs.State.{turn_ticked}
 use Rattle.serial_link.specs.declared.turn.Turn.{Turn}
 use Rattle.serial_link.specs.declared.turn.Turn.TheVariants.{Idle as no_turn}
 use Rattle.chip_functions.specs.Response.{response_function}
@@ -25,9 +23,8 @@ use Rattle.chip_functions.specs.declared.response.Response.TheVariants.{SendData
 use Rattle.chip_sim.specs.Answers.{notice_frame}
 use Rattle.chip_sim.specs.State.{ChipState}
 use Rattle.host_heard.specs.Telling.{heard_at}
-use Rattle.host_keep.specs.Status.{status_byte}
 use Rattle.host_requests.specs.Events.{RequestsEvent, end_at}
-use Rattle.host_requests.specs.Events.RequestsEvent.{BeginsAttempt, Pushes, IsSent, Responds, CallsBack, Updates as update_told_of}
+use Rattle.host_requests.specs.Events.RequestsEvent.{IsSent, Responds, CallsBack, Updates as update_told_of}
 use Rattle.host_requests.specs.Frames.{function_of}
 use Rattle.host_requests.specs.Next.{at_callback, at_response, at_tick, at_update, counted_down, end_from, end_of, is_answered, judged, on_with, purpose_ends_at_update, sent_from}
 use Rattle.host_requests.specs.State.{RequestsState}
@@ -38,26 +35,23 @@ use Rattle.host_requests.specs.declared.next.Next.TheVariants as next
 use Rattle.host_requests.specs.declared.task.Purpose.{Purpose}
 use Rattle.host_requests.specs.declared.task.Purpose.TheVariants.{Housekeeping, Attempt, Abort}
 use Rattle.host_requests.specs.declared.task.Task.{Task}
-use Rattle.host_requests.specs.declared.task.Task.TheVariants.{Offer, Segment, NoMore}
 use Rattle.host_requests.specs.declared.under_way.Progress.{Progress}
 use Rattle.host_requests.specs.declared.under_way.Progress.TheVariants.{Submitted, Sent, Answered}
 use Rattle.host_requests.specs.declared.under_way.UnderWay.{UnderWay}
+use Rattle.host_node.specs.TableState.{node_of as node_among, with_node as with_node_among}
 use Rattle.host_node.specs.State.{NodeState, unknown, is_open, is_up, is_idle, is_running, has_waiting}
-use Rattle.host_node.specs.Steps.{after_again, after_again_tick, after_attempt_end, after_attempt_tick, after_hold_tick, after_occasion, after_sign, after_sleep, after_told, as_recorded, asleep, new_series, tick_end, tried_again, wait_ticks, with_again, with_wait}
+use Rattle.host_node.specs.Steps.{after_again, after_again_tick, after_attempt_end, after_attempt_tick, after_hold_tick, after_occasion, after_sign, after_sleep, after_told, as_recorded, asleep, new_series, tried_again, wait_ticks, with_again, with_wait}
 use Rattle.host_node.specs.Events.{NodeEvent, after as after_node}
 use Rattle.host_node.specs.Events.NodeEvent.{Joins as node_joins, Interviews as node_interviews, Puts, Takes_back, Accepts as node_accepts, Cancels as node_cancels, Begins as node_begins, Blocks, Starts as node_starts, Gives_segment as node_gives_segment, Gives_text as node_gives_text, Succeeds, Takes_nonce as node_takes_nonce, Restores_seen, Ends_attempt, Reports, Holds, Notifies as node_notifies, Sleeps, Queues_no_more as node_queues_no_more, Drops_no_more as node_drops_no_more, Ends_no_more, Ticks as node_ticks, Restarts}
-use Rattle.host_node.specs.declared.attempt.AttemptEnd.{AttemptEnd}
-use Rattle.host_node.specs.declared.attempt.AttemptEnd.TheVariants.{NoneRan, Again, Unanswered}
 use Rattle.host_node.specs.declared.attempt.Moment.{Moment}
 use Rattle.host_node.specs.declared.attempt.Moment.TheVariants.{BetweenTicks}
 use Rattle.host_node.specs.declared.attempt.Plan.TheVariants.{Whole, Segments, Sealed}
 use Rattle.host_node.specs.declared.series.Series.TheVariants as series
-use Rattle.host_model.specs.After.{after, failing_if, finishing, gives_up, giving, holding, is_busy, is_full, is_held, line_ticked, node_does, node_for, offering, queues_if_room, requests_do, submits, submits_part}
+use Rattle.host_model.specs.After.{after, is_busy, requests_do}
 use Rattle.host_model.specs.Did.{MayAll, after_all}
-use Rattle.host_model.specs.Ends.{attempt_ended, PartEnd, Good as well, part_end, after_end, after_end_if, after_part, after_task}
-use Rattle.host_model.specs.Events.{HostEvent, Accepts, Cancels, Joins, Queues, Queues_interview, Queues_probe, Hears, Requests_do, Interviews, Interview_unkept, Unreads, Is_unkept, Reports_old, Works, Finishes, Offers, Gives, Spends, Spends_unread, Takes_nonce, Notifies, Resends, Hears_value, Has_no_room, Line_ticks, Node_ticks, Queues_no_more, Drops_no_more, Submits_abort, Submits_front, Starts, Gives_text, Gives_segment, Begins, Begin_unkept}
+use Rattle.host_model.specs.Ends.{PartEnd, Good as well, part_end, after_end, after_end_if, after_part}
+use Rattle.host_model.specs.Events.{HostEvent, Hears, Requests_do, Line_ticks, Node_ticks, Starts}
 use Rattle.host_model.specs.May.{May}
-use Rattle.host_model.specs.Sessions.{open_command}
 use Rattle.host_model.specs.State.{HostState, node_of, with_node}
 use Rattle.host_model.specs.Taking.{AreJudged, IsJudged, told_if, told_requests}
 use Rattle.proof_serial.proofs.HostFits.{all-set, all_at}
@@ -71,6 +65,7 @@ use Rattle.proof_calm.proofs.Judging.{TieBy, ends_by, one_more, unit_tied}
 use Rattle.proof_calm.proofs.Reading.{goods}
 use Rattle.proof_answered.specs.FirstAttempts.{AllFirst, IsFirst}
 use Rattle.proof_answered.specs.Heard.{AllSayHeard, SaysHeard}
+use Rattle.proof_answered.proofs.NodeSteps.{AllowsAt, AllowsEnd, AllowsEndIf, AllowsPart, IsFree, event_is}
 
 -- ---- a node
 
@@ -114,7 +109,7 @@ again_wait : (n : NodeState) → (after_again n).attempt_wait ≡ n.attempt_wait
 again_wait n =
     same_wait (has_waiting n) (after_occasion n) n n.attempt_wait (same_wait (is_open n && is_up n && is_idle n.series) (new_series n) n n.attempt_wait refl refl) refl
 
-again_tick_wait : (n : NodeState) → (after_again_tick n).attempt_wait ≡ n.attempt_wait
+pub again_tick_wait : (n : NodeState) → (after_again_tick n).attempt_wait ≡ n.attempt_wait
 again_tick_wait n = same_wait (n.again_wait == 1) (after_again (with_again n 0)) (with_again n (n.again_wait - 1)) n.attempt_wait (again_wait (with_again n 0)) refl
 
 attempt_tick_first : (n : NodeState) → n.attempt_wait ≢ 1 → IsFirst n → IsFirst (after_attempt_tick n)
@@ -153,18 +148,6 @@ node_first n node_ticks lasts first =
     attempt_tick_first (after_again_tick (after_hold_tick n)) (λ one. lasts (sym (again_tick_wait (after_hold_tick n)) ∙ one)) (again_tick_first (after_hold_tick n) first)
 node_first n Restarts lasts first = occasion_first (as_recorded n) (λ some. refl)
 
--- ---- all nodes
-
-does_first : (h : HostState) (n : ℕ) (event : NodeEvent) → LastsNode (node_of h n) event → AllFirst h → AllFirst (node_does h n event)
-does_first h n event lasts all =
-    all-set IsFirst h.nodes n (after_node (node_of h n) event) all (node_first (node_of h n) event lasts (all_at IsFirst h.nodes n (unknown 0) all (λ some. refl)))
-
-attempt_first : (h : HostState) (end : AttemptEnd) (command : Option ℕ) → AllFirst h → AllFirst (attempt_ended h end command)
-attempt_first h NoneRan command all = all
-attempt_first h Again command all = all
-attempt_first h (Unanswered fell) None all = all
-attempt_first h (Unanswered fell) (Some command) all = all
-
 -- a request of an attempt ends as its payload was heard
 abbrev EndsSo : Purpose → How → Type 0
 EndsSo (Attempt n more payload) how = how ≡ AtCallback CompleteOk
@@ -177,39 +160,6 @@ EndsWell (Some end) = EndsSo end.purpose end.how
 part_well : (more : Bool) → part_end more (AtCallback CompleteOk) ≡ well
 part_well true = refl
 part_well false = refl
-
-task_first : (h : HostState) (task : Task) → AllFirst h → AllFirst (after_task h task)
-task_first h (NoMore n) all = does_first h n Ends_no_more tt all
-task_first h task all = all
-
-end_first : (h : HostState) (purpose : Purpose) (how : How) (moment : Moment) → EndsSo purpose how → AllFirst h → AllFirst (after_end h (record { purpose = purpose; how = how }) moment)
-end_first h (Attempt n more payload) how moment so all =
-    subst (λ (w : How). AllFirst (after_part h n (part_end more w) moment)) (sym so)
-    (subst (λ (end : PartEnd). AllFirst (after_part h n end moment)) (sym (part_well more)) (does_first h n Succeeds tt all))
-end_first h (Housekeeping task) how moment so all = task_first h task all
-end_first h Abort how moment so all = all
-
-end_if_first : (h : HostState) (end : Option End) (moment : Moment) → EndsWell end → AllFirst h → AllFirst (after_end_if h end moment)
-end_if_first h None moment so all = all
-end_if_first h (Some end) moment so all = end_first h end.purpose end.how moment so all
-
-room_first : (h : HostState) (task : Task) → AllFirst h → AllFirst (queues_if_room h task)
-room_first h task all = by (is_full h)
-  where
-    by : (b : Bool) → AllFirst (if b then h else requests_do h (Pushes task))
-    by true = all
-    by false = all
-
-offering_first : (h : HostState) (n : ℕ) (live : Option (List ℕ)) → AllFirst h → AllFirst (offering h n live)
-offering_first h n None all = all
-offering_first h n (Some nonce) all = room_first h (Offer n nonce) all
-
-holding_first : (h : HostState) (n : ℕ) (held : Bool) → AllFirst h → AllFirst (holding h n held)
-holding_first h n true all = does_first h n Holds tt all
-holding_first h n false all = all
-
-part_first : (h : HostState) (n : ℕ) (more : Bool) (payload : List ℕ) (gives : NodeEvent) → LastsNode (node_of h n) gives → AllFirst h → AllFirst (submits_part h n more payload gives)
-part_first h n more payload gives lasts all = does_first (record (submits h (Attempt n more payload) (BeginsAttempt n more payload)) { served = n }) n gives lasts all
 
 -- ---- events of a host
 
@@ -224,45 +174,38 @@ abbrev pub LastAll : HostState → List HostEvent → Type 0
 LastAll h [] = Unit {0}
 LastAll h (event ∷ events) = LastsAt h event × LastAll (after h event) events
 
+abbrev Allows : ℕ → NodeState → NodeEvent → Type 0
+Allows n state event = LastsNode state event
+
+free_lasts : (n : ℕ) (state : NodeState) (event : NodeEvent) → IsFree event → Allows n state event
+free_lasts n state (node_starts plan) free = absurd free
+free_lasts n state (Ends_attempt moment) free = absurd free
+free_lasts n state node_ticks free = absurd free
+free_lasts n state event free = tt
+
+each_first : (nodes : List NodeState) (n : ℕ) (event : NodeEvent) → LastsNode (node_among nodes n) event → AllByRecursion IsFirst nodes → AllByRecursion IsFirst (with_node_among nodes n (after_node (node_among nodes n) event))
+each_first nodes n event lasts all =
+    all-set IsFirst nodes n (after_node (node_among nodes n) event) all (node_first (node_among nodes n) event lasts (all_at IsFirst nodes n (unknown 0) all (λ some. refl)))
+
+purpose_allowed : (h : HostState) (purpose : Purpose) (how : How) (moment : Moment) → EndsSo purpose how → AllowsEnd Allows h purpose how moment
+purpose_allowed h (Attempt n more payload) how moment so =
+    subst (λ (w : How). AllowsPart Allows n (node_of h n) (part_end more w) moment) (sym so) (subst (λ (end : PartEnd). AllowsPart Allows n (node_of h n) end moment) (sym (part_well more)) tt)
+purpose_allowed h (Housekeeping task) how moment so = tt
+purpose_allowed h Abort how moment so = tt
+
+end_allowed : (h : HostState) (end : Option End) (moment : Moment) → EndsWell end → AllowsEndIf Allows h end moment
+end_allowed h None moment so = tt
+end_allowed h (Some end) moment so = purpose_allowed h end.purpose end.how moment so
+
+event_allowed : (h : HostState) (event : HostEvent) → LastsAt h event → May h event → AllowsAt Allows h event
+event_allowed h (Requests_do event moment) lasts may = end_allowed h (end_at h.requests event) moment lasts
+event_allowed h (Node_ticks n) lasts may = lasts
+event_allowed h (Starts n plan more payload) lasts may = may.2.0
+event_allowed h Line_ticks lasts may = lasts
+event_allowed h event lasts may = tt
+
 pub event_first : (h : HostState) (event : HostEvent) → LastsAt h event → May h event → AllFirst h → AllFirst (after h event)
-event_first h (Accepts order carriage) lasts may all =
-    does_first (node_does h order.node (Puts (length h.commands + 1))) order.node node_accepts tt (does_first h order.node (Puts (length h.commands + 1)) tt all)
-event_first h (Cancels command) lasts may all = does_first h (node_for h command) (node_cancels command) tt all
-event_first h (Joins n) lasts may all = does_first h n node_joins tt all
-event_first h (Queues task) lasts may all = all
-event_first h (Queues_interview n) lasts may all = all
-event_first h Queues_probe lasts may all = all
-event_first h (Hears item) lasts may all = all
-event_first h (Requests_do event moment) lasts may all = end_if_first (requests_do h event) (end_at h.requests event) moment lasts all
-event_first h (Interviews n listens classes update) lasts may all = does_first h n (node_interviews listens classes) tt all
-event_first h (Interview_unkept n update) lasts may all = all
-event_first h (Unreads n payload) lasts may all = all
-event_first h (Is_unkept n) lasts may all = all
-event_first h (Reports_old n id) lasts may all = all
-event_first h (Works n id) lasts may all = does_first h n (Reports id 1) tt all
-event_first h (Finishes n session id command status wake) lasts may all =
-    holding_first (finishing h n id command status) n (is_held h n wake) (does_first h n (Reports id (status_byte status)) tt all)
-event_first h (Offers n) lasts may all = offering_first h n (live_of h.nonces n) all
-event_first h (Gives n drawn) lasts may all = offering_first (giving h n drawn) n (live_of (giving h n drawn).nonces n) all
-event_first h (Spends n) lasts may all = all
-event_first h (Spends_unread n payload) lasts may all = all
-event_first h (Takes_nonce n seen text) lasts may all = does_first h n (node_takes_nonce seen text) tt all
-event_first h (Notifies n) lasts may all = does_first h n node_notifies tt all
-event_first h (Resends n payload) lasts may all = room_first h (Segment n payload) all
-event_first h (Hears_value n setting) lasts may all = all
-event_first h (Has_no_room n property) lasts may all = all
-event_first h Line_ticks lasts may all = subst (λ (t : Turn). AllFirst (failing_if (gives_up t (turn_ticked t)) (line_ticked h))) (sym lasts) all
-event_first h (Node_ticks n) lasts may all =
-    attempt_first (node_does h n node_ticks) (tick_end (node_of h n)) (open_command (node_of h n)) (does_first h n node_ticks lasts all)
-event_first h (Queues_no_more n) lasts may all = does_first h n node_queues_no_more tt all
-event_first h (Drops_no_more n) lasts may all = does_first h n node_drops_no_more tt all
-event_first h Submits_abort lasts may all = all
-event_first h Submits_front lasts may all = all
-event_first h (Starts n plan more payload) lasts may all = part_first h n more payload (node_starts plan) may.2.0 all
-event_first h (Gives_text n payload) lasts may all = part_first h n false payload node_gives_text tt all
-event_first h (Gives_segment n more payload) lasts may all = part_first h n more payload node_gives_segment tt all
-event_first h (Begins n session command) lasts may all = does_first h n node_begins tt all
-event_first h (Begin_unkept n) lasts may all = does_first h n Blocks tt all
+event_first h event lasts may all = event_is Allows (AllByRecursion IsFirst) free_lasts each_first h event (event_allowed h event lasts may) all
 
 pub all_first : (h : HostState) (events : List HostEvent) → LastAll h events → MayAll h events → AllFirst h → AllFirst (after_all h events)
 all_first h [] last may all = all

@@ -54,7 +54,7 @@ use Rattle.proof_calm.proofs.Pending.{line_of}
 use Rattle.proof_calm.proofs.Unmarked.{nothing_asked}
 use Rattle.proof_answered.specs.Few.{IsStretched, KnowFew, Knows}
 use Rattle.proof_answered.specs.Heard.{AllSayHeard, IsHeardThen, KnowHeard, SaysHeard}
-use Rattle.proof_answered.proofs.Unheard.{chip_is, event_says, given_says, of_port, on_port}
+use Rattle.proof_answered.proofs.Unheard.{all_behind, all_piled, chip_is, event_says, given_says, of_port, on_port}
 use Rattle.proof_answered.proofs.Walking.{stretched_before}
 
 -- ---- frames
@@ -93,7 +93,7 @@ PortHeard s = AllSayHeard (line_of s.port)
 
 ended_heard : (s : ChipState) (sending : Option Sending) → PortHeard s → PortHeard (ended sending s CompleteOk)
 ended_heard s None all = all
-ended_heard s (Some sent) all = given_says SaysHeard s (callback_frame sent CompleteOk) all (ok_heard sent)
+ended_heard s (Some sent) all = given_says SaysHeard AllSayHeard (all_piled SaysHeard) s (callback_frame sent CompleteOk) all (ok_heard sent)
 
 call_heard : (o : OuterState) → PortHeard o.chip.state → PortHeard (call_back o CompleteOk).outer.chip.state
 call_heard o all = by (owes_call o.chip.state)
@@ -122,7 +122,7 @@ to_chip_heard : (o : OuterState) (from : ℕ) (payload : List ℕ) → PortHeard
 to_chip_heard o from payload all = by (nat_le 1 (length payload) && nat_le (length payload) 46)
   where
     by : (b : Bool) → PortHeard (if b then chip_does o (chip_hears from payload) else silent o).outer.chip.state
-    by true = subst PortHeard (sym (does_chip o (chip_hears from payload))) (given_says SaysHeard o.chip.state (notice_frame (ApplicationCommandHandler 0 from payload)) all (payload_heard from payload))
+    by true = subst PortHeard (sym (does_chip o (chip_hears from payload))) (given_says SaysHeard AllSayHeard (all_piled SaysHeard) o.chip.state (notice_frame (ApplicationCommandHandler 0 from payload)) all (payload_heard from payload))
     by false = all
 
 -- ---- a frame arrives
@@ -171,12 +171,12 @@ frame_heard : (m : Machine) (drawn : List ℕ) (route : Option Route) → May m 
     → IsRouted m.outside.outer → AllSayHeard (unheard m.outside.outer) → AllSayHeard (unheard (happens m (Outside_does (Arrives drawn route))).outside.outer)
 unfolding May MayOutside MayHappen
 frame_heard m drawn route may heard given later routed all =
-    of_port SaysHeard 0 (happens m (Outside_does (Arrives drawn route))).outside.outer later.has (subst PortHeard (sym (chip_is SaysHeard m (Arrives drawn route))) (by (next_of m.outside.outer.air.frames) refl may.1.0))
+    of_port SaysHeard AllSayHeard (all_piled SaysHeard) 0 (happens m (Outside_does (Arrives drawn route))).outside.outer later.has (subst PortHeard (sym (chip_is SaysHeard AllSayHeard (all_piled SaysHeard) m (Arrives drawn route))) (by (next_of m.outside.outer.air.frames) refl may.1.0))
   where
     by : (frame : Option Flown) → next_of m.outside.outer.air.frames ≡ frame → MayArriveIf (mesh_of m.outside) frame route → PortHeard (outcome m.outside (Arrives drawn route)).outer.chip.state
     by None next may_arrive = absurd may_arrive
     by (Some frame) next may_arrive =
-        arrives_heard m.outside frame drawn route next (either_heading m.outside frame (heard frame next)) given.unmarked.acknowledgements routed (on_port SaysHeard 0 m.outside.outer given.has all)
+        arrives_heard m.outside frame drawn route next (either_heading m.outside frame (heard frame next)) given.unmarked.acknowledgements routed (on_port SaysHeard AllSayHeard (all_piled SaysHeard) 0 m.outside.outer given.has all)
 
 -- ---- the walk
 
@@ -191,7 +191,7 @@ module _ (air : Airs) where
         let later = (few.event here next past m event goes may (λ stretched. at.0)).1 is in
         let next_tied = later.tied is.quiet in (
           later,
-          event_says SaysHeard air answer_heard here next m event goes may (tied.0, tied.2, tied.3, tied.6)
+          event_says SaysHeard AllSayHeard (all_piled SaysHeard) air answer_heard (all_behind SaysHeard) here next m event goes may (tied.0, tied.2, tied.3, tied.6)
               (λ drawn route is given later_given. frame_heard m drawn route (subst (May m) is may) (subst (IsHeardThen m) is heard) given later_given tied.3 at.1) tied.1 at.1 next_tied.0,
         )
 

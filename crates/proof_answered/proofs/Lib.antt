@@ -6,6 +6,7 @@ pub mod Listeners
 pub mod Unheard
 pub mod HeardCalls
 pub mod Outwards
+pub mod NodeSteps
 pub mod AttemptEnds
 pub mod FirstWalk
 pub mod TurnOrder

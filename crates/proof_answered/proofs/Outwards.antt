@@ -381,25 +381,20 @@ module _ (these : List Bool) where
 
 -- ---- so the device of each hears it
 
+-- none is lost, and no hop of it is dead
+pub next_is_live : (o : OuterState) → HasLive o → (frame : Flown) → next_of o.air.frames ≡ Some frame → IsLive o.air.network frame
+next_is_live o live frame next = by (nat_lt o.air.frames.landed o.air.frames.sent) next
+  where
+    by : (b : Bool) → (if b then slice_get o.air.frames.frames (o.air.frames.landed - (o.air.frames.sent - length o.air.frames.frames)) else None) ≡ Some frame → IsLive o.air.network frame
+    by true found = all-get (IsLive o.air.network) o.air.frames.frames (o.air.frames.landed - (o.air.frames.sent - length o.air.frames.frames)) frame live.fly found
+    by false found = absurd cc
+
 heard_then : (airs : Airs) (m : Machine) (event : Event) → Awaits m → HasLive m.outside.outer → (these : List Bool) → AllListen these m → IsHeardThen m event
 heard_then airs m (Outside_does (Arrives drawn route)) is live these listen = λ frame next out.
     let first = next_flight airs is.log (on_air m.outside.outer.air.frames) m.outside.outer.air.frames frame is.follows.fly next in
     let marked : is_marked these frame.node ≡ true = (subst (AllByRecursion (IsFor these)) first.1 listen.frames).0 out in
     let listener = listen.nodes frame.node marked in
-    (listener.place, listener_hears m.outside.outer.air.network m.outside.devices frame listener out (live_of frame next))
-  where
-    net : Network
-    net = m.outside.outer.air.network
-
-    frames : FramesState
-    frames = m.outside.outer.air.frames
-
-    live_of : (frame : Flown) → next_of frames ≡ Some frame → IsLive net frame
-    live_of frame next = by (nat_lt frames.landed frames.sent) next
-      where
-        by : (b : Bool) → (if b then slice_get frames.frames (frames.landed - (frames.sent - length frames.frames)) else None) ≡ Some frame → IsLive net frame
-        by true found = all-get (IsLive net) frames.frames (frames.landed - (frames.sent - length frames.frames)) frame live.fly found
-        by false found = absurd cc
+    (listener.place, listener_hears m.outside.outer.air.network m.outside.devices frame listener out (next_is_live m.outside.outer live frame next))
 heard_then airs m (Outside_does event) is live these listen = tt
 heard_then airs m event is live these listen = tt
 

@@ -70,7 +70,7 @@ use Rattle.proof_answered.specs.Outward.{EachGoesTo, IsOf, IsSentTo}
 use Rattle.proof_answered.specs.Workers.{AllFrom, IsAway, IsCalledFor, IsFrom, IsLineFor}
 use Rattle.proof_answered.proofs.Flying.{chip_counts}
 use Rattle.proof_answered.proofs.Outwards.{Adds, adds_both, adds_none, judges_add, marked_within, next_flight}
-use Rattle.proof_answered.proofs.Unheard.{chip_is, given_says, of_port, on_port}
+use Rattle.proof_answered.proofs.Unheard.{all_piled, chip_is, given_says, of_port, on_port}
 use Rattle.proof_answered.proofs.Works.{ticks_say, ticks_work}
 
 -- ---- a device of another node
@@ -338,10 +338,10 @@ module _ (these : List Bool) where
 
   ended_from : (s : ChipState) (sending : Option Sending) (status : TransmitStatus) → PortFrom s → PortFrom (ended sending s status)
   ended_from s None status all = all
-  ended_from s (Some sent) status all = given_says (IsFrom these) s (callback_frame sent status) all (call_from sent status)
+  ended_from s (Some sent) status all = given_says (IsFrom these) (AllFrom these) (all_piled (IsFrom these)) s (callback_frame sent status) all (call_from sent status)
 
   result_from : (s : ChipState) (event : ChipEvent) → IsResult event → PortFrom s → PortFrom (after s event)
-  result_from s (Informed n profile) result all = given_says (IsFrom these) s _ all (update_from (update_of n profile))
+  result_from s (Informed n profile) result all = given_says (IsFrom these) (AllFrom these) (all_piled (IsFrom these)) s _ all (update_from (update_of n profile))
   result_from s (Done status) result all = by (s.aborted == 0)
     where
       by : (b : Bool) → PortFrom (if b then ended s.sending s status else record s { aborted = s.aborted - 1 })
@@ -369,7 +369,7 @@ module _ (these : List Bool) where
       by : (b : Bool) → PortFrom (if b then chip_does o (chip_hears from payload) else silent o).outer.chip.state
       by true =
           subst PortFrom (sym (does_chip o (chip_hears from payload)))
-          (given_says (IsFrom these) o.chip.state (notice_frame (ApplicationCommandHandler 0 from payload)) all (payload_from from payload marked))
+          (given_says (IsFrom these) (AllFrom these) (all_piled (IsFrom these)) o.chip.state (notice_frame (ApplicationCommandHandler 0 from payload)) all (payload_from from payload marked))
       by false = all
 
   deals_from : (devices : List State) (o : OuterState) (event : AirEvent) → IsFromOf these event → Leaves o (deals devices o event)
@@ -395,11 +395,11 @@ module _ (these : List Bool) where
       → SpeaksHome m.outside.outer.chip.state.joined m.outside.outer → IsGiven 0 m → IsGiven 0 (happens m (Outside_does (Arrives drawn route))) → AllFrom these (unheard m.outside.outer)
       → AllFrom these (unheard (happens m (Outside_does (Arrives drawn route))).outside.outer)
   arrives_from m drawn route marked speaks given later all =
-      of_port (IsFrom these) 0 (happens m (Outside_does (Arrives drawn route))).outside.outer later.has
-      (subst PortFrom (sym (chip_is (IsFrom these) m (Arrives drawn route)))
+      of_port (IsFrom these) (AllFrom these) (all_piled (IsFrom these)) 0 (happens m (Outside_does (Arrives drawn route))).outside.outer later.has
+      (subst PortFrom (sym (chip_is (IsFrom these) (AllFrom these) (all_piled (IsFrom these)) m (Arrives drawn route)))
       (arrival_says m.outside drawn route
       (arrival_of these m.outside drawn route
       (λ frame next home.
       let member : IsMember m.outside.outer.chip.state.joined frame.node = next_of_member m.outside.outer.chip.state.joined m.outside.outer.air.frames speaks.frames frame next home in
       record { is_node = member.is_node; is_joined = marked frame next }))
-      (on_port (IsFrom these) 0 m.outside.outer given.has all)))
+      (on_port (IsFrom these) (AllFrom these) (all_piled (IsFrom these)) 0 m.outside.outer given.has all)))

@@ -1,5 +1,5 @@
 -- From phase to phase of lines for some nodes, the host has to do with these alone, and these alone speak on the air.
-use Rattle.std.proofs.Common.{◌≡◌, ℕ, zero, suc, ◌&&◌, Bool, true, false, inl, inr, List, [], ◌∷◌, ◌++◌, map, length, refl, sym, ap, ◌∙◌, subst}
+use Rattle.std.proofs.Common.{◌≡◌, ℕ, zero, suc, ◌+◌, Bool, true, false, inl, inr, List, [], ◌∷◌, ◌++◌, map, length, sym, ap, ◌∙◌, subst}
 use Rattle.std.proofs.lemmas.Bool.{and_parts}
 use Rattle.std.specs.Prelude.{Some}
 use Rattle.std.specs.List.{AllByRecursion, list_all}
@@ -11,15 +11,16 @@ use Rattle.zw_text.specs.Transcript.{line_of, lines_run}
 use Rattle.zw_text.proofs.Views.{shown-append}
 use Rattle.law_transcript.proofs.Deciding.{not_true}
 use Rattle.law_time.specs.Stretches.{is_quiet_line}
-use Rattle.host_model.specs.Events.{HostEvent, Line_ticks, Node_ticks, Requests_do}
-use Rattle.host_model.proofs.Submitted.{next_is, no_more_is}
+use Rattle.zw_base.specs.declared.order.Order.{Order}
+use Rattle.host_orders.specs.declared.carriage.Carriage.{Carriage}
+use Rattle.host_model.specs.Events.{HostEvent, Accepts}
 use Rattle.air_frames.specs.Flown.{Flown}
 use Rattle.air_frames.specs.Frames.{next_of}
 use Rattle.chip_sim.specs.Nodes.{is_marked}
-use Rattle.outside_model.specs.Events.{OuterEvent, Wakes_device, devices_after}
+use Rattle.outside_model.specs.Events.{OuterEvent, Wakes_device, devices_after, outcome, ticked_entry}
 use Rattle.world_model.specs.Events.{Event, Outside_does, Host_does, Host_takes, Decoder_ticks, Refuses, Restarts, Shows_values, happens, entries, May}
 use Rattle.world_model.specs.Lines.{IsEffect as IsLineEffect}
-use Rattle.world_model.specs.State.{Machine}
+use Rattle.world_model.specs.State.{Machine, host_does, host_entries}
 use Rattle.proof_calm.specs.proof_work.Phases.{AsksNothing}
 use Rattle.proof_calm.specs.proof_work.proof_walk.Phases.{Phase, Between, Said_line, Begun, Doing, To_tick, Ticked, Arriving, Giving, Ticking_devices, Ticking_chip, Ticking_decoder, Ticking_host, Sleeping, Submitting, Moving, Moved, Goes, Turns, after_pump, passes_after}
 use Rattle.proof_calm.specs.proof_work.proof_walk.Outside.{CoversOuter}
@@ -27,41 +28,51 @@ use Rattle.proof_calm.specs.proof_work.proof_walk.Walk.{Walk, WalkWhere}
 use Rattle.proof_calm.proofs.proof_traffic_Parts.{Airs}
 use Rattle.proof_calm.specs.Awaited.{Awaits}
 use Rattle.proof_calm.specs.Marks.{IsQuietEvent}
-use Rattle.proof_calm.specs.Resting.{IsOfTick, LineAt}
+use Rattle.proof_calm.specs.Resting.{LineAt}
 use Rattle.proof_calm.specs.Tied.{unheard}
 use Rattle.proof_calm.proofs.Peopled.{covers_of}
+use Rattle.proof_calm.proofs.Quiet.{all_both}
 use Rattle.proof_calm.proofs.Unmarked.{nothing_asked}
 use Rattle.world_model.proofs.Hosting.{devices_host-all}
 use Rattle.proof_answered.specs.Outward.{IsSentTo}
-use Rattle.proof_answered.specs.Workers.{AllFrom, IsAway, IsFrom, IsLineFor, IsOrderFor, IsWorkedFor, IsWorkFor, KnowStaff, KnowWorkers, LinesAt, OnlySpeak, Staffed, is_line_for}
+use Rattle.proof_answered.specs.Workers.{AllFrom, IsAway, IsFrom, IsLineFor, IsOrderFor, IsWorkedFor, IsWorkFor, KnowStaff, KnowWorkers, LinesAt, OnlySpeak, Staffed, is_accepted_for, is_line_for}
 use Rattle.proof_answered.proofs.Outwards.{awaits_of}
 use Rattle.proof_answered.proofs.Speaking.{Same, answer_from, arrives_from, event_of, next_marked, outside_away}
 use Rattle.proof_answered.proofs.Staffing.{sent_on}
-use Rattle.proof_answered.proofs.Unheard.{event_says}
+use Rattle.proof_answered.proofs.Unheard.{all_behind, all_piled, event_says}
 use Rattle.proof_answered.proofs.Walking.{stretched_before, takes_still}
 
 -- ---- lines that were said
 
-both_all : (p : Line → Bool) (xs ys : List Line) → list_all p (xs ++ ys) ≡ true → (list_all p xs ≡ true) × (list_all p ys ≡ true)
-both_all p [] ys all = (refl, all)
-both_all p (x ∷ xs) ys all =
-    let parts = and_parts (p x) (list_all p (xs ++ ys)) all in
-    let more = both_all p xs ys parts.1 in
-    (and_both (p x) (list_all p xs) parts.0 more.0, more.1)
-  where
-    and_both : (a b : Bool) → a ≡ true → b ≡ true → (a && b) ≡ true
-    and_both a b one two = rw one two
-
 pub worked_before : (these : List Bool) (past told : List Entry) → IsWorkedFor these (past ++ told) → IsWorkedFor these past
 worked_before these past told is = record {
   stretched = stretched_before past told is.stretched;
-  lines = (both_all (is_line_for these) (lines_run past) (lines_run told) (ap (λ (ls : List Line). list_all (is_line_for these) ls) (sym (shown-append line_of past told)) ∙ is.lines)).0;
+  lines = (all_both (is_line_for these) (lines_run past) (lines_run told) (ap (λ (ls : List Line). list_all (is_line_for these) ls) (sym (shown-append line_of past told)) ∙ is.lines)).0;
+  accepted = (all_both (is_accepted_for these) past told is.accepted).0;
 }
 
 worked_said : (these : List Bool) (past : List Entry) (words : List ℕ) (line : Line) → line_of (entry.Said words) ≡ line ∷ [] → IsWorkedFor these (past ++ entry.Said words ∷ []) → is_line_for these line ≡ true
 worked_said these past words line read is =
-    let both = both_all (is_line_for these) (lines_run past) (lines_run (entry.Said words ∷ [])) (ap (λ (ls : List Line). list_all (is_line_for these) ls) (sym (shown-append line_of past (entry.Said words ∷ []))) ∙ is.lines) in
+    let both = all_both (is_line_for these) (lines_run past) (lines_run (entry.Said words ∷ [])) (ap (λ (ls : List Line). list_all (is_line_for these) ls) (sym (shown-append line_of past (entry.Said words ∷ []))) ∙ is.lines) in
     (and_parts (is_line_for these line) true (ap (λ (ls : List Line). list_all (is_line_for these) (ls ++ [])) (sym read) ∙ both.1)).0
+
+-- ---- an order that is accepted
+
+accepted_marked : (these : List Bool) (m : Machine) (order : Order) (carriage : Carriage) → list_all (is_accepted_for these) (entries m (Host_does (Accepts order carriage))) ≡ true → is_marked these order.node ≡ true
+unfolding entries outcome
+accepted_marked these m order carriage all =
+    let event : HostEvent = Accepts order carriage in
+    let does : Machine = host_does m (event ∷ []) in
+    let answer : Entry = entry.Accepted (length m.host.state.commands + 1) order.node in
+    let noted : List Entry = ticked_entry does.outside.outer ++ answer ∷ [] in
+    let answered = (all_both (is_accepted_for these) (host_entries m (event ∷ [])) (noted ++ []) all).1 in
+    let stamped = (all_both (is_accepted_for these) noted [] answered).0 in
+    let alone = (all_both (is_accepted_for these) (ticked_entry does.outside.outer) (answer ∷ []) stamped).1 in
+    (and_parts (is_marked these order.node) true alone).0
+
+order_marked : (these : List Bool) (m : Machine) (event : HostEvent) → list_all (is_accepted_for these) (entries m (Host_does event)) ≡ true → IsOrderFor these event
+order_marked these m (Accepts order carriage) all = accepted_marked these m order carriage all
+order_marked these m event all = tt
 
 -- ---- what a line does
 
@@ -69,7 +80,7 @@ these_do : (these : List Bool) (events are : List Event) → events ≡ are → 
 these_do these events are is all = subst (AllByRecursion (IsLineFor these)) (sym is) all
 
 effect_for : (these : List Bool) (line : Line) (m : Machine) (events : List Event) → is_quiet_line line ≡ true → is_line_for these line ≡ true → IsLineEffect line m events → AllByRecursion (IsLineFor these) events
-effect_for these (lines.Command order) m events quiet is_for (inl is) = these_do these events _ is (is_for, tt)
+effect_for these (lines.Command order) m events quiet is_for (inl is) = these_do these events _ is (tt, tt)
 effect_for these (lines.Command order) m events quiet is_for (inr (refusal, is)) = these_do these events _ is (tt, tt)
 effect_for these (lines.Tick count) m events quiet is_for is = absurd is
 effect_for these (lines.Cut size) m events quiet is_for is = these_do these events _ is (tt, tt)
@@ -84,32 +95,21 @@ effect_for these line m events quiet is_for is = absurd (not_true quiet)
 line_as : (these : List Bool) (event is : Event) → event ≡ is → IsLineFor these is → IsLineFor these event
 line_as these event is same is_for = subst (IsLineFor these) (sym same) is_for
 
-tick_for : (these : List Bool) (event : HostEvent) → IsOfTick event → IsOrderFor these event
-tick_for these Line_ticks is = tt
-tick_for these (Requests_do event moment) is = tt
-tick_for these (Node_ticks n) is = tt
-tick_for these event is = absurd is
-
-line_on : (these : List Bool) (here next : Phase) (m : Machine) (event : Event) → Goes here m event next → LineAt here m → LinesAt these here → IsLineFor these event
-line_on these (Said_line line) next m event (is, to) line_at at = line_as these event _ is tt
-line_on these (Doing line (first ∷ left)) next m event (is, to) line_at at = line_as these event first is at.0
-line_on these (To_tick (suc ticks)) next m event (is, to) line_at at = line_as these event _ is tt
-line_on these (Arriving (suc frames) ticks) next m event (drawn, route, is, to) line_at at = line_as these event _ is tt
-line_on these (Giving (suc results) ticks) next m event (route, is, to) line_at at = line_as these event _ is tt
-line_on these (Ticking_devices place (suc count) ticks) next m event (drawn, route, is, to) line_at at = line_as these event _ is tt
-line_on these (Ticking_chip ticks) next m event (is, to) line_at at = line_as these event _ is tt
-line_on these (Ticking_decoder ticks) next m event (is, to) line_at at = line_as these event _ is tt
-line_on these (Ticking_host (first ∷ events) ticks) next m event (is, to) line_at at = line_as these event _ is (tick_for these first line_at.0.0)
-line_on these (Sleeping passes ticks) next m event (node, wants, is, to) line_at at =
-    line_as these event _ is (no_more_is (IsOrderFor these) (record { queues = λ n. tt; drops = λ n. tt }) m.host.state node)
-line_on these (Submitting passes ticks) next m event (asked, next_is_so, is, to) line_at at =
-    line_as these event _ is
-    (next_is (IsOrderFor these)
-    (record { abort = tt; front = tt; starts = λ n plan more payload. tt; text = λ n payload. tt; segment = λ n more payload. tt; begins = λ n session command. tt; unkept = λ n. tt })
-    m.host.state asked next_is_so)
-line_on these (Moving passes ticks) next m event (rest, ways, is, to) line_at at = line_as these event _ is tt
-line_on these (Moved b passes ticks) next m event (rest, items, done, is, to) line_at at = line_as these event _ is tt
-line_on these here next m event goes line_at at = absurd goes
+line_on : (these : List Bool) (here next : Phase) (m : Machine) (event : Event) → Goes here m event next → LinesAt these here → IsLineFor these event
+line_on these (Said_line line) next m event (is, to) at = line_as these event _ is tt
+line_on these (Doing line (first ∷ left)) next m event (is, to) at = line_as these event first is at.0
+line_on these (To_tick (suc ticks)) next m event (is, to) at = line_as these event _ is tt
+line_on these (Arriving (suc frames) ticks) next m event (drawn, route, is, to) at = line_as these event _ is tt
+line_on these (Giving (suc results) ticks) next m event (route, is, to) at = line_as these event _ is tt
+line_on these (Ticking_devices place (suc count) ticks) next m event (drawn, route, is, to) at = line_as these event _ is tt
+line_on these (Ticking_chip ticks) next m event (is, to) at = line_as these event _ is tt
+line_on these (Ticking_decoder ticks) next m event (is, to) at = line_as these event _ is tt
+line_on these (Ticking_host (first ∷ events) ticks) next m event (is, to) at = line_as these event _ is tt
+line_on these (Sleeping passes ticks) next m event (node, wants, is, to) at = line_as these event _ is tt
+line_on these (Submitting passes ticks) next m event (asked, next_is_so, is, to) at = line_as these event _ is tt
+line_on these (Moving passes ticks) next m event (rest, ways, is, to) at = line_as these event _ is tt
+line_on these (Moved b passes ticks) next m event (rest, items, done, is, to) at = line_as these event _ is tt
+line_on these here next m event goes at = absurd goes
 
 lines_to : (these : List Bool) (is next : Phase) → next ≡ is → LinesAt these is → LinesAt these next
 lines_to these is next same at = subst (LinesAt these) (sym same) at
@@ -152,11 +152,11 @@ lines_turn these here next m turns line_at at = absurd turns
 
 -- ---- who speaks
 
-work_of : (these : List Bool) (m : Machine) (event : Event) → IsLineFor these event → AllFrom these (unheard m.outside.outer) → IsWorkFor these m event
-work_of these m (Outside_does event) is_for pending = tt
-work_of these m (Host_does event) is_for pending = is_for
-work_of these m (Host_takes count rest items events) is_for pending = pending
-work_of these m event is_for pending = tt
+work_of : (these : List Bool) (m : Machine) (event : Event) → list_all (is_accepted_for these) (entries m event) ≡ true → AllFrom these (unheard m.outside.outer) → IsWorkFor these m event
+work_of these m (Outside_does event) accepted pending = tt
+work_of these m (Host_does event) accepted pending = order_marked these m event accepted
+work_of these m (Host_takes count rest items events) accepted pending = pending
+work_of these m event accepted pending = tt
 
 module _ (airs : Airs) (same : Same) (these : List Bool) (many : length these ≡ 233) where
   event_away : (m : Machine) (event : Event) → CoversOuter IsQuietEvent event → IsLineFor these event → ((frame : Flown) → next_of m.outside.outer.air.frames ≡ Some frame → is_marked these frame.node ≡ true)
@@ -178,8 +178,9 @@ module _ (airs : Airs) (same : Same) (these : List Bool) (many : length these �
         let at = known before in
         let speak : OnlySpeak these m = at.1.speak in
         let tied = (at.0.0 before.stretched).0.0.tied before.stretched.quiet in
-        let is_for : IsLineFor these event = line_on these here next m event goes tied.0 at.1.lines in
-        let later = (workers.event here next past m event goes may (work_of these m event is_for speak.pending) at.0).1 in
+        let is_for : IsLineFor these event = line_on these here next m event goes at.1.lines in
+        let accepted = (all_both (is_accepted_for these) past (entries m event) is.accepted).1 in
+        let later = (workers.event here next past m event goes may (work_of these m event accepted speak.pending) at.0).1 in
         let next_tied = (later.0 is.stretched).0.0.tied is.stretched.quiet in
         let awaits : Awaits m = awaits_of here m tied.1 in
         let covers = covers_of here next m event goes tied.0 in
@@ -191,7 +192,7 @@ module _ (airs : Airs) (same : Same) (these : List Bool) (many : length these �
             speak = record {
               frames = event_of airs these many m awaits speak.frames same event covers may sent is_for speak.devices;
               devices = event_away m event covers is_for marked speak.devices;
-              pending = event_says (IsFrom these) airs (answer_from these) here next m event goes may (tied.0, tied.2, tied.3, tied.6)
+              pending = event_says (IsFrom these) (AllFrom these) (all_piled (IsFrom these)) airs (answer_from these) (all_behind (IsFrom these)) here next m event goes may (tied.0, tied.2, tied.3, tied.6)
                   (λ drawn route arrives given then_given. arrives_from these m drawn route marked tied.7.speaks given then_given speak.pending) tied.1 speak.pending next_tied.0;
             };
           },

@@ -1,4 +1,4 @@
--- What is so of each frame that the chip has for the host, from phase to phase of quiet lines and ticks: where it is so of those that are given in a tick, and of its answer.
+-- What is so of the frames that the chip has for the host, from phase to phase of quiet lines and ticks: where it stays so as one is given more in a tick, or its answer.
 use Rattle.std.proofs.Common.{◌≡◌, ◌≤◌, ℕ, suc, ◌+◌, Bool, true, false, if◌then◌else◌, inl, inr, List, [], ◌∷◌, ◌++◌, length, refl, sym, ap, ◌∙◌, subst, arith}
 use Rattle.std.specs.Prelude.{◌⊎◌, Option, Some, None, slice_get}
 use Rattle.std.specs.List.{AllByRecursion}
@@ -48,25 +48,38 @@ use Rattle.proof_calm.proofs.Submitting.{written}
 use Rattle.proof_calm.proofs.Tying.{moved_lines, part_served}
 use Rattle.proof_answered.proofs.Walking.{none_given}
 
-module _ (Says : FrameParts → Type 0) where
+-- what is so of frames stays so with one more before or behind them, of which something is so
+pub record IsPiled (Says : FrameParts → Type 0) (On : List FrameParts → Type 0) : Type 0 where
+  pub first : (frame : FrameParts) (frames : List FrameParts) → Says frame → On frames → On (frame ∷ frames)
+  pub last : (frames : List FrameParts) (frame : FrameParts) → On frames → Says frame → On (frames ++ frame ∷ [])
+
+-- so with what is so of each
+pub all_piled : (Says : FrameParts → Type 0) → IsPiled Says (AllByRecursion Says)
+all_piled Says = record { first = λ frame frames is all. (is, all); last = λ frames frame all is. all-append Says frames (frame ∷ []) all (is, tt) }
+
+pub all_behind : (Says : FrameParts → Type 0) (a b : List FrameParts) → AllByRecursion Says (a ++ b) → AllByRecursion Says b
+all_behind Says [] b all = all
+all_behind Says (frame ∷ a) b all = all_behind Says a b all.1
+
+module _ (Says : FrameParts → Type 0) (On : List FrameParts → Type 0) (piled : IsPiled Says On) where
   abbrev pub AllSay : List FrameParts → Type 0
-  AllSay frames = AllByRecursion Says frames
+  AllSay frames = On frames
 
   abbrev PortSays : ChipState → Type 0
   PortSays s = AllSay (line_of s.port)
 
   queued_says : (t : Turn) (port : PortState) (frame : FrameParts) → port.side.turn ≡ t → AllSay (on_line t ++ port.waiting) → Says frame → AllSay (line_of (queued_at t port frame))
-  queued_says Idle port frame same all is = (is, all)
+  queued_says Idle port frame same all is = piled.first frame port.waiting is all
   queued_says (Copied g copies ticks) port frame same all is = by (is_full port.waiting)
     where
       by : (b : Bool) → AllSay (line_of (if b then port else record { side = port.side; waiting = port.waiting ++ frame ∷ [] }))
       by true = subst (λ (u : Turn). AllSay (on_line u ++ port.waiting)) (sym same) all
-      by false = subst (λ (u : Turn). AllSay (on_line u ++ (port.waiting ++ frame ∷ []))) (sym same) (all.0, all-append Says port.waiting (frame ∷ []) all.1 (is, tt))
+      by false = subst (λ (u : Turn). AllSay (on_line u ++ (port.waiting ++ frame ∷ []))) (sym same) (piled.last ((g ∷ []) ++ port.waiting) frame all is)
   queued_says (Paused g copies ticks) port frame same all is = by (is_full port.waiting)
     where
       by : (b : Bool) → AllSay (line_of (if b then port else record { side = port.side; waiting = port.waiting ++ frame ∷ [] }))
       by true = subst (λ (u : Turn). AllSay (on_line u ++ port.waiting)) (sym same) all
-      by false = subst (λ (u : Turn). AllSay (on_line u ++ (port.waiting ++ frame ∷ []))) (sym same) (all.0, all-append Says port.waiting (frame ∷ []) all.1 (is, tt))
+      by false = subst (λ (u : Turn). AllSay (on_line u ++ (port.waiting ++ frame ∷ []))) (sym same) (piled.last ((g ∷ []) ++ port.waiting) frame all is)
 
   pub given_says : (s : ChipState) (frame : FrameParts) → PortSays s → Says frame → AllSay (line_of (queued s.port frame))
   given_says s frame all is = queued_says s.port.side.turn s.port frame refl all is
@@ -97,28 +110,28 @@ module _ (Says : FrameParts → Type 0) where
   hand_still o devices None event route = (refl, refl)
   hand_still o devices (Some place) event route = acts_still o (slice_get devices place) event route
 
-  line_says : (m : Machine) → AllSay (unheard m.outside.outer) → AllSay (unheard (happens m (Outside_does Begins_line)).outside.outer)
+  pub line_says : (m : Machine) → AllSay (unheard m.outside.outer) → AllSay (unheard (happens m (Outside_does Begins_line)).outside.outer)
   unfolding outcome
   line_says m all = outer_says m Begins_line refl refl all
 
-  tick_says : (m : Machine) → AllSay (unheard m.outside.outer) → AllSay (unheard (happens m (Outside_does Begins_tick)).outside.outer)
+  pub tick_says : (m : Machine) → AllSay (unheard m.outside.outer) → AllSay (unheard (happens m (Outside_does Begins_tick)).outside.outer)
   unfolding outcome
   tick_says m all = outer_says m Begins_tick refl refl all
 
-  device_says : (m : Machine) (place : ℕ) (drawn : List ℕ) (route : Option Route) → AllSay (unheard m.outside.outer) → AllSay (unheard (happens m (Outside_does (Device_ticks place drawn route))).outside.outer)
+  pub device_says : (m : Machine) (place : ℕ) (drawn : List ℕ) (route : Option Route) → AllSay (unheard m.outside.outer) → AllSay (unheard (happens m (Outside_does (Device_ticks place drawn route))).outside.outer)
   unfolding outcome
   device_says m place drawn route all =
       let still = acts_still m.outside.outer (slice_get m.outside.devices place) (Ticks drawn) route in outer_says m (Device_ticks place drawn route) still.0 still.1 all
 
-  decoder_says : (m : Machine) → AllSay (unheard m.outside.outer) → AllSay (unheard (happens m Decoder_ticks).outside.outer)
+  pub decoder_says : (m : Machine) → AllSay (unheard m.outside.outer) → AllSay (unheard (happens m Decoder_ticks).outside.outer)
   unfolding happens
   decoder_says m all = all
 
   module _ (air : Airs) where
-    does_says : (m : Machine) (event : HostEvent) → AllSay (unheard m.outside.outer) → AllSay (unheard (happens m (Host_does event)).outside.outer)
+    pub does_says : (m : Machine) (event : HostEvent) → AllSay (unheard m.outside.outer) → AllSay (unheard (happens m (Host_does event)).outside.outer)
     does_says m event all = still_says m.outside.outer (happens m (Host_does event)).outside.outer (does_calm air m event).chip (written air m event).to_host all
 
-    effect_says : (m : Machine) (event : Event) → IsEffect event → AllSay (unheard m.outside.outer) → AllSay (unheard (happens m event).outside.outer)
+    pub effect_says : (m : Machine) (event : Event) → IsEffect event → AllSay (unheard m.outside.outer) → AllSay (unheard (happens m event).outside.outer)
     unfolding outcome happens
     effect_says m (Outside_does (Wakes_device node route)) is all =
         let still = hand_still m.outside.outer m.outside.devices (place_of node m.outside.devices) Wakes route in outer_says m (Wakes_device node route) still.0 still.1 all
@@ -143,7 +156,7 @@ module _ (Says : FrameParts → Type 0) where
   unfolding happens
   chip_is m event = entered_state (outcome m.outside event).outer (outcome m.outside event).entries
 
-  counts_says : (m : Machine) → IsGiven 0 m → IsGiven 1 (happens m (Outside_does Chip_ticks)) → AllSay (unheard m.outside.outer) → AllSay (unheard (happens m (Outside_does Chip_ticks)).outside.outer)
+  pub counts_says : (m : Machine) → IsGiven 0 m → IsGiven 1 (happens m (Outside_does Chip_ticks)) → AllSay (unheard m.outside.outer) → AllSay (unheard (happens m (Outside_does Chip_ticks)).outside.outer)
   unfolding outcome
   counts_says m given later all =
       of_port 1 (happens m (Outside_does Chip_ticks)).outside.outer later.has
@@ -155,7 +168,7 @@ module _ (Says : FrameParts → Type 0) where
   -- ---- a pass
 
   -- the chip answers a payload that it takes, behind what it has for the host
-  chip_part_says : (answer : Says answer_taken) (passes : ℕ) (m : Machine) (rest : Rest) (ways : List (Item × Option Route)) → ChipMayTake m rest ways → IsDone m ⊎ CanMove passes m → HasRoom m.outside.outer.chip.state
+  pub chip_part_says : (answer : Says answer_taken) (passes : ℕ) (m : Machine) (rest : Rest) (ways : List (Item × Option Route)) → ChipMayTake m rest ways → IsDone m ⊎ CanMove passes m → HasRoom m.outside.outer.chip.state
       → TieOf true m (on_line m.host.state.side.turn) → IsDone (chip_taken m rest ways) ⊎ HasMoved true passes (chip_taken m rest ways) → AllSay (unheard m.outside.outer) → AllSay (unheard (chip_taken m rest ways).outside.outer)
   chip_part_says answer passes m rest ways may at room tie later all =
       subst AllSay (sym (moved_lines true passes (chip_taken m rest ways) later ∙ ap (λ (s : ChipState). line_of s.port) (taken_state m rest ways may))) (by judges.line)
@@ -171,41 +184,40 @@ module _ (Says : FrameParts → Type 0) where
 
       by : (line_of t.port ≡ unheard m.outside.outer) ⊎ (line_of t.port ≡ unheard m.outside.outer ++ answer_taken ∷ []) → AllSay (line_of t.port)
       by (inl same) = subst AllSay (sym same) all
-      by (inr more) = subst AllSay (sym more) (all-append Says (unheard m.outside.outer) (answer_taken ∷ []) all (answer, tt))
+      by (inr more) = subst AllSay (sym more) (piled.last (unheard m.outside.outer) answer_taken all answer)
 
   -- the host judges what is on its way to it
-  behind_says : (a b : List FrameParts) → AllSay (a ++ b) → AllSay b
-  behind_says [] b all = all
-  behind_says (frame ∷ a) b all = behind_says a b all.1
-
   module _ (air : Airs) (m : Machine) (rest : Rest) (items : List Item) (events : List HostEvent) where
     abbrev then_judged : Machine
     then_judged = happens m (Host_takes (length m.outside.outer.to_host.bytes) rest items events)
 
-    idle_says : (host turn : Turn) (frames : List FrameParts) → OnLine [] [] host turn frames m → May m (Host_takes (length m.outside.outer.to_host.bytes) rest items events) → AllSay (unheard m.outside.outer)
-        → AllSay (unheard then_judged.outside.outer)
-    idle_says host turn frames line may all =
+    -- nothing was on its way
+    pub unheard_idle : (host turn : Turn) (frames : List FrameParts) → OnLine [] [] host turn frames m → May m (Host_takes (length m.outside.outer.to_host.bytes) rest items events) → unheard then_judged.outside.outer ≡ unheard m.outside.outer
+    unheard_idle host turn frames line may =
         let idle = host_idles m host turn frames rest items events line may in
-        let same : unheard then_judged.outside.outer ≡ unheard m.outside.outer =
         ap (λ (bs : List ℕ). unheard_by bs then_judged.outside.outer.chip.state.port) (idle.0.at_chip.down_bytes ∙ sym line.at_chip.down_bytes)
-        ∙ ap (λ (c : ChipParts). unheard_by m.outside.outer.to_host.bytes c.state.port) idle.1 in
-        subst AllSay (sym same) all
+        ∙ ap (λ (c : ChipParts). unheard_by m.outside.outer.to_host.bytes c.state.port) idle.1
 
-    host_part_says : (b : Bool) (passes : ℕ) → May m (Host_takes (length m.outside.outer.to_host.bytes) rest items events) → IsDone m ⊎ HasMoved b passes m → AllSay (unheard m.outside.outer) → AllSay (unheard then_judged.outside.outer)
-    host_part_says b passes may (inl done) all = idle_says Idle Idle [] done.line may all
-    host_part_says b passes may (inr has) all = by has.down has.line has.plain has.few (moved_frames b passes m has)
+    -- these units were, and those that wait are left
+    pub unheard_judged : (unit : LineUnit) (units : List LineUnit) (host turn : Turn) (frames : List FrameParts) → OnLine [] (unit ∷ units) host turn frames m → AllByRecursion IsPlain (unit ∷ units) → length (unit ∷ units) ≤ 99
+        → May m (Host_takes (length m.outside.outer.to_host.bytes) rest items events) → unheard then_judged.outside.outer ≡ m.outside.outer.chip.state.port.waiting
+    unheard_judged unit units host turn frames line plain few may =
+        let turned = host_turns air m unit units host turn frames rest items events plain (omega (arith, few)) line may in
+        let chip = (takes_calm air m (length m.outside.outer.to_host.bytes) rest items events).chip in
+        ap (λ (bs : List ℕ). unheard_by bs then_judged.outside.outer.chip.state.port) turned.0.at_chip.down_bytes ∙ ap (λ (s : ChipState). s.port.waiting) chip
+
+    host_part_says : (behind : (a b : List FrameParts) → On (a ++ b) → On b) (b : Bool) (passes : ℕ) → May m (Host_takes (length m.outside.outer.to_host.bytes) rest items events) → IsDone m ⊎ HasMoved b passes m → AllSay (unheard m.outside.outer)
+        → AllSay (unheard then_judged.outside.outer)
+    host_part_says behind b passes may (inl done) all = subst AllSay (sym (unheard_idle Idle Idle [] done.line may)) all
+    host_part_says behind b passes may (inr has) all = by has.down has.line has.plain has.few (moved_frames b passes m has)
       where
         waiting : List FrameParts
         waiting = m.outside.outer.chip.state.port.waiting
 
         by : (down : List LineUnit) → OnLine [] down has.host has.turn has.frames m → AllByRecursion IsPlain down → length down ≤ 99 → unheard m.outside.outer ≡ frames_in down ++ waiting → AllSay (unheard then_judged.outside.outer)
-        by [] line plain few frames_are = idle_says has.host has.turn has.frames line may all
+        by [] line plain few frames_are = subst AllSay (sym (unheard_idle has.host has.turn has.frames line may)) all
         by (unit ∷ units) line plain few frames_are =
-            let turned = host_turns air m unit units has.host has.turn has.frames rest items events plain (omega (arith, few)) line may in
-            let chip = (takes_calm air m (length m.outside.outer.to_host.bytes) rest items events).chip in
-            let now : unheard then_judged.outside.outer ≡ waiting =
-            ap (λ (bs : List ℕ). unheard_by bs then_judged.outside.outer.chip.state.port) turned.0.at_chip.down_bytes ∙ ap (λ (s : ChipState). s.port.waiting) chip in
-            subst AllSay (sym now) (behind_says (frames_in (unit ∷ units)) waiting (subst AllSay frames_are all))
+            subst AllSay (sym (unheard_judged unit units has.host has.turn has.frames line plain few may)) (behind (frames_in (unit ∷ units)) waiting (subst AllSay frames_are all))
 
   -- ---- from phase to phase
 
@@ -222,29 +234,29 @@ module _ (Says : FrameParts → Type 0) where
     may_is : (m : Machine) (event is : Event) → event ≡ is → May m event → May m is
     may_is m event is same may = subst (May m) same may
 
-    pub event_says : (answer : Says answer_taken) (here next : Phase) (m : Machine) (event : Event) → Goes here m event next → May m event → At here m
+    pub event_says : (answer : Says answer_taken) (behind : (a b : List FrameParts) → On (a ++ b) → On b) (here next : Phase) (m : Machine) (event : Event) → Goes here m event next → May m event → At here m
         → ((drawn : List ℕ) (route : Option Route) → event ≡ Outside_does (Arrives drawn route) → IsGiven 0 m → IsGiven 0 (happens m (Outside_does (Arrives drawn route)))
         → AllSay (unheard (happens m (Outside_does (Arrives drawn route))).outside.outer)) → AwaitsAt here m → AllSay (unheard m.outside.outer) → Leads next m event
-    event_says answer (Said_line line) next m event (is, to) may at arrives awaits all = as_is next (Begun line) m event (Outside_does Begins_line) is to (λ later. line_says m all)
-    event_says answer (Doing line (first ∷ left)) next m event (is, to) may at arrives awaits all = as_is next (Doing line left) m event first is to (λ later. effect_says air m first at.0.0.0 all)
-    event_says answer (To_tick (suc ticks)) next m event (is, to) may at arrives awaits all = as_is next (Ticked ticks) m event (Outside_does Begins_tick) is to (λ later. tick_says m all)
-    event_says answer (Arriving (suc frames) ticks) next m event (drawn, route, is, to) may at arrives awaits all =
+    event_says answer behind (Said_line line) next m event (is, to) may at arrives awaits all = as_is next (Begun line) m event (Outside_does Begins_line) is to (λ later. line_says m all)
+    event_says answer behind (Doing line (first ∷ left)) next m event (is, to) may at arrives awaits all = as_is next (Doing line left) m event first is to (λ later. effect_says air m first at.0.0.0 all)
+    event_says answer behind (To_tick (suc ticks)) next m event (is, to) may at arrives awaits all = as_is next (Ticked ticks) m event (Outside_does Begins_tick) is to (λ later. tick_says m all)
+    event_says answer behind (Arriving (suc frames) ticks) next m event (drawn, route, is, to) may at arrives awaits all =
         as_is next (Arriving frames ticks) m event (Outside_does (Arrives drawn route)) is to
         (λ later. arrives drawn route is at.0 later)
-    event_says answer (Giving (suc results) ticks) next m event (route, is, to) may at arrives awaits all = absurd (none_given m results at.2 awaits.many)
-    event_says answer (Ticking_devices place (suc count) ticks) next m event (drawn, route, is, to) may at arrives awaits all =
+    event_says answer behind (Giving (suc results) ticks) next m event (route, is, to) may at arrives awaits all = absurd (none_given m results at.2 awaits.many)
+    event_says answer behind (Ticking_devices place (suc count) ticks) next m event (drawn, route, is, to) may at arrives awaits all =
         as_is next (Ticking_devices (place + 1) count ticks) m event (Outside_does (Device_ticks place drawn route)) is to (λ later. device_says m place drawn route all)
-    event_says answer (Ticking_chip ticks) next m event (is, to) may at arrives awaits all = as_is next (Ticking_decoder ticks) m event (Outside_does Chip_ticks) is to (λ later. counts_says m at.0 later all)
-    event_says answer (Ticking_decoder ticks) next m event (is, to) may at arrives awaits all =
+    event_says answer behind (Ticking_chip ticks) next m event (is, to) may at arrives awaits all = as_is next (Ticking_decoder ticks) m event (Outside_does Chip_ticks) is to (λ later. counts_says m at.0 later all)
+    event_says answer behind (Ticking_decoder ticks) next m event (is, to) may at arrives awaits all =
         as_is next (Ticking_host (tick_events m.host.state) ticks) m event Decoder_ticks is to (λ later. decoder_says m all)
-    event_says answer (Ticking_host (first ∷ events) ticks) next m event (is, to) may at arrives awaits all = as_is next (Ticking_host events ticks) m event (Host_does first) is to (λ later. does_says air m first all)
-    event_says answer (Sleeping passes ticks) next m event (node, wants, is, to) may at arrives awaits all =
+    event_says answer behind (Ticking_host (first ∷ events) ticks) next m event (is, to) may at arrives awaits all = as_is next (Ticking_host events ticks) m event (Host_does first) is to (λ later. does_says air m first all)
+    event_says answer behind (Sleeping passes ticks) next m event (node, wants, is, to) may at arrives awaits all =
         as_is next (Sleeping passes ticks) m event (Host_does (no_more_event m.host.state node)) is to (λ later. does_says air m (no_more_event m.host.state node) all)
-    event_says answer (Submitting passes ticks) next m event (asked, next_is, is, to) may at arrives awaits all = as_is next (Submitting passes ticks) m event (Host_does asked) is to (λ later. does_says air m asked all)
-    event_says answer (Moving passes ticks) next m event (rest, ways, is, to) may at arrives awaits all =
+    event_says answer behind (Submitting passes ticks) next m event (asked, next_is, is, to) may at arrives awaits all = as_is next (Submitting passes ticks) m event (Host_does asked) is to (λ later. does_says air m asked all)
+    event_says answer behind (Moving passes ticks) next m event (rest, ways, is, to) may at arrives awaits all =
         as_is next (Moved true passes ticks) m event (Outside_does (Chip_takes (length m.outside.outer.to_chip.bytes) rest ways)) is to
         (λ later. chip_part_says answer passes m rest ways (may_is m event _ is may) at.0 at.1 at.3 later all)
-    event_says answer (Moved b passes ticks) next m event (rest, items, done, is, to) may at arrives awaits all =
+    event_says answer behind (Moved b passes ticks) next m event (rest, items, done, is, to) may at arrives awaits all =
         as_is next (Sleeping passes ticks) m event (Host_takes (length m.outside.outer.to_host.bytes) rest items done) is to
-        (λ later. host_part_says air m rest items done b passes (may_is m event _ is may) at.0 all)
-    event_says answer here next m event goes may at arrives awaits all = absurd goes
+        (λ later. host_part_says air m rest items done behind b passes (may_is m event _ is may) at.0 all)
+    event_says answer behind here next m event goes may at arrives awaits all = absurd goes

@@ -4,6 +4,7 @@ use Rattle.std.specs.List.{AllByRecursion, list_all}
 use Rattle.zw_text.specs.declared.line.Line.{Line}
 use Rattle.zw_text.specs.declared.line.Line.TheVariants as lines
 use Rattle.zw_text.specs.declared.entry.Entry.{Entry}
+use Rattle.zw_text.specs.declared.entry.Entry.TheVariants.{Accepted}
 use Rattle.zw_text.specs.Transcript.{lines_run}
 use Rattle.serial_frame.specs.Frame.{FrameParts}
 use Rattle.chip_functions.specs.declared.notice.Notice.TheVariants.{ApplicationCommandHandler}
@@ -68,11 +69,15 @@ pub record OnlySpeak (these : List Bool) (m : Machine) : Type 0 where
 
 -- ---- what lines ask for
 
--- an order is for one of these, and the node that is woken is one
+-- the node that is woken is one of these
 abbrev pub is_line_for : List Bool → Line → Bool
-is_line_for these (lines.Command order) = is_marked these order.node
 is_line_for these (lines.Wake node) = is_marked these node
 is_line_for these line = true
+
+-- and an order that is accepted is for one; one that is refused may be for any node
+abbrev pub is_accepted_for : List Bool → Entry → Bool
+is_accepted_for these (Accepted command node) = is_marked these node
+is_accepted_for these entry = true
 
 abbrev pub IsCalledFor : List Bool → OuterEvent → Type 0
 IsCalledFor these (Wakes_device node route) = is_marked these node ≡ true
@@ -80,7 +85,6 @@ IsCalledFor these event = Unit {0}
 
 abbrev pub IsLineFor : List Bool → Event → Type 0
 IsLineFor these (Outside_does event) = IsCalledFor these event
-IsLineFor these (Host_does event) = IsOrderFor these event
 IsLineFor these event = Unit {0}
 
 -- so it is of a line that has begun, and of what is to come of it
@@ -94,6 +98,7 @@ LinesAt these here = Unit {0}
 pub record IsWorkedFor (these : List Bool) (past : List Entry) : Type 0 where
   pub stretched : IsStretched past
   pub lines : list_all (is_line_for these) (lines_run past) ≡ true
+  pub accepted : list_all (is_accepted_for these) past ≡ true
 
 -- ---- at each phase
 

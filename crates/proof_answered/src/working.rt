@@ -36,9 +36,9 @@ pub fn workers_hear()
     nodes_hear();
 }
 
-/// At first nothing is to be done for any node, and where no device is at work nobody speaks. Where the lines of a stretch are for some nodes, orders and
-/// `wake` lines alike, and no device of another node is at work, these alone speak on the air. So what comes to the host is of these, it has to do with these
-/// alone, and each payload that it asks to send is for one of these, and is heard. Nothing else is assumed of events.
+/// At first nothing is to be done for any node, and where no device is at work nobody speaks. Where the orders of a stretch that are accepted are for some
+/// nodes, and its `wake` lines too, and no device of another node is at work, these alone speak on the air. So what comes to the host is of these, it has to do
+/// with these alone, and each payload that it asks to send is for one of these, and is heard. Nothing else is assumed of events.
 pub fn workers_alone_speak()
     ensures first { (these : List Bool) (keys : Keys) (records : Option (List (List ℕ))) (devices : List State) → AreIdle devices →
         KnowsWorkers these (first_host keys) × OnlySpeak these (first_machine keys records devices) }

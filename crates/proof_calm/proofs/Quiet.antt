@@ -28,15 +28,15 @@ both_true true false is = absurd (not_true is)
 both_true false true is = absurd (not_true is)
 both_true false false is = absurd (not_true is)
 
-all_both : (ls more : List Line) → list_all is_quiet_line (ls ++ more) ≡ true → (list_all is_quiet_line ls ≡ true) × (list_all is_quiet_line more ≡ true)
-all_both [] more quiet = (refl, quiet)
-all_both (line ∷ ls) more quiet =
-    let one = both_true (is_quiet_line line) (list_all is_quiet_line (ls ++ more)) quiet in
-    let rest = all_both ls more one.1 in
-    (ap (λ (b : Bool). b && list_all is_quiet_line ls) one.0 ∙ rest.0, rest.1)
+pub all_both : {A : Type 0} (p : A → Bool) (xs ys : List A) → list_all p (xs ++ ys) ≡ true → (list_all p xs ≡ true) × (list_all p ys ≡ true)
+all_both p [] ys all = (refl, all)
+all_both p (x ∷ xs) ys all =
+    let one = both_true (p x) (list_all p (xs ++ ys)) all in
+    let rest = all_both p xs ys one.1 in
+    (ap (λ (b : Bool). b && list_all p xs) one.0 ∙ rest.0, rest.1)
 
 pub quiet_both : (past told : List Entry) → AreQuiet (past ++ told) → AreQuiet past × AreQuiet told
-quiet_both past told quiet = all_both (lines_run past) (lines_run told) (ap (list_all is_quiet_line) (sym (shown-append line_of past told)) ∙ quiet)
+quiet_both past told quiet = all_both is_quiet_line (lines_run past) (lines_run told) (ap (list_all is_quiet_line) (sym (shown-append line_of past told)) ∙ quiet)
 
 pub said_quiet : (words : List ℕ) (line : Line) → line_of (entry.Said words) ≡ line ∷ [] → AreQuiet (entry.Said words ∷ []) → is_quiet_line line ≡ true
 said_quiet words line read quiet =

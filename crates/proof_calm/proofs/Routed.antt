@@ -218,7 +218,7 @@ way_there : (net : Network) (to : ℕ) (way : Option Route) → IsWay net to way
 way_there net to (Some route) is there = refl
 way_there net to None is there = absurd (is there.0 there.1.0 there.1.1)
 
-frame_way : (s : ChipState) (f : FrameParts) (way : Option Route) → s.port.side.collisions ≡ 0 → IsTakenBy s f → Reaches s.table s.joined → ChipMay s (Judged (Good (Framed f)) way) → is_some way ≡ true
+pub frame_way : (s : ChipState) (f : FrameParts) (way : Option Route) → s.port.side.collisions ≡ 0 → IsTakenBy s f → Reaches s.table s.joined → ChipMay s (Judged (Good (Framed f)) way) → is_some way ≡ true
 frame_way s f way none taken reaches may =
     let hs : ChipState = heard s (Good (Framed f)) in
     let passes : passed (collides s) (Good (Framed f)) ≡ Some f = ap (λ (count : ℕ). passed (nat_lt 0 count) (Good (Framed f))) none in

@@ -1,0 +1,163 @@
+-- What is so of the nodes of a host stays so at each event of the host, where it stays so at each event of a node that is allowed.
+use Rattle.std.proofs.Common.{◌≡◌, ℕ, ◌+◌, Bool, true, false, if◌then◌else◌, List, [], ◌∷◌, length, subst, sym}
+use Rattle.std.specs.Prelude.{Option, Some, None}
+use Rattle.s0_session.specs.Nonces.{live_of}
+use Rattle.serial_link.specs.State.{turn_ticked}
+use Rattle.serial_link.specs.declared.turn.Turn.{Turn}
+use Rattle.serial_link.specs.declared.turn.Turn.TheVariants.{Idle as no_turn}
+use Rattle.host_keep.specs.Status.{status_byte}
+use Rattle.host_requests.specs.Events.{RequestsEvent, end_at}
+use Rattle.host_requests.specs.Events.RequestsEvent.{BeginsAttempt, Pushes}
+use Rattle.host_requests.specs.declared.end.End.{End}
+use Rattle.host_requests.specs.declared.end.How.{How}
+use Rattle.host_requests.specs.declared.task.Purpose.{Purpose}
+use Rattle.host_requests.specs.declared.task.Purpose.TheVariants.{Housekeeping, Attempt, Abort}
+use Rattle.host_requests.specs.declared.task.Task.{Task}
+use Rattle.host_requests.specs.declared.task.Task.TheVariants.{Offer, Segment, NoMore}
+use Rattle.host_node.specs.State.{NodeState}
+use Rattle.host_node.specs.TableState.{node_of as node_among, with_node as with_node_among}
+use Rattle.host_node.specs.Steps.{after_attempt_end, attempt_end, tick_end}
+use Rattle.host_node.specs.Events.{NodeEvent, after as after_node}
+use Rattle.host_node.specs.Events.NodeEvent.{Joins as node_joins, Interviews as node_interviews, Puts, Accepts as node_accepts, Cancels as node_cancels, Begins as node_begins, Blocks, Starts as node_starts, Gives_segment as node_gives_segment, Gives_text as node_gives_text, Succeeds, Takes_nonce as node_takes_nonce, Ends_attempt, Reports, Holds, Notifies as node_notifies, Queues_no_more as node_queues_no_more, Drops_no_more as node_drops_no_more, Ends_no_more, Ticks as node_ticks}
+use Rattle.host_node.specs.declared.attempt.AttemptEnd.{AttemptEnd}
+use Rattle.host_node.specs.declared.attempt.AttemptEnd.TheVariants.{NoneRan, Again, Unanswered}
+use Rattle.host_node.specs.declared.attempt.Moment.{Moment}
+use Rattle.host_model.specs.After.{after, failing_if, finishing, gives_up, giving, holding, is_full, is_held, line_ticked, node_does, node_for, offering, queues_if_room, requests_do, submits, submits_part}
+use Rattle.host_model.specs.Did.{after_all}
+use Rattle.host_model.specs.Ends.{attempt_ended, PartEnd, Good, Passed_over, Bad, part_end, after_end, after_end_if, after_part, after_task}
+use Rattle.host_model.specs.Events.{HostEvent, Accepts, Cancels, Joins, Queues, Queues_interview, Queues_probe, Hears, Requests_do, Interviews, Interview_unkept, Unreads, Is_unkept, Reports_old, Works, Finishes, Offers, Gives, Spends, Spends_unread, Takes_nonce, Notifies, Resends, Hears_value, Has_no_room, Line_ticks, Node_ticks, Queues_no_more, Drops_no_more, Submits_abort, Submits_front, Starts, Gives_text, Gives_segment, Begins, Begin_unkept}
+use Rattle.host_model.specs.Sessions.{open_command}
+use Rattle.host_model.specs.State.{HostState, node_of, with_node}
+
+-- an event of a node that is always allowed: no tick, no interview, and no attempt starts or ends
+abbrev pub IsFree : NodeEvent → Type 0
+IsFree (node_interviews listens classes) = ⊥
+IsFree (node_starts plan) = ⊥
+IsFree (Ends_attempt moment) = ⊥
+IsFree node_ticks = ⊥
+IsFree event = Unit {0}
+
+module _ (Allows : ℕ → NodeState → NodeEvent → Type 0) where
+  -- ---- which events of the host are allowed
+
+  abbrev pub AllowsPart : ℕ → NodeState → PartEnd → Moment → Type 0
+  AllowsPart n state Good moment = Unit {0}
+  AllowsPart n state Passed_over moment = Unit {0}
+  AllowsPart n state Bad moment = Allows n state (Ends_attempt moment)
+
+  abbrev pub AllowsEnd : HostState → Purpose → How → Moment → Type 0
+  AllowsEnd h (Attempt n more payload) how moment = AllowsPart n (node_of h n) (part_end more how) moment
+  AllowsEnd h purpose how moment = Unit {0}
+
+  abbrev pub AllowsEndIf : HostState → Option End → Moment → Type 0
+  AllowsEndIf h None moment = Unit {0}
+  AllowsEndIf h (Some end) moment = AllowsEnd h end.purpose end.how moment
+
+  abbrev pub AllowsAt : HostState → HostEvent → Type 0
+  AllowsAt h (Requests_do event moment) = AllowsEndIf h (end_at h.requests event) moment
+  AllowsAt h (Interviews n listens classes update) = Allows n (node_of h n) (node_interviews listens classes)
+  AllowsAt h (Node_ticks n) = Allows n (node_of h n) node_ticks
+  AllowsAt h (Starts n plan more payload) = Allows n (node_of h n) (node_starts plan)
+  AllowsAt h Line_ticks = h.side.turn ≡ no_turn
+  AllowsAt h event = Unit {0}
+
+  abbrev pub AllowsAll : HostState → List HostEvent → Type 0
+  AllowsAll h [] = Unit {0}
+  AllowsAll h (event ∷ events) = AllowsAt h event × AllowsAll (after h event) events
+
+  module _ (On : List NodeState → Type 0) (free : (n : ℕ) (state : NodeState) (event : NodeEvent) → IsFree event → Allows n state event)
+      (each : (nodes : List NodeState) (n : ℕ) (event : NodeEvent) → Allows n (node_among nodes n) event → On nodes → On (with_node_among nodes n (after_node (node_among nodes n) event))) where
+    abbrev Are : HostState → Type 0
+    Are h = On h.nodes
+
+    node_is : (h : HostState) (n : ℕ) (event : NodeEvent) → Allows n (node_of h n) event → Are h → Are (node_does h n event)
+    node_is h n event allows all = each h.nodes n event allows all
+
+    freely : (h : HostState) (n : ℕ) (event : NodeEvent) → IsFree event → Are h → Are (node_does h n event)
+    freely h n event is all = node_is h n event (free n (node_of h n) event is) all
+
+    ended_is : (h : HostState) (end : AttemptEnd) (command : Option ℕ) → Are h → Are (attempt_ended h end command)
+    ended_is h NoneRan command all = all
+    ended_is h Again command all = all
+    ended_is h (Unanswered fell) None all = all
+    ended_is h (Unanswered fell) (Some command) all = all
+
+    part_is : (h : HostState) (n : ℕ) (end : PartEnd) (moment : Moment) → AllowsPart n (node_of h n) end moment → Are h → Are (after_part h n end moment)
+    part_is h n Good moment allows all = freely h n Succeeds tt all
+    part_is h n Passed_over moment allows all = all
+    part_is h n Bad moment allows all =
+        ended_is (with_node h n (after_attempt_end (node_of h n) moment)) (attempt_end (node_of h n)) (open_command (node_of h n)) (node_is h n (Ends_attempt moment) allows all)
+
+    task_is : (h : HostState) (task : Task) → Are h → Are (after_task h task)
+    task_is h (NoMore n) all = freely h n Ends_no_more tt all
+    task_is h task all = all
+
+    end_is : (h : HostState) (purpose : Purpose) (how : How) (moment : Moment) → AllowsEnd h purpose how moment → Are h → Are (after_end h (record { purpose = purpose; how = how }) moment)
+    end_is h (Attempt n more payload) how moment allows all = part_is h n (part_end more how) moment allows all
+    end_is h (Housekeeping task) how moment allows all = task_is h task all
+    end_is h Abort how moment allows all = all
+
+    end_if_is : (h : HostState) (event : RequestsEvent) (end : Option End) (moment : Moment) → AllowsEndIf h end moment → Are h → Are (after_end_if (requests_do h event) end moment)
+    end_if_is h event None moment allows all = all
+    end_if_is h event (Some end) moment allows all = end_is (requests_do h event) end.purpose end.how moment allows all
+
+    room_is : (h : HostState) (task : Task) → Are h → Are (queues_if_room h task)
+    room_is h task all = by (is_full h)
+      where
+        by : (b : Bool) → Are (if b then h else requests_do h (Pushes task))
+        by true = all
+        by false = all
+
+    offering_is : (h : HostState) (n : ℕ) (live : Option (List ℕ)) → Are h → Are (offering h n live)
+    offering_is h n None all = all
+    offering_is h n (Some nonce) all = room_is h (Offer n nonce) all
+
+    holding_is : (h : HostState) (n : ℕ) (held : Bool) → Are h → Are (holding h n held)
+    holding_is h n true all = freely h n Holds tt all
+    holding_is h n false all = all
+
+    given_is : (h : HostState) (n : ℕ) (more : Bool) (payload : List ℕ) (gives : NodeEvent) → Allows n (node_of h n) gives → Are h → Are (submits_part h n more payload gives)
+    given_is h n more payload gives allows all = node_is (record (submits h (Attempt n more payload) (BeginsAttempt n more payload)) { served = n }) n gives allows all
+
+    pub event_is : (h : HostState) (event : HostEvent) → AllowsAt h event → Are h → Are (after h event)
+    event_is h (Accepts order carriage) allows all =
+        freely (node_does h order.node (Puts (length h.commands + 1))) order.node node_accepts tt (freely h order.node (Puts (length h.commands + 1)) tt all)
+    event_is h (Cancels command) allows all = freely h (node_for h command) (node_cancels command) tt all
+    event_is h (Joins n) allows all = freely h n node_joins tt all
+    event_is h (Queues task) allows all = all
+    event_is h (Queues_interview n) allows all = all
+    event_is h Queues_probe allows all = all
+    event_is h (Hears item) allows all = all
+    event_is h (Requests_do event moment) allows all = end_if_is h event (end_at h.requests event) moment allows all
+    event_is h (Interviews n listens classes update) allows all = node_is h n (node_interviews listens classes) allows all
+    event_is h (Interview_unkept n update) allows all = all
+    event_is h (Unreads n payload) allows all = all
+    event_is h (Is_unkept n) allows all = all
+    event_is h (Reports_old n id) allows all = all
+    event_is h (Works n id) allows all = freely h n (Reports id 1) tt all
+    event_is h (Finishes n session id command status wake) allows all =
+        holding_is (finishing h n id command status) n (is_held h n wake) (freely h n (Reports id (status_byte status)) tt all)
+    event_is h (Offers n) allows all = offering_is h n (live_of h.nonces n) all
+    event_is h (Gives n drawn) allows all = offering_is (giving h n drawn) n (live_of (giving h n drawn).nonces n) all
+    event_is h (Spends n) allows all = all
+    event_is h (Spends_unread n payload) allows all = all
+    event_is h (Takes_nonce n seen text) allows all = freely h n (node_takes_nonce seen text) tt all
+    event_is h (Notifies n) allows all = freely h n node_notifies tt all
+    event_is h (Resends n payload) allows all = room_is h (Segment n payload) all
+    event_is h (Hears_value n setting) allows all = all
+    event_is h (Has_no_room n property) allows all = all
+    event_is h Line_ticks allows all = subst (λ (t : Turn). Are (failing_if (gives_up t (turn_ticked t)) (line_ticked h))) (sym allows) all
+    event_is h (Node_ticks n) allows all = ended_is (node_does h n node_ticks) (tick_end (node_of h n)) (open_command (node_of h n)) (node_is h n node_ticks allows all)
+    event_is h (Queues_no_more n) allows all = freely h n node_queues_no_more tt all
+    event_is h (Drops_no_more n) allows all = freely h n node_drops_no_more tt all
+    event_is h Submits_abort allows all = all
+    event_is h Submits_front allows all = all
+    event_is h (Starts n plan more payload) allows all = given_is h n more payload (node_starts plan) allows all
+    event_is h (Gives_text n payload) allows all = given_is h n false payload node_gives_text (free n (node_of h n) node_gives_text tt) all
+    event_is h (Gives_segment n more payload) allows all = given_is h n more payload node_gives_segment (free n (node_of h n) node_gives_segment tt) all
+    event_is h (Begins n session command) allows all = freely h n node_begins tt all
+    event_is h (Begin_unkept n) allows all = freely h n Blocks tt all
+
+    pub events_are : (h : HostState) (events : List HostEvent) → AllowsAll h events → Are h → Are (after_all h events)
+    events_are h [] allows all = all
+    events_are h (event ∷ events) allows all = events_are (after h event) events allows.1 (event_is h event allows.0 all)

@@ -1,0 +1,457 @@
+-- What is to come of an attempt of a node, from phase to phase, and that no wait of one runs out.
+use Rattle.std.proofs.Common.{◌≡◌, ◌≢◌, ◌≤◌, ◌<◌, ℕ, suc, ◌+◌, ◌-◌, ◌==◌, inl, inr, Bool, true, false, if◌then◌else◌, List, [], ◌∷◌, length, refl, sym, ap, ◌∙◌, subst, arith}
+use Rattle.std.proofs.lemmas.Bool.{eq-eqb, eqb-true}
+use Rattle.std.specs.Prelude.{◌⊎◌, Option, Some, None, IsSome}
+use Rattle.zw_base.specs.declared.order.Order.{Order}
+use Rattle.zw_text.specs.declared.line.Line.{Line}
+use Rattle.zw_text.specs.declared.entry.Entry.TheVariants as entry
+use Rattle.supervision.specs.Host.{begun_of, open_session}
+use Rattle.supervision.specs.declared.session.TheConstants.{WORKING}
+use Rattle.serial_frame.specs.Frame.{FrameParts}
+use Rattle.serial_link.specs.declared.turn.Turn.TheVariants.{Idle as no_turn}
+use Rattle.route_table.specs.declared.route.Route.{Route}
+use Rattle.chip_functions.specs.Field.{IsNode}
+use Rattle.chip_sim.specs.Nodes.{is_marked}
+use Rattle.device_kinds.specs.Kind.{lists}
+use Rattle.device_sim.specs.Event.{Hears as device_hears, device_after, device_replies}
+use Rattle.device_sim.specs.State.{State}
+use Rattle.host_orders.specs.Refusals.{IsFit}
+use Rattle.host_orders.specs.Wrapping.{message_of}
+use Rattle.host_orders.specs.declared.carriage.Carriage.{Carriage}
+use Rattle.host_node.specs.State.{NodeState}
+use Rattle.host_node.specs.Steps.{after_start}
+use Rattle.host_node.specs.Facts.{NodeFacts, SeriesFacts}
+use Rattle.host_node.specs.declared.attempt.Plan.{Plan}
+use Rattle.host_node.specs.declared.attempt.Plan.TheVariants.{Whole, Segments, Sealed}
+use Rattle.host_node.specs.declared.series.Series.{Series}
+use Rattle.host_node.specs.declared.series.Series.TheVariants as series
+use Rattle.host_model.specs.After.{after}
+use Rattle.host_model.specs.Events.{HostEvent, Accepts, Line_ticks, Node_ticks, Requests_do, Starts}
+use Rattle.host_model.specs.State.{HostState, node_of}
+use Rattle.host_model.specs.Taking.{is_secure}
+use Rattle.host_model.specs.Ticking.{tick_events}
+use Rattle.host_model.proofs.Submitted.{next_is}
+use Rattle.outside_model.specs.Events.{OuterEvent, Begins_line, Begins_tick, Arrives, Device_ticks, Chip_ticks, Wakes_device, Shows, Cuts, outcome}
+use Rattle.world_model.specs.Events.{Event, Outside_does, Host_does, Decoder_ticks, Refuses, Shows_values, happens, May, shown_values}
+use Rattle.world_model.specs.State.{Machine}
+use Rattle.proof_calm.specs.proof_traffic.OnAir.{on_air}
+use Rattle.proof_calm.specs.proof_work.proof_walk.Phases.{Phase, Said_line, Begun, Doing, To_tick, Ticked, Arriving, Ticking_devices, Ticking_chip, Ticking_decoder, Ticking_host}
+use Rattle.proof_calm.proofs.proof_traffic_Parts.{Airs}
+use Rattle.proof_calm.specs.Awaited.{Awaits}
+use Rattle.proof_calm.specs.Live.{HasLive, IsLive}
+use Rattle.proof_calm.specs.Resting.{IsEffect, IsGiven, IsOfTick}
+use Rattle.proof_calm.specs.Tied.{unheard}
+use Rattle.proof_calm.proofs.Calm.{does_calm, enters_calm}
+use Rattle.proof_calm.proofs.ChipNotices.{entered_leaves}
+use Rattle.proof_answered.proofs.Listeners.{listener_hears}
+use Rattle.proof_answered.proofs.Outwards.{next_is_live}
+use Rattle.proof_messages.specs.Asking.{takes_openly}
+use Rattle.proof_messages.specs.Reporting.{asks_now}
+use Rattle.supervision.specs.Session.{wire_id}
+use Rattle.host_heard.specs.declared.payload.Heard.TheVariants.{Messages}
+use Rattle.host_heard.specs.declared.told.Told.TheVariants.{Report}
+use Rattle.device_kinds.specs.Answers.{report_status}
+use Rattle.proof_answered.proofs.Unheard.{counts_says, decoder_says, device_says, does_says, effect_says, line_says, tick_says}
+use Rattle.proof_answered.specs.Outward.{AllListen}
+use Rattle.proof_in_time.specs.Answering.{AnswersSession, IsInStep}
+use Rattle.proof_in_time.specs.Coming.{AsksFor, Asked, Coming, Flies, Has, HearsInStep, IsAsking, IsHeardInStep, IsMessage, IsPlainly, IsReport, IsRequest, Sent, Stands, TellsEnd, Told, WaitsFor, one_later, ticks_left, ticks_of}
+use Rattle.proof_in_time.proofs.Carried.{Fits, arrives_comes, carry, many_on_air, ticks_once}
+use Rattle.proof_in_time.proofs.Grown.{Adds, Arrived, arrives_there, calm_adds, device_adds, same_adds, wakes_add}
+use Rattle.proof_in_time.proofs.Landed.{Any, answer_flies, has_piled}
+use Rattle.proof_in_time.proofs.NodeWaits.{IsBeside, OnTable, TickOf, beside_table, own_start, own_tick}
+use Rattle.proof_answered.proofs.Flying.{chip_counts}
+
+-- ---- how far the wait of an attempt is from its end
+
+-- it does not run where no attempt does
+pub waits_none : (n : NodeState) → NodeFacts n → n.series ≢ series.Running → n.attempt_wait ≡ 0
+waits_none n facts still = by n.series refl facts.series
+  where
+    by : (s : Series) → n.series ≡ s → SeriesFacts s n.book n.attempt_wait n.again_wait n.next_segment n.segments n.text n.pending → n.attempt_wait ≡ 0
+    by series.Idle is (idle, nothing) = nothing.no_wait
+    by series.Due is (due, none_again, nothing) = nothing.no_wait
+    by series.Running is running = absurd (still is)
+
+runs_or_not : (s : Series) → (s ≡ series.Running) ⊎ (s ≢ series.Running)
+runs_or_not series.Running = inl refl
+runs_or_not series.Idle = inr (λ e. absurd cc)
+runs_or_not series.Due = inr (λ e. absurd cc)
+
+far : (wait left : ℕ) → (wait ≡ 0) ⊎ (90 + left ≤ wait) → wait ≢ 1
+far wait left (inl none) one = omega (arith, none, one)
+far wait left (inr more) one = omega (arith, more, one)
+
+pub lasts_of : (n : ℕ) (here : Phase) (m : Machine) → NodeFacts (node_of m.host.state n) → WaitsFor n here m → (node_of m.host.state n).attempt_wait ≢ 1
+lasts_of n here m facts waits = by (runs_or_not (node_of m.host.state n).series)
+  where
+    by : ((node_of m.host.state n).series ≡ series.Running) ⊎ ((node_of m.host.state n).series ≢ series.Running) → (node_of m.host.state n).attempt_wait ≢ 1
+    by (inl run) = let b = waits.bounded run in far (node_of m.host.state n).attempt_wait b.left b.waits
+    by (inr still) = λ one. let none = waits_none (node_of m.host.state n) facts still in omega (arith, none, one)
+
+pub idle_lasts : (n : NodeState) → NodeFacts n → n.series ≡ series.Idle → n.attempt_wait ≢ 1
+idle_lasts n facts idle one = let none = waits_none n facts (λ run. let wrong : series.Idle ≡ series.Running = sym idle ∙ run in absurd cc) in omega (arith, none, one)
+
+-- a session is open where an attempt runs
+open_by : (commands : List ℕ) (outcome : Option ℕ) (attempts : ℕ) → IsSome (open_session (record { commands = commands; outcome = outcome; attempts = attempts })) → open_session (record { commands = commands; outcome = outcome; attempts = attempts }) ≡ Some (length commands)
+open_by [] None attempts is = absurd (let no : false ≡ true = is in cc)
+open_by (command ∷ commands) None attempts is = refl
+open_by commands (Some status) attempts is = absurd (let no : false ≡ true = is in cc)
+
+pub open_where : (n : NodeState) → NodeFacts n → n.series ≡ series.Running → open_session n.book ≡ Some (begun_of n.book)
+open_where n facts run = open_by n.book.commands n.book.outcome n.book.attempts (of (subst (λ (s : Series). SeriesFacts s n.book n.attempt_wait n.again_wait n.next_segment n.segments n.text n.pending) run facts.series))
+  where
+    of : SeriesFacts series.Running n.book n.attempt_wait n.again_wait n.next_segment n.segments n.text n.pending → IsSome (open_session n.book)
+    of facts_are = facts_are.0.is_open
+
+-- ---- where the host is as it was
+
+pub still_fits : (n count left : ℕ) (here next : Phase) → ((place : ℕ) → ticks_left n next + one_later next place ≤ ticks_left n here + one_later here place) → ticks_left n next ≤ ticks_left n here → Fits n count here left next left
+still_fits n count left here next joint alone = record { joint = λ place within. let one = joint place in omega (arith, one); alone = omega (arith, alone) }
+
+-- the session that was begun last
+abbrev pub session_of : ℕ → Machine → ℕ
+session_of n m = begun_of (node_of m.host.state n).book
+
+-- how what is to come goes on
+abbrev pub Goes_on : ℕ → Phase → Machine → Phase → Machine → Type 0
+Goes_on n here m next later = (left : ℕ) → Coming n (session_of n m) left here m → Coming n (session_of n m) left next later
+
+pub outer_waits : (n : ℕ) (here next : Phase) (m : Machine) (event : OuterEvent) → Goes_on n here m next (happens m (Outside_does event)) → WaitsFor n here m → WaitsFor n next (happens m (Outside_does event))
+unfolding happens
+outer_waits n here next m event goes w =
+    record { openly = w.openly; bounded = λ run. let b = w.bounded run in record { left = b.left; few = b.few; comes = goes b.left b.comes; waits = b.waits } }
+
+decoder_waits : (n : ℕ) (here next : Phase) (m : Machine) → Goes_on n here m next (happens m Decoder_ticks) → WaitsFor n here m → WaitsFor n next (happens m Decoder_ticks)
+unfolding happens
+decoder_waits n here next m goes w =
+    record { openly = w.openly; bounded = λ run. let b = w.bounded run in record { left = b.left; few = b.few; comes = goes b.left b.comes; waits = b.waits } }
+
+pub refuses_waits : (n : ℕ) (here next : Phase) (m : Machine) (event : Event) → (happens m event).host.state ≡ m.host.state → Goes_on n here m next (happens m event) → WaitsFor n here m → WaitsFor n next (happens m event)
+refuses_waits n here next m event same goes w = record {
+  openly = ap (λ (h : HostState). is_secure (node_of h n).classes) same ∙ w.openly;
+  bounded = λ run.
+      let b = w.bounded (sym (ap (λ (h : HostState). (node_of h n).series) same) ∙ run) in
+      record {
+        left = b.left;
+        few = b.few;
+        comes = subst (λ (s : ℕ). Coming n s b.left next (happens m event)) (sym (ap (λ (h : HostState). begun_of (node_of h n).book) same)) (goes b.left b.comes);
+        waits = subst (λ (h : HostState). ((node_of h n).attempt_wait ≡ 0) ⊎ (90 + b.left ≤ (node_of h n).attempt_wait)) (sym same) b.waits;
+      };
+}
+
+-- the same machine at another phase
+pub turn_waits : (n : ℕ) (here next : Phase) (m : Machine) → Goes_on n here m next m → WaitsFor n here m → WaitsFor n next m
+turn_waits n here next m goes w =
+    record { openly = w.openly; bounded = λ run. let b = w.bounded run in record { left = b.left; few = b.few; comes = goes b.left b.comes; waits = b.waits } }
+
+-- ---- where it does something
+
+pub again_far : (wait old left : ℕ) → left ≤ 2 → (wait ≡ old) ⊎ (wait ≡ 100) → (old ≡ 0) ⊎ (90 + left ≤ old) → (wait ≡ 0) ⊎ (90 + left ≤ wait)
+again_far wait old left few (inl same) (inl none) = inl (same ∙ none)
+again_far wait old left few (inl same) (inr more) = inr (omega (arith, same, more))
+again_far wait old left few (inr anew) was = inr (omega (arith, anew, few))
+
+module _ (n : ℕ) (within : n < 233) where
+  pub does_waits : (here next : Phase) (m : Machine) (event : HostEvent) → IsBeside n m.host.state event → length m.host.state.nodes ≡ 233 → Goes_on n here m next (happens m (Host_does event)) → WaitsFor n here m → WaitsFor n next (happens m (Host_does event))
+  unfolding happens
+  does_waits here next m event beside places goes w =
+      let table : OnTable n (node_of m.host.state n) (after m.host.state event).nodes = beside_table n within m.host.state event places beside in
+      record {
+        openly = ap is_secure table.from.same ∙ w.openly;
+        bounded = λ run.
+            let k = table.from.keeps run in
+            let b = w.bounded k.running in
+            record {
+              left = b.left;
+              few = b.few;
+              comes = subst (λ (s : ℕ). Coming n s b.left next (happens m (Host_does event))) (sym (ap (λ (cs : List ℕ). length cs) k.commands_are)) (goes b.left b.comes);
+              waits = again_far (node_of (after m.host.state event) n).attempt_wait (node_of m.host.state n).attempt_wait b.left b.few k.waits b.waits;
+            };
+      }
+
+  -- its own tick
+  less_far : (wait old left : ℕ) → wait ≡ old - 1 → 1 ≤ left → (old ≡ 0) ⊎ (90 + left ≤ old) → (wait ≡ 0) ⊎ (90 + (left - 1) ≤ wait)
+  less_far wait old left is some (inl none) = inl (omega (arith, is, none))
+  less_far wait old left is some (inr more) = inr (omega (arith, is, some, more))
+
+  own_count : (events : List HostEvent) → ticks_of n (Node_ticks n ∷ events) ≡ 1 + ticks_of n events
+  own_count events = ap (λ (b : Bool). (if b then 1 else 0) + ticks_of n events) (eq-eqb n n refl)
+
+  abbrev Own_at : List HostEvent → ℕ → Phase
+  Own_at events ticks = Ticking_host (Node_ticks n ∷ events) ticks
+
+  some_left : (events : List HostEvent) (ticks session left : ℕ) (m : Machine) → Coming n session left (Own_at events ticks) m → 1 ≤ left
+  some_left events ticks session left m (Asked asking asks two) = absurd asking
+  some_left events ticks session left m (Sent at few) = let one = own_count events in omega (arith, few, one)
+  some_left events ticks session left m (Flies at few) = let one = own_count events in omega (arith, few, one)
+  some_left events ticks session left m (Told payload tells has few) = let one = own_count events in omega (arith, few, one)
+
+  tick_waits : (events : List HostEvent) (ticks : ℕ) (m : Machine) → length m.host.state.nodes ≡ 233 → (node_of m.host.state n).attempt_wait ≢ 1
+      → ((left : ℕ) → 1 ≤ left → Coming n (session_of n m) left (Own_at events ticks) m → Coming n (session_of n m) (left - 1) (Ticking_host events ticks) (happens m (Host_does (Node_ticks n))))
+      → WaitsFor n (Own_at events ticks) m → WaitsFor n (Ticking_host events ticks) (happens m (Host_does (Node_ticks n)))
+  unfolding happens
+  tick_waits events ticks m places lasts goes w =
+      let t : TickOf (node_of m.host.state n) (node_of (after m.host.state (Node_ticks n)) n) = own_tick n within m.host.state places lasts in
+      record {
+        openly = ap is_secure t.same ∙ w.openly;
+        bounded = λ run.
+            let b = w.bounded (t.running run) in
+            let some = some_left events ticks (begun_of (node_of m.host.state n).book) b.left m b.comes in
+            let two = b.few in
+            record {
+              left = b.left - 1;
+              few = omega (arith, two);
+              comes = subst (λ (s : ℕ). Coming n s (b.left - 1) (Ticking_host events ticks) (happens m (Host_does (Node_ticks n)))) (sym (ap (λ (cs : List ℕ). length cs) (t.commands_are run)))
+                  (goes b.left some b.comes);
+              waits = less_far (node_of (after m.host.state (Node_ticks n)) n).attempt_wait (node_of m.host.state n).attempt_wait b.left t.less some b.waits;
+            };
+      }
+
+  -- an attempt of its own starts
+  start_book : (state : NodeState) (plan : Plan) → (after_start state plan).book ≡ state.book
+  start_book state Whole = refl
+  start_book state (Segments count) = refl
+  start_book state (Sealed plain) = refl
+
+  start_classes : (state : NodeState) (plan : Plan) → (after_start state plan).classes ≡ state.classes
+  start_classes state Whole = refl
+  start_classes state (Segments count) = refl
+  start_classes state (Sealed plain) = refl
+
+  start_wait : (state : NodeState) (plan : Plan) → (after_start state plan).attempt_wait ≡ state.attempt_wait
+  start_wait state Whole = refl
+  start_wait state (Segments count) = refl
+  start_wait state (Sealed plain) = refl
+
+  pub start_waits : (here next : Phase) (m : Machine) (plan : Plan) (more : Bool) (payload : List ℕ) → length m.host.state.nodes ≡ 233 → (node_of m.host.state n).attempt_wait ≡ 0 → IsMessage (begun_of (node_of m.host.state n).book) payload → IsAsking next
+      → WaitsFor n here m → WaitsFor n next (happens m (Host_does (Starts n plan more payload)))
+  unfolding happens
+  start_waits here next m plan more payload places none message asking w =
+      let h : HostState = m.host.state in
+      let there : node_of (after h (Starts n plan more payload)) n ≡ after_start (node_of h n) plan = own_start n within h plan more payload places in
+      let begun : begun_of (node_of (after h (Starts n plan more payload)) n).book ≡ begun_of (node_of h n).book = ap (λ (s : NodeState). begun_of s.book) there ∙ ap begun_of (start_book (node_of h n) plan) in
+      record {
+        openly = ap (λ (s : NodeState). is_secure s.classes) there ∙ (ap is_secure (start_classes (node_of h n) plan) ∙ w.openly);
+        bounded = λ run. record {
+          left = 2;
+          few = omega arith;
+          comes = Asked asking
+              (record { request = _; more = more; payload = payload; under_way = refl; purpose = refl; message = subst (λ (s : ℕ). IsMessage s payload) (sym begun) message; frame = refl })
+              (omega arith);
+          waits = inl (ap (λ (s : NodeState). s.attempt_wait) there ∙ (start_wait (node_of h n) plan ∙ none));
+        };
+      }
+
+-- ---- at each event
+
+counted_air : (m : Machine) → (happens m (Outside_does Chip_ticks)).outside.outer.air ≡ m.outside.outer.air
+unfolding happens
+counted_air m = (chip_counts m.outside).0
+
+shows_adds : (m : Machine) (node : ℕ) → Adds m.outside.outer (happens m (Outside_does (Shows node))).outside.outer
+unfolding happens outcome
+shows_adds m node = same_adds m.outside.outer (happens m (Outside_does (Shows node))).outside.outer (entered_leaves (outcome m.outside (Shows node)).outer (outcome m.outside (Shows node)).entries).air
+
+decoder_adds : (m : Machine) → Adds m.outside.outer (happens m Decoder_ticks).outside.outer
+unfolding happens
+decoder_adds m = same_adds m.outside.outer m.outside.outer refl
+
+-- what is proved of devices that hear
+pub record Devices : Type 0 where
+  pub heard : (device : State) (drawn : List ℕ) (carriage : Carriage) (order : Order) (session : ℕ) → IsFit carriage.actuator order → order.end ≤ 127 → device.awake ≡ true → takes_openly device.kind ≡ true → IsInStep session device
+      → AnswersSession session (device_after device (device_hears (message_of carriage order session) drawn)) (device_replies device (device_hears (message_of carriage order session) drawn))
+  pub at_once : (device : State) (drawn : List ℕ) (carriage : Carriage) (order : Order) (session : ℕ) → IsFit carriage.actuator order → order.end ≤ 127 → device.awake ≡ true → takes_openly device.kind ≡ true → lists device.kind 0x26 ≡ false
+      → device.sessions.status ≢ WORKING → (device_after device (device_hears (message_of carriage order session) drawn)).sessions.status ≢ WORKING
+
+-- the answer of a device in step tells the end
+answer_ends : (laws : Devices) (session : ℕ) (payload drawn : List ℕ) (device : State) → IsMessage session payload → HearsInStep session device
+    → (reply : List ℕ) × ((device_replies device (device_hears payload drawn) ≡ reply ∷ []) × TellsEnd session reply)
+answer_ends laws session payload drawn device message hears =
+    let text : List ℕ = message_of message.carriage message.order session in
+    let answer = laws.heard device drawn message.carriage message.order session message.fit message.end hears.awake hears.openly hears.step in
+    let over = laws.at_once device drawn message.carriage message.order session message.fit message.end hears.awake hears.openly hears.at_once hears.is_done.over in
+    let new : State = device_after device (device_hears text drawn) in (
+      answer.payload,
+      (
+        ap (λ (p : List ℕ). device_replies device (device_hears p drawn)) message.is ∙ answer.says,
+        record {
+          status = new.sessions.status;
+          over = over;
+          tells = record { wakes = asks_now new; heard = answer.tells ∙ ap (λ (k : ℕ). Messages (Report (wire_id k) (report_status new.sessions.status) (asks_now new) ∷ [])) answer.taken };
+          some = answer.some;
+          few = answer.few;
+        },
+      ),
+    )
+
+pub host_stays : (airs : Airs) (n : ℕ) (here next : Phase) (m : Machine) (event : HostEvent) → (IsAsking here → AsksFor n (session_of n m) m.host.state → ⊥) → ((left : ℕ) → Fits n (many_on_air m) here left next left) → Goes_on n here m next (happens m (Host_does event))
+host_stays airs n here next m event none fits left comes =
+    carry n (session_of n m) left left here next m (happens m (Host_does event)) (λ asking asks two. absurd (none asking asks)) (calm_adds m.outside.outer (happens m (Host_does event)).outside.outer (does_calm airs m event))
+    (λ x has. does_says Any (Has x) (has_piled x) airs m event has) (fits left) comes
+
+pub either_node : (n k : ℕ) → (k ≡ n) ⊎ (k ≢ n)
+either_node n k = by (k == n) refl
+  where
+    by : (b : Bool) → (k == n) ≡ b → (k ≡ n) ⊎ (k ≢ n)
+    by true is = inl (eqb-true k n is)
+    by false is = inr (λ same. let wrong : true ≡ false = sym (eq-eqb k n same) ∙ is in absurd cc)
+
+module _ (airs : Airs) (these : List Bool) (many : length these ≡ 233) (laws : Devices) (n : ℕ) (marked : is_marked these n ≡ true) (node : IsNode n) where
+  within : n < 233
+  within = let few = node.1 in omega (arith, few)
+
+  abbrev Leads : Phase → Machine → Event → Type 0
+  Leads next m event = WaitsFor n next (happens m event)
+
+  as_is : (next to : Phase) (m : Machine) (event is : Event) → event ≡ is → next ≡ to → Leads to m is → Leads next m event
+  as_is next to m event is event_is next_is leads = subst (λ (e : Event). Leads next m e) (sym event_is) (subst (λ (q : Phase). Leads q m is) (sym next_is) leads)
+
+  may_is : (m : Machine) (event is : Event) → event ≡ is → May m event → May m is
+  may_is m event is same may = subst (May m) same may
+
+  plain_is : (m : Machine) (event is : Event) → event ≡ is → IsPlainly these m event → IsPlainly these m is
+  plain_is m event is same plainly = subst (IsPlainly these m) same plainly
+
+  -- what stands stays
+  stay : (here next : Phase) (m later : Machine) → (IsAsking here → ⊥) → Adds m.outside.outer later.outside.outer → ((x : FrameParts) → Has x (unheard m.outside.outer) → Has x (unheard later.outside.outer))
+      → ((left : ℕ) → Fits n (many_on_air m) here left next left) → Goes_on n here m next later
+  stay here next m later none adds has fits left comes = carry n (session_of n m) left left here next m later (λ asking asks two. absurd (none asking)) adds has (fits left) comes
+
+  same_fits : (here next : Phase) → ((place : ℕ) → ticks_left n next + one_later next place ≤ ticks_left n here + one_later here place) → ticks_left n next ≤ ticks_left n here → (count left : ℕ) → Fits n count here left next left
+  same_fits here next joint alone count left = still_fits n count left here next joint alone
+
+  -- ---- outside the host
+
+  pub line_waits : (line : Line) (m : Machine) → WaitsFor n (Said_line line) m → WaitsFor n (Begun line) (happens m (Outside_does Begins_line))
+  unfolding happens outcome
+  line_waits line m w =
+      outer_waits n (Said_line line) (Begun line) m Begins_line
+      (stay (Said_line line) (Begun line) m (happens m (Outside_does Begins_line)) (λ a. a) (same_adds m.outside.outer (happens m (Outside_does Begins_line)).outside.outer refl) (λ x has. line_says Any (Has x) (has_piled x) m has)
+      (same_fits (Said_line line) (Begun line) (λ place. omega arith) (omega arith) (many_on_air m))) w
+
+  pub begins_waits : (ticks : ℕ) (m : Machine) → WaitsFor n (To_tick (suc ticks)) m → WaitsFor n (Ticked ticks) (happens m (Outside_does Begins_tick))
+  unfolding happens outcome
+  begins_waits ticks m w =
+      outer_waits n (To_tick (suc ticks)) (Ticked ticks) m Begins_tick
+      (stay (To_tick (suc ticks)) (Ticked ticks) m (happens m (Outside_does Begins_tick)) (λ a. a) (same_adds m.outside.outer (happens m (Outside_does Begins_tick)).outside.outer refl) (λ x has. tick_says Any (Has x) (has_piled x) m has)
+      (same_fits (To_tick (suc ticks)) (Ticked ticks) (λ place. omega arith) (omega arith) (many_on_air m))) w
+
+  pub ticks_wait : (place count ticks : ℕ) (m : Machine) (drawn : List ℕ) (route : Option Route) → Awaits m → WaitsFor n (Ticking_devices place (suc count) ticks) m
+      → WaitsFor n (Ticking_devices (place + 1) count ticks) (happens m (Outside_does (Device_ticks place drawn route)))
+  ticks_wait place count ticks m drawn route is w =
+      outer_waits n (Ticking_devices place (suc count) ticks) (Ticking_devices (place + 1) count ticks) m (Device_ticks place drawn route)
+      (stay (Ticking_devices place (suc count) ticks) (Ticking_devices (place + 1) count ticks) m (happens m (Outside_does (Device_ticks place drawn route))) (λ a. a) (device_adds airs m is place drawn route)
+      (λ x has. device_says Any (Has x) (has_piled x) m place drawn route has) (same_fits (Ticking_devices place (suc count) ticks) (Ticking_devices (place + 1) count ticks) (λ at. omega arith) (omega arith) (many_on_air m))) w
+
+  pub chip_waits : (ticks : ℕ) (m : Machine) → IsGiven 0 m → IsGiven 1 (happens m (Outside_does Chip_ticks)) → WaitsFor n (Ticking_chip ticks) m → WaitsFor n (Ticking_decoder ticks) (happens m (Outside_does Chip_ticks))
+  chip_waits ticks m given later w =
+      outer_waits n (Ticking_chip ticks) (Ticking_decoder ticks) m Chip_ticks
+      (stay (Ticking_chip ticks) (Ticking_decoder ticks) m (happens m (Outside_does Chip_ticks)) (λ a. a) (chip_adds m) (λ x has. counts_says Any (Has x) (has_piled x) m given later has)
+      (same_fits (Ticking_chip ticks) (Ticking_decoder ticks) (λ place. omega arith) (omega arith) (many_on_air m))) w
+    where
+      chip_adds : (k : Machine) → Adds k.outside.outer (happens k (Outside_does Chip_ticks)).outside.outer
+      chip_adds k = same_adds k.outside.outer (happens k (Outside_does Chip_ticks)).outside.outer (counted_air k)
+
+  pub unfinished_waits : (ticks : ℕ) (m : Machine) → WaitsFor n (Ticking_decoder ticks) m → WaitsFor n (Ticking_host (tick_events m.host.state) ticks) (happens m Decoder_ticks)
+  unfinished_waits ticks m w =
+      let once = ticks_once n m.host.state in
+      decoder_waits n (Ticking_decoder ticks) (Ticking_host (tick_events m.host.state) ticks) m
+      (stay (Ticking_decoder ticks) (Ticking_host (tick_events m.host.state) ticks) m (happens m Decoder_ticks) (λ a. a) (decoder_adds m) (λ x has. decoder_says Any (Has x) (has_piled x) m has)
+      (same_fits (Ticking_decoder ticks) (Ticking_host (tick_events m.host.state) ticks) (λ place. omega (arith, once)) once (many_on_air m))) w
+
+  pub arrives_wait : (frames ticks : ℕ) (m : Machine) (drawn : List ℕ) (route : Option Route) → May m (Outside_does (Arrives drawn route)) → IsHeardInStep m (Arrives drawn route) → Awaits m → AllListen these m → HasLive m.outside.outer → IsGiven 0 m
+      → IsGiven 0 (happens m (Outside_does (Arrives drawn route))) → length m.outside.outer.chip.state.port.waiting ≤ 31 → WaitsFor n (Arriving (suc frames) ticks) m → WaitsFor n (Arriving frames ticks) (happens m (Outside_does (Arrives drawn route)))
+  arrives_wait frames ticks m drawn route may heard is listen live given later room w =
+      outer_waits n (Arriving (suc frames) ticks) (Arriving frames ticks) m (Arrives drawn route) goes w
+    where
+      at : Arrived airs m is drawn route
+      at = arrives_there airs m is drawn route may
+
+      alive : IsLive m.outside.outer.air.network at.frame
+      alive = next_is_live m.outside.outer live at.frame at.next
+
+      -- the device of the node hears it, and answers
+      answers : IsRequest n (session_of n m) at.frame → Stands (IsReport n (session_of n m)) (on_air (happens m (Outside_does (Arrives drawn route))).outside.outer.air.frames)
+      answers request =
+          let listener = listen.nodes at.frame.node (subst (λ (k : ℕ). is_marked these k ≡ true) (sym request.node) marked) in
+          let fate = listener_hears m.outside.outer.air.network m.outside.devices at.frame listener request.out alive in
+          let hears = heard at.frame at.next request.out listener.place listener.device fate listener.stands in
+          let in_step : HearsInStep (begun_of (node_of m.host.state n).book) listener.device = subst (λ (k : ℕ). HearsInStep (begun_of (node_of m.host.state k).book) listener.device) request.node hears.1 in
+          let answer = answer_ends laws (begun_of (node_of m.host.state n).book) at.frame.payload drawn listener.device request.message in_step in
+          subst (λ (k : ℕ). Stands (IsReport k (begun_of (node_of m.host.state n).book)) (on_air (happens m (Outside_does (Arrives drawn route))).outside.outer.air.frames)) request.node
+          (answer_flies airs m is drawn route at (begun_of (node_of m.host.state n).book) listener.place listener.device answer.0 fate listener.stands hears.0 (subst (λ (k : ℕ). k < 233) (sym request.node) within) answer.1.0 answer.1.1)
+
+      goes : Goes_on n (Arriving (suc frames) ticks) m (Arriving frames ticks) (happens m (Outside_does (Arrives drawn route)))
+      goes left comes = arrives_comes airs m is drawn route at given later room alive n (session_of n m) left frames ticks answers comes
+
+  -- ---- in a line
+
+  abbrev In : Line → List Event → Phase
+  In line left = Doing line left
+
+  effect_fits : (line : Line) (first : Event) (left : List Event) (count k : ℕ) → Fits n count (Doing line (first ∷ left)) k (Doing line left) k
+  effect_fits line first left count k = still_fits n count k (Doing line (first ∷ left)) (Doing line left) (λ place. omega arith) (omega arith)
+
+  pub effect_waits : (line : Line) (left : List Event) (m : Machine) (event : Event) → IsEffect event → Awaits m → length m.host.state.nodes ≡ 233 → WaitsFor n (Doing line (event ∷ left)) m → WaitsFor n (Doing line left) (happens m event)
+  unfolding happens outcome
+  effect_waits line left m (Outside_does (Wakes_device node route)) is awaits places w =
+      outer_waits n (Doing line (Outside_does (Wakes_device node route) ∷ left)) (Doing line left) m (Wakes_device node route)
+      (stay (Doing line (Outside_does (Wakes_device node route) ∷ left)) (Doing line left) m (happens m (Outside_does (Wakes_device node route))) (λ a. a) (wakes_add airs m awaits node route)
+      (λ x has. effect_says Any (Has x) (has_piled x) airs m (Outside_does (Wakes_device node route)) tt has) (effect_fits line (Outside_does (Wakes_device node route)) left (many_on_air m))) w
+  effect_waits line left m (Outside_does (Shows node)) is awaits places w =
+      outer_waits n (Doing line (Outside_does (Shows node) ∷ left)) (Doing line left) m (Shows node)
+      (stay (Doing line (Outside_does (Shows node) ∷ left)) (Doing line left) m (happens m (Outside_does (Shows node))) (λ a. a) (shows_adds m node)
+      (λ x has. effect_says Any (Has x) (has_piled x) airs m (Outside_does (Shows node)) tt has) (effect_fits line (Outside_does (Shows node)) left (many_on_air m))) w
+  effect_waits line left m (Outside_does (Cuts size)) is awaits places w =
+      outer_waits n (Doing line (Outside_does (Cuts size) ∷ left)) (Doing line left) m (Cuts size)
+      (stay (Doing line (Outside_does (Cuts size) ∷ left)) (Doing line left) m (happens m (Outside_does (Cuts size))) (λ a. a) (same_adds m.outside.outer (happens m (Outside_does (Cuts size))).outside.outer refl)
+      (λ x has. effect_says Any (Has x) (has_piled x) airs m (Outside_does (Cuts size)) tt has) (effect_fits line (Outside_does (Cuts size)) left (many_on_air m))) w
+  effect_waits line left m (Host_does (Accepts order carriage)) is awaits places w =
+      does_waits n within (Doing line (Host_does (Accepts order carriage) ∷ left)) (Doing line left) m (Accepts order carriage) tt places
+      (stay (Doing line (Host_does (Accepts order carriage) ∷ left)) (Doing line left) m (happens m (Host_does (Accepts order carriage))) (λ a. a)
+      (calm_adds m.outside.outer (happens m (Host_does (Accepts order carriage))).outside.outer (does_calm airs m (Accepts order carriage)))
+      (λ x has. effect_says Any (Has x) (has_piled x) airs m (Host_does (Accepts order carriage)) tt has) (effect_fits line (Host_does (Accepts order carriage)) left (many_on_air m))) w
+  effect_waits line left m (Refuses of refusal) is awaits places w =
+      refuses_waits n (Doing line (Refuses of refusal ∷ left)) (Doing line left) m (Refuses of refusal) refl
+      (stay (Doing line (Refuses of refusal ∷ left)) (Doing line left) m (happens m (Refuses of refusal)) (λ a. a) (calm_adds m.outside.outer (happens m (Refuses of refusal)).outside.outer (enters_calm airs m (entry.Refused refusal)))
+      (λ x has. effect_says Any (Has x) (has_piled x) airs m (Refuses of refusal) tt has) (effect_fits line (Refuses of refusal) left (many_on_air m))) w
+  effect_waits line left m (Shows_values node) is awaits places w =
+      refuses_waits n (Doing line (Shows_values node ∷ left)) (Doing line left) m (Shows_values node) refl
+      (stay (Doing line (Shows_values node ∷ left)) (Doing line left) m (happens m (Shows_values node)) (λ a. a) (calm_adds m.outside.outer (happens m (Shows_values node)).outside.outer (enters_calm airs m (shown_values m.host.state node)))
+      (λ x has. effect_says Any (Has x) (has_piled x) airs m (Shows_values node) tt has) (effect_fits line (Shows_values node) left (many_on_air m))) w
+  effect_waits line left m (Outside_does event) is awaits places w = absurd is
+  effect_waits line left m (Host_does event) is awaits places w = absurd is
+  effect_waits line left m event is awaits places w = absurd is
+
+  -- ---- the host
+
+  -- an event of its tick, of this node or not
+  pub tick_event : (first : HostEvent) (events : List HostEvent) (ticks : ℕ) (m : Machine) → IsOfTick first → m.host.state.side.turn ≡ no_turn → length m.host.state.nodes ≡ 233 → (node_of m.host.state n).attempt_wait ≢ 1
+      → WaitsFor n (Ticking_host (first ∷ events) ticks) m → WaitsFor n (Ticking_host events ticks) (happens m (Host_does first))
+  tick_event Line_ticks events ticks m is turn places lasts w =
+      does_waits n within (Ticking_host (Line_ticks ∷ events) ticks) (Ticking_host events ticks) m Line_ticks turn places
+      (host_stays airs n (Ticking_host (Line_ticks ∷ events) ticks) (Ticking_host events ticks) m Line_ticks (λ asking asks. asking) (λ left. still_fits n (many_on_air m) left (Ticking_host (Line_ticks ∷ events) ticks) (Ticking_host events ticks) (λ place. omega arith) (omega arith))) w
+  tick_event (Requests_do event moment) events ticks m is turn places lasts w =
+      does_waits n within (Ticking_host (Requests_do event moment ∷ events) ticks) (Ticking_host events ticks) m (Requests_do event moment) tt places
+      (host_stays airs n (Ticking_host (Requests_do event moment ∷ events) ticks) (Ticking_host events ticks) m (Requests_do event moment) (λ asking asks. asking)
+      (λ left. still_fits n (many_on_air m) left (Ticking_host (Requests_do event moment ∷ events) ticks) (Ticking_host events ticks) (λ place. omega arith) (omega arith))) w
+  tick_event (Node_ticks k) events ticks m is turn places lasts w = by (either_node n k)
+    where
+      own : WaitsFor n (Ticking_host (Node_ticks n ∷ events) ticks) m → WaitsFor n (Ticking_host events ticks) (happens m (Host_does (Node_ticks n)))
+      own v =
+          let one = own_count n within events in
+          tick_waits n within events ticks m places lasts
+          (λ left some comes.
+          carry n (session_of n m) left (left - 1) (Own_at n within events ticks) (Ticking_host events ticks) m (happens m (Host_does (Node_ticks n))) (λ asking asks two. absurd asking)
+          (calm_adds m.outside.outer (happens m (Host_does (Node_ticks n))).outside.outer (does_calm airs m (Node_ticks n))) (λ x has. does_says Any (Has x) (has_piled x) airs m (Node_ticks n) has)
+          (record { joint = λ place within. omega (arith, one, some); alone = omega (arith, one, some) }) comes) v
+
+      by : (k ≡ n) ⊎ (k ≢ n) → WaitsFor n (Ticking_host events ticks) (happens m (Host_does (Node_ticks k)))
+      by (inl same) =
+          subst (λ (j : ℕ). WaitsFor n (Ticking_host events ticks) (happens m (Host_does (Node_ticks j)))) (sym same)
+          (own (subst (λ (j : ℕ). WaitsFor n (Ticking_host (Node_ticks j ∷ events) ticks) m) same w))
+      by (inr other) =
+          does_waits n within (Ticking_host (Node_ticks k ∷ events) ticks) (Ticking_host events ticks) m (Node_ticks k) other places
+          (host_stays airs n (Ticking_host (Node_ticks k ∷ events) ticks) (Ticking_host events ticks) m (Node_ticks k) (λ asking asks. asking)
+          (λ left. still_fits n (many_on_air m) left (Ticking_host (Node_ticks k ∷ events) ticks) (Ticking_host events ticks) (λ place. omega arith) (omega arith))) w
+  tick_event event events ticks m is turn places lasts w = absurd is

@@ -1,0 +1,174 @@
+-- What is to come of an attempt comes nearer, or stays as near, where frames stand on the air and with the chip.
+use Rattle.std.proofs.Common.{◌≡◌, ◌≤◌, ◌<◌, ℕ, zero, suc, ◌+◌, ◌-◌, ◌==◌, nat_lt, inl, inr, Bool, true, false, if◌then◌else◌, List, ◌∷◌, map, filter, length, length-append, refl, sym, ap, ◌∙◌, subst, arith}
+use Rattle.std.proofs.lemmas.Bool.{eqb-true}
+use Rattle.std.proofs.lemmas.Bool.Decides.{nat_tests}
+use Rattle.std.specs.Prelude.{◌⊎◌, Option}
+use Rattle.std.specs.List.{range_with_len}
+use Rattle.serial_frame.specs.Frame.{FrameParts}
+use Rattle.route_table.specs.declared.route.Route.{Route}
+use Rattle.air_frames.specs.Flown.{Flown}
+use Rattle.host_node.specs.State.{needs_tick}
+use Rattle.host_model.specs.Did.{after_all}
+use Rattle.host_model.specs.Events.{Node_ticks}
+use Rattle.host_model.specs.State.{HostState, node_of}
+use Rattle.host_model.specs.Ticking.{first_ticks, tick_events, ticking_nodes}
+use Rattle.outside_model.specs.Events.{Arrives}
+use Rattle.world_model.specs.Events.{Outside_does, happens}
+use Rattle.world_model.specs.State.{Machine}
+use Rattle.proof_calm.specs.proof_traffic.OnAir.{on_air}
+use Rattle.proof_calm.specs.proof_work.proof_walk.Phases.{Phase, Arriving}
+use Rattle.proof_calm.specs.Awaited.{Awaits}
+use Rattle.proof_calm.specs.Live.{IsLive}
+use Rattle.proof_calm.specs.Resting.{IsGiven}
+use Rattle.proof_calm.specs.Tied.{unheard}
+use Rattle.proof_calm.proofs.proof_traffic_Parts.{Airs}
+use Rattle.proof_in_time.specs.Coming.{AsksFor, Asked, Coming, Flies, Has, IsAsking, IsReport, IsRequest, Sent, Stands, TellsEnd, Told, brings, one_later, ticks_left, ticks_of}
+use Rattle.proof_in_time.proofs.Grown.{Adds, Arrived, stands_next, stands_on}
+use Rattle.proof_in_time.proofs.Landed.{arrives_has, report_comes}
+
+-- ---- nothing leaves
+
+-- no more ticks are to come than were, but for those that are to come no more; so many frames are on the air
+pub record Fits (n count : ℕ) (here : Phase) (left : ℕ) (next : Phase) (then_left : ℕ) : Type 0 where
+  pub joint : (place : ℕ) → place < count → ticks_left n next + one_later next place + left ≤ ticks_left n here + one_later here place + then_left
+  pub alone : ticks_left n next + left ≤ ticks_left n here + then_left
+
+-- a report that the chip has for the host
+pub record IsThere (n session left : ℕ) (here : Phase) (m : Machine) : Type 0 where
+  pub payload : List ℕ
+  pub tells : TellsEnd session payload
+  pub has : Has (brings n payload) (unheard m.outside.outer)
+  pub few : ticks_left n here ≤ left
+
+abbrev pub many_on_air : Machine → ℕ
+many_on_air m = length (on_air m.outside.outer.air.frames)
+
+stands_within : (Is : Flown → Type 0) (flights : List Flown) (at : Stands Is flights) → length at.before < length flights
+stands_within Is flights at =
+    let all = ap (λ (fs : List Flown). length fs) at.are ∙ length-append at.before (at.frame ∷ at.behind) in
+    let more : length (at.frame ∷ at.behind) ≡ length at.behind + 1 = omega arith in
+    omega (arith, all, more)
+
+nearer : (a b c left then_left : ℕ) → a + left ≤ b + then_left → b + c ≤ left → a + c ≤ then_left
+nearer a b c left then_left fits few = omega (arith, fits, few)
+
+near : (a b left then_left : ℕ) → a + left ≤ b + then_left → b ≤ left → a ≤ then_left
+near a b left then_left fits few = omega (arith, fits, few)
+
+pub carry_or : (n session left then_left : ℕ) (here next : Phase) (m later : Machine) → (IsAsking here → AsksFor n session m.host.state → 2 ≤ left → Coming n session then_left next later) → Adds m.outside.outer later.outside.outer
+    → Fits n (many_on_air m) here left next then_left → Coming n session left here m → Coming n session then_left next later ⊎ IsThere n session left here m
+carry_or n session left then_left here next m later asks adds fits (Asked asking asked two) = inl (asks asking asked two)
+carry_or n session left then_left here next m later asks adds fits (Sent at few) =
+    let on = stands_on (IsRequest n session) (on_air m.outside.outer.air.frames) (on_air later.outside.outer.air.frames) adds at in
+    let same : length on.0.before ≡ length at.before = ap (λ (fs : List Flown). length fs) on.1 in
+    let fit = fits.joint (length at.before) (stands_within (IsRequest n session) (on_air m.outside.outer.air.frames) at) in
+    let so = nearer (ticks_left n next + one_later next (length at.before)) (ticks_left n here + one_later here (length at.before)) 1 left then_left fit few in
+    inl (Sent on.0 (subst (λ (k : ℕ). ticks_left n next + one_later next k + 1 ≤ then_left) (sym same) so))
+carry_or n session left then_left here next m later asks adds fits (Flies at few) =
+    let on = stands_on (IsReport n session) (on_air m.outside.outer.air.frames) (on_air later.outside.outer.air.frames) adds at in
+    let same : length on.0.before ≡ length at.before = ap (λ (fs : List Flown). length fs) on.1 in
+    let fit = fits.joint (length at.before) (stands_within (IsReport n session) (on_air m.outside.outer.air.frames) at) in
+    let so = near (ticks_left n next + one_later next (length at.before)) (ticks_left n here + one_later here (length at.before)) left then_left fit few in
+    inl (Flies on.0 (subst (λ (k : ℕ). ticks_left n next + one_later next k ≤ then_left) (sym same) so))
+carry_or n session left then_left here next m later asks adds fits (Told payload tells there few) = inr (record { payload = payload; tells = tells; has = there; few = few })
+
+pub carry : (n session left then_left : ℕ) (here next : Phase) (m later : Machine) → (IsAsking here → AsksFor n session m.host.state → 2 ≤ left → Coming n session then_left next later) → Adds m.outside.outer later.outside.outer
+    → ((x : FrameParts) → Has x (unheard m.outside.outer) → Has x (unheard later.outside.outer)) → Fits n (many_on_air m) here left next then_left → Coming n session left here m → Coming n session then_left next later
+carry n session left then_left here next m later asks adds has fits comes = by (carry_or n session left then_left here next m later asks adds fits comes)
+  where
+    by : Coming n session then_left next later ⊎ IsThere n session left here m → Coming n session then_left next later
+    by (inl on) = on
+    by (inr there) = Told there.payload there.tells (has (brings n there.payload) there.has) (near (ticks_left n next) (ticks_left n here) left then_left fits.alone there.few)
+
+-- ---- a frame arrives
+
+abbrev unless_one : Bool → ℕ
+unless_one b = if b then 0 else 1
+
+later_once : (place frames : ℕ) → unless_one (nat_lt (suc place) (suc frames)) ≡ unless_one (nat_lt place frames)
+later_once place frames = by (nat_lt place frames) refl
+  where
+    by : (b : Bool) → nat_lt place frames ≡ b → unless_one (nat_lt (suc place) (suc frames)) ≡ unless_one b
+    by true is = ap unless_one (let so : nat_lt (suc place) (suc frames) ≡ true = grind (arith, nat_tests, is) in so)
+    by false is = ap unless_one (let so : nat_lt (suc place) (suc frames) ≡ false = grind (arith, nat_tests, is) in so)
+
+at_most_one : (b : Bool) → unless_one b ≤ 1
+at_most_one true = omega arith
+at_most_one false = omega arith
+
+module _ (airs : Airs) (m : Machine) (is : Awaits m) (drawn : List ℕ) (route : Option Route) (at : Arrived airs m is drawn route) (given : IsGiven 0 m) (later_given : IsGiven 0 (happens m (Outside_does (Arrives drawn route))))
+    (room : length m.outside.outer.chip.state.port.waiting ≤ 31) (live : IsLive m.outside.outer.air.network at.frame) (n session left frames ticks : ℕ) where
+  abbrev then_there : Machine
+  then_there = happens m (Outside_does (Arrives drawn route))
+
+  abbrev flights_then : List Flown
+  flights_then = on_air then_there.outside.outer.air.frames
+
+  module _ (hears : IsRequest n session at.frame → Stands (IsReport n session) flights_then) where
+    sends : (place : ℕ) → 1 + unless_one (nat_lt place (suc frames)) + 1 ≤ left → IsRequest n session at.frame ⊎ ((on : Stands (IsRequest n session) at.rest) × (place ≡ suc (length on.before))) → Coming n session left (Arriving frames ticks) then_there
+    sends place few (inl request) = let answer = hears request in let one = at_most_one (nat_lt (length answer.before) frames) in Flies answer (omega (arith, few, one))
+    sends place few (inr (on, same)) =
+        let there = stands_on (IsRequest n session) at.rest flights_then at.grows on in
+        let as_far : unless_one (nat_lt (length on.before) frames) ≡ unless_one (nat_lt place (suc frames)) = sym (ap (λ (k : ℕ). unless_one (nat_lt k (suc frames))) same ∙ later_once (length on.before) frames) in
+        Sent there.0
+        (subst (λ (k : ℕ). 1 + unless_one (nat_lt k frames) + 1 ≤ left) (sym (ap (λ (fs : List Flown). length fs) there.1))
+        (subst (λ (k : ℕ). 1 + k + 1 ≤ left) (sym as_far) few))
+
+    flies : (place : ℕ) → 1 + unless_one (nat_lt place (suc frames)) ≤ left → IsReport n session at.frame ⊎ ((on : Stands (IsReport n session) at.rest) × (place ≡ suc (length on.before))) → Coming n session left (Arriving frames ticks) then_there
+    flies place few (inl report) =
+        Told at.frame.payload report.tells
+        (subst (λ (k : ℕ). Has (brings k at.frame.payload) (unheard then_there.outside.outer)) report.node (report_comes m drawn route at.frame at.next report.home live report.tells.some report.tells.few given later_given room)) (omega (arith, few))
+    flies place few (inr (on, same)) =
+        let there = stands_on (IsReport n session) at.rest flights_then at.grows on in
+        let as_far : unless_one (nat_lt (length on.before) frames) ≡ unless_one (nat_lt place (suc frames)) = sym (ap (λ (k : ℕ). unless_one (nat_lt k (suc frames))) same ∙ later_once (length on.before) frames) in
+        Flies there.0
+        (subst (λ (k : ℕ). 1 + unless_one (nat_lt k frames) ≤ left) (sym (ap (λ (fs : List Flown). length fs) there.1))
+        (subst (λ (k : ℕ). 1 + k ≤ left) (sym as_far) few))
+
+    -- it stands at the same place, with the frames as they were
+    stood : (Is : Flown → Type 0) (stands : Stands Is (on_air m.outside.outer.air.frames)) → Is at.frame ⊎ ((on : Stands Is at.rest) × (length stands.before ≡ suc (length on.before)))
+    stood Is stands =
+        stands_next Is at.frame at.rest (record { before = stands.before; frame = stands.frame; behind = stands.behind; are = sym at.were ∙ stands.are; is = stands.is })
+
+    pub arrives_comes : Coming n session left (Arriving (suc frames) ticks) m → Coming n session left (Arriving frames ticks) then_there
+    arrives_comes (Asked asking asked two) = absurd asking
+    arrives_comes (Sent stands few) = sends (length stands.before) few (stood (IsRequest n session) stands)
+    arrives_comes (Flies stands few) = flies (length stands.before) few (stood (IsReport n session) stands)
+    arrives_comes (Told payload tells there few) = Told payload tells (arrives_has (brings n payload) m drawn route given later_given there) few
+
+-- ---- each node ticks once
+
+none_of : (n : ℕ) (test : ℕ → Bool) (first count : ℕ) → n < first → ticks_of n (map Node_ticks (filter test (range_with_len first count))) ≡ 0
+none_of n test first zero less = refl
+none_of n test first (suc count) less = by (test first) (none_of n test (first + 1) count (omega (arith, less)))
+  where
+    apart : (b : Bool) → (first == n) ≡ b → b ≡ false
+    apart true is = absurd (let same = eqb-true first n is in omega (arith, less, same))
+    apart false is = refl
+
+    by : (b : Bool) → ticks_of n (map Node_ticks (filter test (range_with_len (first + 1) count))) ≡ 0 → ticks_of n (map Node_ticks (if b then first ∷ filter test (range_with_len (first + 1) count) else filter test (range_with_len (first + 1) count))) ≡ 0
+    by true none = let no_tick : ◌≡◌ {A = ℕ} (if first == n then 1 else 0) 0 = ap (λ (c : Bool). if c then 1 else 0) (apart (first == n) refl) in omega (arith, no_tick, none)
+    by false none = none
+
+once_of : (n : ℕ) (test : ℕ → Bool) (first count : ℕ) → ticks_of n (map Node_ticks (filter test (range_with_len first count))) ≤ 1
+once_of n test first zero = omega arith
+once_of n test first (suc count) = by (test first) (once_of n test (first + 1) count)
+  where
+    rest : List ℕ
+    rest = filter test (range_with_len (first + 1) count)
+
+    here : (b : Bool) → (first == n) ≡ b → ticks_of n (map Node_ticks (filter test (range_with_len (first + 1) count))) ≤ 1 → (if b then 1 else 0) + ticks_of n (map Node_ticks (filter test (range_with_len (first + 1) count))) ≤ 1
+    here true is once =
+        let same = eqb-true first n is in
+        let none = none_of n test (first + 1) count (omega (arith, same)) in
+        omega (arith, none)
+    here false is once = omega (arith, once)
+
+    by : (b : Bool) → ticks_of n (map Node_ticks (filter test (range_with_len (first + 1) count))) ≤ 1
+        → ticks_of n (map Node_ticks (if b then first ∷ filter test (range_with_len (first + 1) count) else filter test (range_with_len (first + 1) count))) ≤ 1
+    by true once = here (first == n) refl once
+    by false once = once
+
+pub ticks_once : (n : ℕ) (h : HostState) → ticks_of n (tick_events h) ≤ 1
+unfolding ticking_nodes
+ticks_once n h = once_of n (λ k. needs_tick (node_of (after_all h first_ticks) k)) 1 232

@@ -1,0 +1,144 @@
+-- The commands of these nodes go whole and unsealed, as they did; so an attempt gives the message of its session.
+use Rattle.std.proofs.Common.{◌≡◌, ◌⊎◌, ◌≤◌, ℕ, zero, suc, ◌+◌, inl, inr, Bool, true, List, [], ◌∷◌, ◌++◌, refl, sym, ap, ◌∙◌, subst}
+use Rattle.std.specs.Prelude.{Option, Some, None, slice_get}
+use Rattle.std.specs.List.{AllByRecursion}
+use Rattle.zw_base.specs.declared.order.Order.{Order}
+use Rattle.supervision.specs.Host.{begun_of}
+use Rattle.supervision.proofs.OnceLemmas.{All-slice_get}
+use Rattle.host_keep.specs.Kept.{Taken}
+use Rattle.host_orders.specs.Wrapping.{form_of}
+use Rattle.host_orders.specs.declared.carriage.Carriage.{Carriage}
+use Rattle.host_orders.specs.declared.carriage.Form.{Form}
+use Rattle.host_node.specs.declared.attempt.Plan.{Plan}
+use Rattle.chip_sim.specs.Nodes.{is_marked}
+use Rattle.host_model.specs.After.{after}
+use Rattle.host_model.specs.Did.{after_all}
+use Rattle.host_model.specs.Events.{HostEvent, Accepts, Starts}
+use Rattle.host_model.specs.Facts.{HostFacts, IsCommandOf, IsSound}
+use Rattle.host_model.specs.May.{IsStart}
+use Rattle.host_model.specs.Sessions.{message_for, start_by}
+use Rattle.host_model.specs.State.{Command, HostState, command_at, node_of}
+use Rattle.host_model.proofs.Silence.{judged_silent}
+use Rattle.world_model.specs.Events.{Event, Outside_does, Host_does, Host_takes, Decoder_ticks, Refuses, Restarts, Shows_values, happens, May}
+use Rattle.world_model.specs.State.{Machine}
+use Rattle.proof_course_plain.proofs.HostEvents.{open_is, owned}
+use Rattle.proof_course_plain.specs.proof_host.Tables.{taken_at, taken_by}
+use Rattle.proof_spoken.proofs.Orders.{IsNoOrder, SameOrders, event_kept}
+use Rattle.proof_spoken.proofs.Plain.{silent_none}
+use Rattle.proof_calm.specs.Resting.{IsEffect, LineAt}
+use Rattle.proof_calm.specs.proof_work.proof_walk.Phases.{Phase, Said_line, Doing, To_tick, Arriving, Giving, Ticking_devices, Ticking_chip, Ticking_decoder, Ticking_host, Sleeping, Submitting, Moving, Moved, Goes}
+use Rattle.proof_in_time.specs.Coming.{GoWhole, GoesWhole, IsMessage, IsPlainOrder, IsPlainStart, IsPlainly}
+
+-- ---- they are kept
+
+goes_as : (order with_order : Order) (carriage with_carriage : Carriage) → order ≡ with_order → carriage ≡ with_carriage → GoesWhole order carriage → GoesWhole with_order with_carriage
+goes_as order with_order carriage with_carriage is same goes = record { plain = ap (λ (c : Carriage). form_of c.outer) (sym same) ∙ goes.plain; end = subst (λ (o : Order). o.end ≤ 127) is goes.end }
+
+same_whole : (these : List Bool) (old new : List Command) → SameOrders old new → GoWhole these old → GoWhole these new
+same_whole these old new same go number command found marked = by (command_at old number) refl
+  where
+    taken : taken_at new number ≡ Some (record { order = command.order; carriage = command.carriage })
+    taken = ap taken_by found
+
+    by : (was : Option Command) → command_at old number ≡ was → GoesWhole command.order command.carriage
+    by None is = absurd (let wrong : taken_by None ≡ Some (record { order = command.order; carriage = command.carriage }) = sym (same.taken number ∙ ap taken_by is) ∙ taken in cc)
+    by (Some before) is =
+        let both : taken_by (Some before) ≡ Some (record { order = command.order; carriage = command.carriage }) = sym (same.taken number ∙ ap taken_by is) ∙ taken in
+        let one : ◌≡◌ {A = Taken} (record { order = before.order; carriage = before.carriage }) (record { order = command.order; carriage = command.carriage }) = cc in
+        let order : before.order ≡ command.order = ap (λ (t : Taken). t.order) one in
+        let carriage : before.carriage ≡ command.carriage = ap (λ (t : Taken). t.carriage) one in
+        goes_as before.order command.order before.carriage command.carriage order carriage (go number before is (ap (λ (o : Order). is_marked these o.node) order ∙ marked))
+
+pushed : (commands : List Command) (one : Command) (place : ℕ) (command : Command) → slice_get (commands ++ one ∷ []) place ≡ Some command → (slice_get commands place ≡ Some command) ⊎ (one ≡ command)
+pushed [] one zero command found = inr cc
+pushed [] one (suc place) command found = absurd cc
+pushed (first ∷ commands) one zero command found = inl found
+pushed (first ∷ commands) one (suc place) command found = pushed commands one place command found
+
+more_whole : (these : List Bool) (commands : List Command) (one : Command) → (is_marked these one.order.node ≡ true → GoesWhole one.order one.carriage) → GoWhole these commands → GoWhole these (commands ++ one ∷ [])
+more_whole these commands one new go zero command found marked = absurd cc
+more_whole these commands one new go (suc place) command found marked = by (pushed commands one place command found)
+  where
+    by : (slice_get commands place ≡ Some command) ⊎ (one ≡ command) → GoesWhole command.order command.carriage
+    by (inl was) = go (suc place) command was marked
+    by (inr is) =
+        let order : one.order ≡ command.order = ap (λ (c : Command). c.order) is in
+        let carriage : one.carriage ≡ command.carriage = ap (λ (c : Command). c.carriage) is in
+        goes_as one.order command.order one.carriage command.carriage order carriage (new (ap (λ (o : Order). is_marked these o.node) order ∙ marked))
+
+event_whole : (these : List Bool) (h : HostState) (event : HostEvent) → IsPlainOrder these event → GoWhole these h.commands → GoWhole these (after h event).commands
+event_whole these h (Accepts order carriage) plain go = more_whole these h.commands _ plain go
+event_whole these h event plain go = same_whole these h.commands (after h event).commands (event_kept h event tt) go
+
+events_whole : (these : List Bool) (h : HostState) (events : List HostEvent) → AllByRecursion IsNoOrder events → GoWhole these h.commands → GoWhole these (after_all h events).commands
+events_whole these h [] no_order go = go
+events_whole these h (event ∷ events) no_order go = events_whole these (after h event) events no_order.1 (same_whole these h.commands (after h event).commands (event_kept h event no_order.0) go)
+
+-- ---- the host does not start again
+
+abbrev IsSteady : Event → Type 0
+IsSteady (Restarts state) = ⊥
+IsSteady event = Unit {0}
+
+steady_as : (event is : Event) → event ≡ is → IsSteady is → IsSteady event
+steady_as event is same steady = subst IsSteady (sym same) steady
+
+effect_steady : (event : Event) → IsEffect event → IsSteady event
+effect_steady (Restarts state) is = absurd is
+effect_steady event is = tt
+
+steady_of : (here next : Phase) (m : Machine) (event : Event) → Goes here m event next → LineAt here m → IsSteady event
+steady_of (Said_line line) next m event (is, to) at = steady_as event _ is tt
+steady_of (Doing line (first ∷ left)) next m event (is, to) at = steady_as event first is (effect_steady first at.0.0)
+steady_of (To_tick (suc ticks)) next m event (is, to) at = steady_as event _ is tt
+steady_of (Arriving (suc frames) ticks) next m event (drawn, route, is, to) at = steady_as event _ is tt
+steady_of (Giving (suc results) ticks) next m event (route, is, to) at = steady_as event _ is tt
+steady_of (Ticking_devices place (suc count) ticks) next m event (drawn, route, is, to) at = steady_as event _ is tt
+steady_of (Ticking_chip ticks) next m event (is, to) at = steady_as event _ is tt
+steady_of (Ticking_decoder ticks) next m event (is, to) at = steady_as event _ is tt
+steady_of (Ticking_host (first ∷ events) ticks) next m event (is, to) at = steady_as event _ is tt
+steady_of (Sleeping passes ticks) next m event (node, wants, is, to) at = steady_as event _ is tt
+steady_of (Submitting passes ticks) next m event (asked, next_is, is, to) at = steady_as event _ is tt
+steady_of (Moving passes ticks) next m event (rest, ways, is, to) at = steady_as event _ is tt
+steady_of (Moved b passes ticks) next m event (rest, items, done, is, to) at = steady_as event _ is tt
+steady_of here next m event goes at = absurd goes
+
+machine_whole : (these : List Bool) (m : Machine) (event : Event) → IsSteady event → May m event → IsPlainly these m event → GoWhole these m.host.state.commands → GoWhole these (happens m event).host.state.commands
+unfolding happens May
+machine_whole these m (Outside_does event) steady may plainly go = go
+machine_whole these m (Host_does event) steady may plainly go = event_whole these m.host.state event plainly go
+machine_whole these m (Host_takes count rest items events) steady may plainly go = events_whole these m.host.state events (silent_none m.host.state events (judged_silent m.host.state items events may.judged)) go
+machine_whole these m Decoder_ticks steady may plainly go = go
+machine_whole these m (Refuses line refusal) steady may plainly go = go
+machine_whole these m (Shows_values node) steady may plainly go = go
+machine_whole these m (Restarts state) steady may plainly go = absurd steady
+
+pub on_whole : (these : List Bool) (here next : Phase) (m : Machine) (event : Event) → Goes here m event next → LineAt here m → May m event → IsPlainly these m event → GoWhole these m.host.state.commands
+    → GoWhole these (happens m event).host.state.commands
+on_whole these here next m event goes at may plainly go = machine_whole these m event (steady_of here next m event goes at) may plainly go
+
+-- ---- what an attempt gives
+
+sound_at : (h : HostState) → HostFacts h → (number : ℕ) (command : Command) → command_at h.commands number ≡ Some command → IsSound h.store command
+sound_at h facts zero command found = absurd cc
+sound_at h facts (suc place) command found = All-slice_get (IsSound h.store) h.commands place command facts.commands found
+
+gives_message : (these : List Bool) (h : HostState) (n : ℕ) (plan : Plan) (more : Bool) (payload : List ℕ) → HostFacts h → GoWhole these h.commands → IsStart h n plan more payload → is_marked these n ≡ true → IsMessage (begun_of (node_of h n).book) payload
+gives_message these h n plan more payload facts go start marked =
+    let own : IsCommandOf h.commands n start.carried.0 = owned h.commands n (node_of h n).book.commands start.session start.carried.0 (facts.owns n).sessions start.carried.1 in
+    let same : own.command ≡ start.command = let both : Some own.command ≡ Some start.command = sym own.found ∙ start.carried.2 in cc in
+    let node : start.command.order.node ≡ n = ap (λ (c : Command). c.order.node) (sym same) ∙ own.node in
+    let goes : GoesWhole start.command.order start.command.carriage = go start.carried.0 start.command start.carried.2 (ap (is_marked these) node ∙ marked) in
+    let begun : start.session ≡ begun_of (node_of h n).book = (open_is (node_of h n).book start.session start.opened).0 in
+    record {
+      carriage = start.command.carriage;
+      order = start.command.order;
+      fit = (sound_at h facts start.carried.0 start.command start.carried.2).fit;
+      end = goes.end;
+      is = start.payload_is ∙ (ap (λ (form : Form). (start_by form start.session (message_for start.command start.session)).payload) goes.plain ∙ ap (message_for start.command) begun);
+    }
+
+pub plain_start : (these : List Bool) (m : Machine) (event : HostEvent) → May m (Host_does event) → HostFacts m.host.state → GoWhole these m.host.state.commands → IsPlainStart these m.host.state event
+unfolding May
+plain_start these m (Starts n plan more payload) may facts go = gives_message these m.host.state n plan more payload facts go may.0.1
+plain_start these m event may facts go = tt

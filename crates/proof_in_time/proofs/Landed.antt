@@ -1,0 +1,223 @@
+-- What a frame that arrives brings: a report to the chip, and a message to a device, whose answer goes on the air.
+use Rattle.std.proofs.Common.{◌≡◌, ◌≤◌, ◌<◌, ℕ, ◌+◌, ◌-◌, ◌==◌, ◌&&◌, nat_le, nat_lt, inl, inr, Bool, true, false, if◌then◌else◌, List, [], ◌∷◌, ◌++◌, length, refl, sym, ap, ◌∙◌, subst, arith}
+use Rattle.std.proofs.lemmas.Bool.Decides.{nat_tests}
+use Rattle.std.specs.Prelude.{◌⊎◌, ◌||◌, Option, Some, None, option_map, slice_get}
+use Rattle.std.specs.Option.{is_none, unwrap_or}
+use Rattle.serial_frame.specs.Frame.{FrameParts}
+use Rattle.route_table.specs.declared.route.Route.{Route}
+use Rattle.chip_functions.specs.declared.notice.Notice.TheVariants.{ApplicationUpdate}
+use Rattle.chip_functions.specs.declared.notice.TransmitStatus.{TransmitStatus}
+use Rattle.chip_sim.specs.Answers.{notice_frame}
+use Rattle.chip_sim.specs.Events.{ChipEvent, Done, Heard as chip_hears, Informed, after, ended, update_of}
+use Rattle.chip_sim.specs.Requests.{callback_frame}
+use Rattle.chip_sim.specs.State.{ChipState}
+use Rattle.chip_sim.specs.Waiting.{is_full, queued}
+use Rattle.chip_sim.specs.declared.out.Sending.{Sending}
+use Rattle.air_frames.specs.Flown.{Flown}
+use Rattle.air_frames.specs.Frames.{next_of}
+use Rattle.air_frames.specs.History.{Goes as goes_mark}
+use Rattle.air_frames.specs.declared.frame.Departure.{Departure}
+use Rattle.air_frames.specs.declared.frame.Heading.{Heading}
+use Rattle.air_frames.specs.declared.frame.Heading.TheVariants.{Homeward}
+use Rattle.device_sim.specs.Event.{Hears, device_replies}
+use Rattle.device_sim.specs.State.{State}
+use Rattle.mesh_sim.specs.Air.{AirState, departing, is_joined, no_route}
+use Rattle.mesh_sim.specs.Fates.{Mesh, dead_hop_of, fate_by, fate_of, listener_of}
+use Rattle.mesh_sim.specs.Routes.{backwards}
+use Rattle.mesh_sim.specs.Steps.{acknowledged, answered, answered_if, arrival_outs, arrival_outs_as, arriving, arriving_as, heard_at, landed, mesh_after, mesh_outs}
+use Rattle.mesh_sim.specs.Steps as mesh
+use Rattle.mesh_sim.specs.declared.event.AirEvent.{AirEvent}
+use Rattle.mesh_sim.specs.declared.event.AirEvent.TheVariants as air_event
+use Rattle.mesh_sim.specs.declared.fate.Fate.{Fate}
+use Rattle.mesh_sim.specs.declared.fate.Fate.TheVariants.{Lost, AtChip, AtDevice}
+use Rattle.outside_model.specs.Air.{deals, to_chip}
+use Rattle.outside_model.specs.Chip.{chip_does}
+use Rattle.outside_model.specs.Results.{frame_ends}
+use Rattle.outside_model.specs.State.{OuterState, Outside, Outcome, each, silent}
+use Rattle.outside_model.specs.Events.{Arrives, mesh_of, outcome, happens as happens_outside}
+use Rattle.world_model.specs.Events.{Outside_does, happens}
+use Rattle.world_model.specs.State.{Machine}
+use Rattle.proof_calm.specs.proof_traffic.Flights.{Fly, flown_now}
+use Rattle.proof_calm.specs.proof_traffic.OnAir.{on_air}
+use Rattle.proof_calm.specs.Awaited.{Awaits}
+use Rattle.proof_calm.specs.Live.{IsLive}
+use Rattle.proof_calm.specs.Resting.{IsGiven}
+use Rattle.proof_calm.specs.Tied.{unheard}
+use Rattle.proof_calm.proofs.ChipNotices.{arrived_air}
+use Rattle.proof_calm.proofs.Flights.{flights_are}
+use Rattle.proof_calm.proofs.Pending.{IsServed, has_room, has_served, line_more, line_of}
+use Rattle.proof_calm.proofs.Results.{Calls, IsResult, end_goes}
+use Rattle.proof_calm.proofs.Times.{does_chip}
+use Rattle.proof_calm.proofs.proof_traffic_Parts.{Airs}
+use Rattle.proof_answered.proofs.Unheard.{IsPiled, chip_is, given_says, of_port, on_port}
+use Rattle.proof_in_time.specs.Coming.{Has, IsReport, Stands, TellsEnd, brings}
+use Rattle.proof_in_time.proofs.Grown.{Arrived}
+
+-- ---- one of the frames that the chip has for the host
+
+pub has_before : (x : FrameParts) (a b : List FrameParts) → Has x a → Has x (a ++ b)
+has_before x [] b has = absurd has
+has_before x (frame ∷ a) b (inl is) = inl is
+has_before x (frame ∷ a) b (inr has) = inr (has_before x a b has)
+
+pub has_last : (x : FrameParts) (a : List FrameParts) → Has x (a ++ x ∷ [])
+has_last x [] = inl refl
+has_last x (frame ∷ a) = inr (has_last x a)
+
+pub has_either : (x : FrameParts) (a b : List FrameParts) → Has x (a ++ b) → Has x a ⊎ Has x b
+has_either x [] b has = inr has
+has_either x (frame ∷ a) b (inl is) = inl (inl is)
+has_either x (frame ∷ a) b (inr has) = by (has_either x a b has)
+  where
+    by : Has x a ⊎ Has x b → Has x (frame ∷ a) ⊎ Has x b
+    by (inl there) = inl (inr there)
+    by (inr there) = inr there
+
+abbrev pub Any : FrameParts → Type 0
+Any frame = Unit {0}
+
+pub has_piled : (x : FrameParts) → IsPiled Any (Has x)
+has_piled x = record { first = λ frame frames is has. inr has; last = λ frames frame has is. has_before x frames (frame ∷ []) has }
+
+-- ---- the chip is given something
+
+module _ (x : FrameParts) where
+  abbrev pub PortHas : ChipState → Type 0
+  PortHas s = Has x (line_of s.port)
+
+  given_has : (s : ChipState) (frame : FrameParts) → PortHas s → PortHas (record s { port = queued s.port frame })
+  given_has s frame has = given_says Any (Has x) (has_piled x) s frame has tt
+
+  ended_has : (s : ChipState) (sending : Option Sending) (status : TransmitStatus) → PortHas s → PortHas (ended sending s status)
+  ended_has s None status has = has
+  ended_has s (Some sent) status has = given_has s (callback_frame sent status) has
+
+  result_has : (s : ChipState) (event : ChipEvent) → IsResult event → PortHas s → PortHas (after s event)
+  result_has s (Informed n profile) result has = given_has s (notice_frame (ApplicationUpdate (update_of n profile))) has
+  result_has s (Done status) result has = by (s.aborted == 0)
+    where
+      by : (b : Bool) → PortHas (if b then ended s.sending s status else record s { aborted = s.aborted - 1 })
+      by true = ended_has s s.sending status has
+      by false = has
+  result_has s event result has = absurd result
+
+  abbrev Leaves : OuterState → Outcome → Type 0
+  Leaves o y = PortHas o.chip.state → PortHas y.outer.chip.state
+
+  calls : Calls Leaves
+  calls = record {
+    still = λ o p is has. subst PortHas (sym is.chip) has;
+    both = λ o first next one later has. later first.outer (one has);
+    later = λ o p y is goes has. goes (subst PortHas (sym is.chip) has);
+    result = λ o event is has. subst PortHas (sym (does_chip o event)) (result_has o.chip.state event is has);
+  }
+
+  ends_have : (o : OuterState) (status : ℕ) (dead : Option (ℕ × ℕ)) → Leaves o (frame_ends o status dead)
+  ends_have = end_goes Leaves calls (λ o a b has. has)
+
+  comes_has : (o : OuterState) (from : ℕ) (payload : List ℕ) → Leaves o (to_chip o from payload)
+  comes_has o from payload has = by (nat_le 1 (length payload) && nat_le (length payload) 46)
+    where
+      by : (b : Bool) → PortHas (if b then chip_does o (chip_hears from payload) else silent o).outer.chip.state
+      by true = subst PortHas (sym (does_chip o (chip_hears from payload))) (given_has o.chip.state (brings from payload) has)
+      by false = has
+
+  deals_have : (devices : List State) (o : OuterState) (event : AirEvent) → Leaves o (deals devices o event)
+  deals_have devices o (air_event.ToChip frame from payload) has = comes_has o from payload has
+  deals_have devices o (air_event.Done frame status dead) has = ends_have o status dead has
+  deals_have devices o (air_event.Heard frame) has = has
+  deals_have devices o (air_event.Lost frame) has = has
+  deals_have devices o (air_event.Unheard frame) has = has
+  deals_have devices o (air_event.Sent frame from to route payload) has = has
+  deals_have devices o (air_event.Changed node at) has = has
+
+  all_have : (devices : List State) (o : OuterState) (events : List AirEvent) → PortHas o.chip.state → PortHas (each (deals devices) o events).outer.chip.state
+  all_have devices o [] has = has
+  all_have devices o (event ∷ events) has = all_have devices (deals devices o event).outer events (deals_have devices o event has)
+
+  arrival_has : (w : Outside) (drawn : List ℕ) (route : Option Route) → PortHas w.outer.chip.state → PortHas (outcome w (Arrives drawn route)).outer.chip.state
+  unfolding outcome
+  arrival_has w drawn route has =
+      all_have (mesh_after (mesh_of w) (mesh.Arrives drawn route)).devices (record w.outer { air = (mesh_after (mesh_of w) (mesh.Arrives drawn route)).air }) (mesh_outs (mesh_of w) (mesh.Arrives drawn route)) has
+
+  -- what it has stays there as a frame arrives
+  pub arrives_has : (m : Machine) (drawn : List ℕ) (route : Option Route) → IsGiven 0 m → IsGiven 0 (happens m (Outside_does (Arrives drawn route))) → Has x (unheard m.outside.outer)
+      → Has x (unheard (happens m (Outside_does (Arrives drawn route))).outside.outer)
+  arrives_has m drawn route given later has =
+      of_port Any (Has x) (has_piled x) 0 (happens m (Outside_does (Arrives drawn route))).outside.outer later.has
+      (subst PortHas (sym (chip_is Any (Has x) (has_piled x) m (Arrives drawn route))) (arrival_has m.outside drawn route (on_port Any (Has x) (has_piled x) 0 m.outside.outer given.has has)))
+
+-- ---- a report arrives
+
+home_so : (lost : Bool) (dead : Option (ℕ × ℕ)) (heading : Heading) (listener : Option ℕ) → lost ≡ false → dead ≡ None → heading ≡ Homeward → (if lost then Lost else fate_by dead heading listener) ≡ AtChip
+home_so lost dead heading listener kept live home = rw kept (rw live (rw home refl))
+
+short_fits : (payload : List ℕ) → 1 ≤ length payload → length payload ≤ 46 → (nat_le 1 (length payload) && nat_le (length payload) 46) ≡ true
+short_fits payload some few = both (nat_le 1 (length payload)) (nat_le (length payload) 46) (grind (arith, nat_tests)) (grind (arith, nat_tests))
+  where
+    both : (a b : Bool) → a ≡ true → b ≡ true → (a && b) ≡ true
+    both a b one two = rw (one, two) refl
+
+chip_has : (o : OuterState) (from : ℕ) (payload : List ℕ) → 1 ≤ length payload → length payload ≤ 46 → IsServed o.chip.state.port → is_full o.chip.state.port.waiting ≡ false → PortHas (brings from payload) (to_chip o from payload).outer.chip.state
+chip_has o from payload some few served room =
+    subst (λ (b : Bool). PortHas (brings from payload) (if b then chip_does o (chip_hears from payload) else silent o).outer.chip.state) (sym (short_fits payload some few))
+    (subst (PortHas (brings from payload)) (sym (does_chip o (chip_hears from payload)))
+    (subst (Has (brings from payload)) (sym (line_more o.chip.state.port (brings from payload) served room)) (has_last (brings from payload) (line_of o.chip.state.port))))
+
+home_has : (w : Outside) (drawn : List ℕ) (route : Option Route) (frame : Flown) → next_of w.outer.air.frames ≡ Some frame → frame.heading ≡ Homeward → IsLive w.outer.air.network frame → 1 ≤ length frame.payload → length frame.payload ≤ 46
+    → IsServed w.outer.chip.state.port → is_full w.outer.chip.state.port.waiting ≡ false → PortHas (brings frame.node frame.payload) (outcome w (Arrives drawn route)).outer.chip.state
+unfolding outcome mesh_outs
+home_has w drawn route frame next home live some few served room =
+    subst (λ (f : Option Flown). PortHas (brings frame.node frame.payload) (each (deals later.devices) o (arrival_outs (mesh_of w) f drawn route)).outer.chip.state) (sym next)
+    (subst (λ (fate : Fate). PortHas (brings frame.node frame.payload) (each (deals later.devices) o (arrival_outs_as (mesh_of w) (w.outer.air.frames.landed + 1) frame fate drawn route)).outer.chip.state)
+    (sym (home_so frame.lost (dead_hop_of w.outer.air.network frame) frame.heading (listener_of frame.node w.devices) live.0 live.1 home)) (chip_has o frame.node frame.payload some few served room))
+  where
+    later : Mesh
+    later = mesh_after (mesh_of w) (mesh.Arrives drawn route)
+
+    o : OuterState
+    o = record w.outer { air = later.air }
+
+pub report_comes : (m : Machine) (drawn : List ℕ) (route : Option Route) (frame : Flown) → next_of m.outside.outer.air.frames ≡ Some frame → frame.heading ≡ Homeward → IsLive m.outside.outer.air.network frame → 1 ≤ length frame.payload
+    → length frame.payload ≤ 46 → IsGiven 0 m → IsGiven 0 (happens m (Outside_does (Arrives drawn route))) → length m.outside.outer.chip.state.port.waiting ≤ 31
+    → Has (brings frame.node frame.payload) (unheard (happens m (Outside_does (Arrives drawn route))).outside.outer)
+report_comes m drawn route frame next home live some few given later room =
+    let x : FrameParts = brings frame.node frame.payload in
+    of_port Any (Has x) (has_piled x) 0 (happens m (Outside_does (Arrives drawn route))).outside.outer later.has
+    (subst (PortHas x) (sym (chip_is Any (Has x) (has_piled x) m (Arrives drawn route)))
+    (home_has m.outside drawn route frame next home live some few (has_served 0 m.outside.outer given.has) (has_room m.outside.outer.chip.state.port.waiting room)))
+
+-- ---- a message arrives
+
+reply_air : (w : Outside) (drawn : List ℕ) (route : Option Route) (frame : Flown) (place : ℕ) (device : State) (reply : List ℕ) → next_of w.outer.air.frames ≡ Some frame → fate_of w.outer.air.network w.devices frame ≡ AtDevice place
+    → slice_get w.devices place ≡ Some device → is_joined w.outer.air frame.node ≡ true → device_replies device (Hears frame.payload drawn) ≡ reply ∷ []
+    → (happens_outside w (Arrives drawn route)).outer.air ≡ departing (landed (acknowledged w.outer.air)) frame.node Homeward (option_map backwards route) reply
+unfolding mesh_after
+reply_air w drawn route frame place device reply next fate there joined replies =
+    let at : Mesh = mesh_of w in
+    let a : AirState = landed (acknowledged w.outer.air) in
+    arrived_air w drawn route ∙ (ap (λ (f : Option Flown). (arriving at f drawn route).air) next ∙ (ap (λ (x : Fate). (arriving_as at frame x drawn route).air) fate
+    ∙ (ap (λ (d : Option State). (heard_at (record at { air = a }) place d frame.node route (Hears frame.payload drawn)).air) there
+    ∙ (ap (λ (b : Bool). answered_if b a frame.node (option_map backwards route) (device_replies device (Hears frame.payload drawn))) joined
+    ∙ ap (λ (rs : List (List ℕ)). answered a frame.node (option_map backwards route) rs) replies))))
+
+-- its answer is the last of the frames on the air
+pub answer_flies : (airs : Airs) (m : Machine) (is : Awaits m) (drawn : List ℕ) (route : Option Route) (at : Arrived airs m is drawn route) (session place : ℕ) (device : State) (reply : List ℕ)
+    → fate_of m.outside.outer.air.network m.outside.devices at.frame ≡ AtDevice place → slice_get m.outside.devices place ≡ Some device → is_joined m.outside.outer.air at.frame.node ≡ true → at.frame.node < 233
+    → device_replies device (Hears at.frame.payload drawn) ≡ reply ∷ [] → TellsEnd session reply
+    → Stands (IsReport at.frame.node session) (on_air (happens m (Outside_does (Arrives drawn route))).outside.outer.air.frames)
+unfolding happens
+answer_flies airs m is drawn route at session place device reply fate there joined within replies tells =
+    let a : AirState = landed (acknowledged m.outside.outer.air) in
+    let way : Option Route = option_map backwards route in
+    let d : Departure = record { node = at.frame.node; heading = Homeward; route = unwrap_or way no_route; lost = nat_lt 0 a.losing || is_none way; payload = reply } in
+    let flown : Fly (is.log ++ goes_mark d ∷ []) (at.rest ++ flown_now is.log d ∷ []) (departing a at.frame.node Homeward way reply).frames =
+    airs.goes is.log at.rest a.frames d within (airs.lands is.log at.frame at.rest m.outside.outer.air.frames at.fly_there) in
+    let air_is = reply_air m.outside drawn route at.frame place device reply at.next fate there joined replies in
+    record {
+      before = at.rest;
+      frame = flown_now is.log d;
+      behind = [];
+      are = ap (λ (air : AirState). on_air air.frames) air_is ∙ sym (flights_are (is.log ++ goes_mark d ∷ []) (at.rest ++ flown_now is.log d ∷ []) (departing a at.frame.node Homeward way reply).frames flown);
+      is = record { node = refl; home = refl; tells = tells };
+    }

@@ -1,0 +1,14 @@
+mod Levels
+mod Answered
+mod Reported
+mod NodeWaits
+mod Grown
+mod Landed
+mod JudgedWaits
+mod Carried
+mod Bounded
+mod Settled
+mod Aired
+mod Commands
+mod Keeping
+mod Lasting
