@@ -9,3 +9,4 @@ mod HostEnds
 mod Hearing
 mod Acks
 mod TickNotes
+mod Informing
