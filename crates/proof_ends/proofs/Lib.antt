@@ -1,6 +1,12 @@
 mod Standing
-mod Noting
-mod Walking
+pub mod Noting
+pub mod Walking
 mod Readings
 pub use Rattle.proof_rests.proofs.Times
 pub use Rattle.proof_rests.proofs.HostNotes
+pub use Rattle.proof_rests.proofs.EndsDone
+pub use Rattle.proof_rests.proofs.EndsHere
+pub use Rattle.proof_rests.proofs.Interviews
+pub use Rattle.proof_rests.proofs.EndsTold
+pub use Rattle.proof_rests.proofs.Stepping
+pub use Rattle.proof_rests.proofs.KeptAwake

@@ -55,23 +55,14 @@ use Rattle.proof_rests.specs.proof_attempts.Carried.{CarriesWell, nodes_of}
 use Rattle.proof_rests.proofs.Opening.{OpenLast, last_is, open_last}
 use Rattle.proof_rests.proofs.Releasing.{opens}
 use Rattle.proof_rests.proofs.Sleeping.{EndSo, attempt_so, tick_so}
-use Rattle.proof_ends.specs.Ends.{AnswerNotes, DoneNotes, EndNotes, GivesUp, NotesNothing, node_asked, nodes_asked, owes_end, tells_end}
+use Rattle.proof_ends.specs.Ends.{AnswerNotes, DoneNotes, EndNotes, GivesUp, NotesNothing, errands_of, node_asked, nodes_asked, owes_end, seconds_of, tells_end}
 
 -- ---- what a request is, by its purpose
 
--- the nodes to which it carries a Set or Get by itself, and whose information it asks for
-abbrev errands_of : Purpose → List ℕ
-errands_of (Housekeeping (Plain n payload)) = n ∷ []
-errands_of purpose = []
-
-abbrev seconds_of : Purpose → List ℕ
-seconds_of (Housekeeping (Second n)) = n ∷ []
-seconds_of purpose = []
-
-abbrev asked_by : List Request → List ℕ
+abbrev pub asked_by : List Request → List ℕ
 asked_by requests = flat_map node_asked (flat_map sending_of requests)
 
-purpose_asks : (p : Purpose) (id : ℕ) → CarriesSo p → asked_by (request_of p id ∷ []) ≡ errands_of p
+pub purpose_asks : (p : Purpose) (id : ℕ) → CarriesSo p → asked_by (request_of p id ∷ []) ≡ errands_of p
 purpose_asks (Housekeeping (Plain n payload)) id carries = ap (λ (b : Bool). (if b then n ∷ [] else []) ++ []) carries
 purpose_asks (Housekeeping (Segment n payload)) id carries = ap (λ (b : Bool). (if b then n ∷ [] else []) ++ []) carries
 purpose_asks (Attempt n more payload) id carries = ap (λ (b : Bool). (if b then n ∷ [] else []) ++ []) carries
@@ -80,7 +71,7 @@ purpose_asks (Housekeeping (NoMore n)) id carries = refl
 purpose_asks (Housekeeping task) id carries = refl
 purpose_asks Abort id carries = refl
 
-purpose_interviews : (p : Purpose) (id : ℕ) → node_interviewed (request_of p id ∷ []) ≡ seconds_of p
+pub purpose_interviews : (p : Purpose) (id : ℕ) → node_interviewed (request_of p id ∷ []) ≡ seconds_of p
 purpose_interviews (Housekeeping (Second n)) id = refl
 purpose_interviews (Housekeeping task) id = refl
 purpose_interviews (Attempt n more payload) id = refl
@@ -133,7 +124,7 @@ pub second_of : (a b : Bool) → (a && b) ≡ true → b ≡ true
 second_of true b is = is
 second_of false b is = absurd (let bad : false ≡ true = is in cc)
 
-answered_ends : (past : List Entry) → is_answered_here past ≡ true → is_ending_here past ≡ true
+pub answered_ends : (past : List Entry) → is_answered_here past ≡ true → is_ending_here past ≡ true
 answered_ends past is = second_of _ (is_ending_here past) is
 
 -- in which ways it ends outside of a tick, and in one
@@ -177,7 +168,7 @@ none_any past none =
     and_right (calls_back 0 (request_last past) (notices_here past)) (is_ending_here past)
     (and_right (is_following past) (list_any (λ one. one.place == acknowledged past) (ending (asked past))) (ap (λ (l : List Judging). list_any (λ one. one.place == acknowledged past) l) none))
 
-silent_none : (past : List Entry) → is_silent past ≡ true → ending (asked past) ≡ []
+pub silent_none : (past : List Entry) → is_silent past ≡ true → ending (asked past) ≡ []
 silent_none past is = by (are_none (ending (asked past))) refl is
   where
     waits : List ℕ
@@ -187,7 +178,7 @@ silent_none past is = by (are_none (ending (asked past))) refl is
     by true none is = none_list (ending (asked past)) none
     by false none is = absurd (let bad : false ≡ true = is in cc)
 
-given_none : (past : List Entry) → is_given_up past ≡ true → ending (asked past) ≡ []
+pub given_none : (past : List Entry) → is_given_up past ≡ true → ending (asked past) ≡ []
 given_none past is = by (are_none (ending (asked past))) refl is
   where
     gone : Bool → List ℕ
@@ -241,7 +232,7 @@ here_short past = by (is_following past)
     by true = last_short (judged past)
     by false = inl refl
 
-answered_none : (past : List Entry) → is_answered_here past ≡ true → notices_here past ≡ []
+pub answered_none : (past : List Entry) → is_answered_here past ≡ true → notices_here past ≡ []
 answered_none past is = by (judged_here past) (here_short past) (first_of (list_any (is_response_to (asked past).frame) (judged_here past)) (is_ending_here past) is)
   where
     first_of : (a b : Bool) → (a && b) ≡ true → a ≡ true
@@ -268,7 +259,7 @@ no_notice past request is none =
     by (requests.SendData node payload options id) = refl
     by request = refl
 
-badly : (past : List Entry) (id n : ℕ) (more : Bool) (payload : List ℕ) (how : How) → part_end more how ≡ Bad → EndsHere past id (Attempt n more payload) how → is_called_back 0 past ≡ false
+pub badly : (past : List Entry) (id n : ℕ) (more : Bool) (payload : List ℕ) (how : How) → part_end more how ≡ Bad → EndsHere past id (Attempt n more payload) how → is_called_back 0 past ≡ false
 badly past id n more payload (AtCallback status) bad e =
     and_left (calls_back 0 (request_last past) (notices_here past)) (is_ending_here past)
     (ap₂ (λ (q : List Request) (l : List Notice). calls_back 0 q l) e.request e.so.1 ∙ and_right (id == id) (status_code status == 0) (by status bad))
@@ -294,7 +285,7 @@ pub record NodesSo (past : List Entry) (g : HostState) : Type 0 where
   pub sleeper : (n : ℕ) → IsNode n → is_awake_sleeper n past ≡ falls_asleep (node_of g n)
   pub opened : (n : ℕ) → is_open n past ≡ has_open (node_of g n)
 
-asleep_is : (b : Bool) (n : ℕ) → asleep_entry b n ≡ (if b then entry.Asleep n ∷ [] else [])
+pub asleep_is : (b : Bool) (n : ℕ) → asleep_entry b n ≡ (if b then entry.Asleep n ∷ [] else [])
 asleep_is true n = refl
 asleep_is false n = refl
 

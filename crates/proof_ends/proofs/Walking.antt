@@ -330,7 +330,7 @@ module _ (past : List Entry) (words : List ℕ) (over : Bool) (reads : Reads ove
 -- ---- a request may end
 
 -- what is under way after it
-next_way : (h : HostState) (next : UnderWay → Next) (o : Option UnderWay) → h.requests.under_way ≡ o → (next_from h.requests next o).under_way ≡ (doing_from (doing_of h) next o).under_way
+pub next_way : (h : HostState) (next : UnderWay → Next) (o : Option UnderWay) → h.requests.under_way ≡ o → (next_from h.requests next o).under_way ≡ (doing_from (doing_of h) next o).under_way
 next_way h next None is = is
 next_way h next (Some u) is = by (next u)
   where
@@ -338,7 +338,7 @@ next_way h next (Some u) is = by (next u)
     by (GoesOn progress) = refl
     by (ends_with how) = refl
 
-event_way : (h : HostState) (event : RequestsEvent) (moment : Moment) (next : UnderWay → Next) → (requests_do h event).requests ≡ next_from h.requests next h.requests.under_way
+pub event_way : (h : HostState) (event : RequestsEvent) (moment : Moment) (next : UnderWay → Next) → (requests_do h event).requests ≡ next_from h.requests next h.requests.under_way
     → (after h (Requests_do event moment)).requests.under_way ≡ (doing_after (doing_of h) next).under_way
 event_way h event moment next is =
     ap (λ (p : Side × RequestsState). p.1.under_way) (end_if_asks (requests_do h event) (end_at h.requests event) moment) ∙ ap (λ (s : RequestsState). s.under_way) is
@@ -442,7 +442,7 @@ module _ (here : Phase) (past : List Entry) (m : HostMachine) (ground : KnowsSle
         ap₂ (λ (a b : Bool). a && not b) (sym (rest_of CountsAwake here past m other telling.0.0.1 n from to)) (telling.0.0.0.1 n to)
         ∙ ap (λ (b : Bool). (node_of m.state n).awake && b) (not_is (node_of m.state n).listens)
 
-    nodes_so : ShowsOpen → NodesSo past m.state
+    pub nodes_so : ShowsOpen → NodesSo past m.state
     nodes_so shows = record {
       begun = λ n. facts_of.begun n;
       facts = λ n. facts_of.host.nodes.facts n;
@@ -451,7 +451,7 @@ module _ (here : Phase) (past : List Entry) (m : HostMachine) (ground : KnowsSle
     }
 
     -- what is known of an end of the request under way
-    end_of_it : (told : List Entry) (u : UnderWay) (how : How) → m.state.requests.under_way ≡ Some u → CarriesSo u.purpose
+    pub end_of_it : (told : List Entry) (u : UnderWay) (how : How) → m.state.requests.under_way ≡ Some u → CarriesSo u.purpose
         → ((e : Entry) (more : List Entry) → told ≡ e ∷ more → EndsHere past m.state.requests.last_id u.purpose how) → EndOf past told m.state.requests.last_id u.purpose how
     end_of_it told u how is carries ends = record {
       request = slept.request u is;
@@ -461,14 +461,14 @@ module _ (here : Phase) (past : List Entry) (m : HostMachine) (ground : KnowsSle
       ends = ends;
     }
 
-requests_nodes : (past : List Entry) (h : HostState) (requests : RequestsState) → NodesSo past h → NodesSo past (record h { requests = requests })
+pub requests_nodes : (past : List Entry) (h : HostState) (requests : RequestsState) → NodesSo past h → NodesSo past (record h { requests = requests })
 requests_nodes past h requests nodes = record { begun = nodes.begun; facts = nodes.facts; sleeper = nodes.sleeper; opened = nodes.opened }
 
-ticked_nodes : (past : List Entry) (h : HostState) → NodesSo past h → NodesSo past (line_ticked h)
+pub ticked_nodes : (past : List Entry) (h : HostState) → NodesSo past h → NodesSo past (line_ticked h)
 ticked_nodes past h nodes = record { begun = nodes.begun; facts = nodes.facts; sleeper = nodes.sleeper; opened = nodes.opened }
 
 -- what a request carries is known while it is under way
-carries_by : (past : List Entry) (line_now now : ℕ) (came : List LineUnit) (d : Doing) (u : UnderWay) → d.under_way ≡ Some u → TieAsked past line_now now came d → CarriesSo u.purpose
+pub carries_by : (past : List Entry) (line_now now : ℕ) (came : List LineUnit) (d : Doing) (u : UnderWay) → d.under_way ≡ Some u → TieAsked past line_now now came d → CarriesSo u.purpose
 carries_by past line_now now came d u is (inl none) = absurd (let nothing = none.none in let bad : None ≡ Some u = sym nothing ∙ is in cc)
 carries_by past line_now now came d u is (inr (was, asks)) =
     (subst (λ (o : Option UnderWay). TieUnderWay (standing_of (asked past)) line_now now (acknowledged past) d.turn d.id d.leaving o) is asks.under_way).1.3
@@ -487,16 +487,16 @@ abort_tells : (g : HostState) (p : Purpose) (how : How) → p ≡ Abort → end_
 abort_tells g p how is = ap (λ (q : Purpose). end_entries g (record { purpose = q; how = how })) is
 
 -- the end of an interview whose information came
-record Informs (o : Option UnderWay) (first : Option ℕ) (update : Update) (capability : ℕ) : Type 0 where
-  u : UnderWay
-  under_way : o ≡ Some u
-  ends : ends_at_update update u ≡ true
-  brought : first ≡ Some capability
+pub record Informs (o : Option UnderWay) (first : Option ℕ) (update : Update) (capability : ℕ) : Type 0 where
+  pub u : UnderWay
+  pub under_way : o ≡ Some u
+  pub ends : ends_at_update update u ≡ true
+  pub brought : first ≡ Some capability
 
 none_some : (capability : ℕ) → None ≡ Some capability → ⊥
 none_some capability is = cc
 
-informs_so : (o : Option UnderWay) (first : Option ℕ) (n basic generic specific : ℕ) (classes : List ℕ) (capability : ℕ)
+pub informs_so : (o : Option UnderWay) (first : Option ℕ) (n basic generic specific : ℕ) (classes : List ℕ) (capability : ℕ)
     → interviewed_from first (Received n basic generic specific classes) o ≡ Some capability → Informs o first (Received n basic generic specific classes) capability
 informs_so None first n basic generic specific classes capability is = absurd (none_some capability is)
 informs_so (Some u) first n basic generic specific classes capability is = by (ends_at_update (Received n basic generic specific classes) u) refl is
@@ -506,14 +506,14 @@ informs_so (Some u) first n basic generic specific classes capability is = by (e
     by true ends is = record { u = u; under_way = refl; ends = ends; brought = is }
     by false ends is = absurd (none_some capability is)
 
-second_is : (p : Purpose) (n basic generic specific : ℕ) (classes : List ℕ) → purpose_ends_at_update (Received n basic generic specific classes) p ≡ true → p ≡ Housekeeping (Second n)
+pub second_is : (p : Purpose) (n basic generic specific : ℕ) (classes : List ℕ) → purpose_ends_at_update (Received n basic generic specific classes) p ≡ true → p ≡ Housekeeping (Second n)
 second_is (Housekeeping (Second m)) n basic generic specific classes is = ap (λ (k : ℕ). Housekeeping (Second k)) (sym (eqb-true n m is))
 second_is (Housekeeping task) n basic generic specific classes is = absurd (let bad : false ≡ true = is in cc)
 second_is (Attempt m more payload) n basic generic specific classes is = absurd (let bad : false ≡ true = is in cc)
 second_is Abort n basic generic specific classes is = absurd (let bad : false ≡ true = is in cc)
 
 -- the line gives it up at this time
-given_so : (past : List Entry) (now id : ℕ) (purpose : Purpose) → clock past ≡ now → GivenUp past now id purpose → EndsHere past id purpose LinkFailed
+pub given_so : (past : List Entry) (now id : ℕ) (purpose : Purpose) → clock past ≡ now → GivenUp past now id purpose → EndsHere past id purpose LinkFailed
 given_so past now id purpose time gone = record {
   request = gone.request;
   follows = gone.follows;
@@ -521,7 +521,7 @@ given_so past now id purpose time gone = record {
   so = ap (λ (l : List ℕ). list_any (λ tick. tick == clock past) l) gone.gives_up ∙ or_false (now == clock past) ∙ eq-eqb now (clock past) (sym time);
 }
 
-failed_how : (how : How) → ends_with LinkFailed ≡ ends_with how → LinkFailed ≡ how
+pub failed_how : (how : How) → ends_with LinkFailed ≡ ends_with how → LinkFailed ≡ how
 failed_how how is = cc
 
 -- ---- in a tick

@@ -19,6 +19,9 @@ use Rattle.law_time.specs.Ends.{ends_here, has_ended, is_called_back, is_ending_
 use Rattle.law_time.specs.Interviews.{fails, node_interviewed, succeeds}
 use Rattle.law_time.specs.Questions.{is_question}
 use Rattle.law_time.specs.Sessions.{is_open, last_command}
+use Rattle.host_requests.specs.declared.task.Task.TheVariants.{Plain, Second}
+use Rattle.host_requests.specs.declared.task.Purpose.{Purpose}
+use Rattle.host_requests.specs.declared.task.Purpose.TheVariants.{Housekeeping}
 use Rattle.proof_rests.specs.proof_requests.law_host.Ends.{answer_to, given_up_notes, sleep_notes}
 use Rattle.proof_rests.specs.proof_requests.law_host.Heard.{is_of_outside}
 use Rattle.proof_rests.specs.proof_requests.Carrying.{is_errand}
@@ -31,6 +34,15 @@ node_asked carried = if is_errand carried.payload then carried.node ∷ [] else 
 
 abbrev pub nodes_asked : List Entry → List ℕ
 nodes_asked past = flat_map node_asked (sending_in (asked past).frame)
+
+-- by what it is for: the nodes to which it carries one, and those whose information it asks for
+abbrev pub errands_of : Purpose → List ℕ
+errands_of (Housekeeping (Plain n payload)) = n ∷ []
+errands_of purpose = []
+
+abbrev pub seconds_of : Purpose → List ℕ
+seconds_of (Housekeeping (Second n)) = n ∷ []
+seconds_of purpose = []
 
 -- how that ended
 abbrev pub DoneNotes : List Entry → List Entry → Type 0

@@ -1,0 +1,12 @@
+mod Ending
+mod Framing
+mod Ticking
+mod Entering
+mod Coming
+mod Silent
+mod LateEnds
+mod HostEnds
+mod Hearing
+mod Acks
+mod TickNotes
+mod Informing
