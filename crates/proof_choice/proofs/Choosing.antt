@@ -72,11 +72,11 @@ use Rattle.proof_choice.proofs.Parts.{segment_chosen, start_chosen, text_chosen}
 -- ---- entries that choose nothing
 
 -- no session begins
-abbrev IsNoBegin : Entry → Type 0
+abbrev pub IsNoBegin : Entry → Type 0
 IsNoBegin (entry.Begin node session command) = ⊥
 IsNoBegin e = Unit {0}
 
-abbrev BeginsNone : HostEvent → Type 0
+abbrev pub BeginsNone : HostEvent → Type 0
 BeginsNone (Begins n session command) = ⊥
 BeginsNone event = Unit {0}
 
@@ -96,7 +96,7 @@ shared_none = record {
   full = λ n. tt;
 }
 
-told_none : (h : HostState) (event : HostEvent) (told : List Entry) → BeginsNone event → AreTold (outs h event) told → AllByRecursion IsNoBegin told
+pub told_none : (h : HostState) (event : HostEvent) (told : List Entry) → BeginsNone event → AreTold (outs h event) told → AllByRecursion IsNoBegin told
 told_none h (Begins n session command) told none are = absurd none
 told_none h (Accepts order carriage) told none are = told_so IsNoBegin line_none [] told tt are
 told_none h event told none are = told_so IsNoBegin line_none (outs h event) told (outs_are IsNoBegin shared_none h event tt) are
@@ -270,7 +270,7 @@ module _ (node_is : (heeds : Heeds) (n : ℕ) (past : List Entry) → (attempts_
   other_may here past told m event other none are (Anew purpose f marks at free is new units now) = absurd (other at)
 
   -- which events come there
-  ticks_none : (h : HostState) (event : HostEvent) (left : List HostEvent) (clock : ℕ) → TicksAt (Ticking (event ∷ left)) h clock → BeginsNone event
+  pub ticks_none : (h : HostState) (event : HostEvent) (left : List HostEvent) (clock : ℕ) → TicksAt (Ticking (event ∷ left)) h clock → BeginsNone event
   ticks_none h (Begins n session command) left clock ticks = absurd ticks.0
   ticks_none h event left clock ticks = tt
 

@@ -19,9 +19,11 @@ use Rattle.proof_attempts.specs.proof_requests.proof_alone.Phases.{Phase, Restin
 use Rattle.proof_attempts.specs.proof_requests.proof_alone.Careful.{Careful}
 use Rattle.proof_attempts.specs.proof_requests.proof_alone.Runs.{Run}
 use Rattle.proof_attempts.specs.proof_requests.proof_alone.Runs.Run.{Begins, Turned, Stepped}
-use Rattle.proof_queue.specs.Heeding.{AllSteps, HeedsSo}
+use Rattle.proof_queue.specs.Heeding.{AllSteps, HeedsAs, HeedsSo}
 use Rattle.proof_queue.specs.Waiting.{WaitsAtLooks, queue_of, want_of_task}
 use Rattle.proof_queue.proofs.Books.{last_is}
+use Rattle.proof_giving.specs.Walking.{KnowsAttempts}
+use Rattle.proof_choice.specs.Counting.{KnowsCounts}
 use Rattle.proof_choice.specs.Turning.{AllAlong}
 use Rattle.proof_choice.specs.Waits.{KnowsWants, WaitsAnew}
 
@@ -56,3 +58,23 @@ module _ (start : HostMachine) (taken : List Entry → Carried → List Told) wh
     wants_along {here = next} {told = told} {m = m} (Turned turns run) careful sure = (wants_along run careful.0 sure, known next told m (Turned turns run) careful sure)
     wants_along {here = next} {told = all} {m = later} (Stepped step may all_is later_is run) careful sure =
         (wants_along run careful.0 sure.0, known next all later (Stepped step may all_is later_is run) careful sure)
+
+-- and so are the attempts of each node
+module _ (start : HostMachine) (heeds : Heeds) where
+  abbrev pub CountsAt : Type 0
+  CountsAt =
+      (here : Phase) (told : List Entry) (m : HostMachine) → (run : Run start here told m) → Careful run → AllSteps (HeedsSo heeds) run → AllSteps (HeedsAs heeds) run → KnowsAttempts heeds here told m
+
+  counted : (here : Phase) (told : List Entry) (m : HostMachine) → KnowsAttempts heeds here told m → KnowsCounts heeds here told m
+  counted Submitting told m counts = counts
+  counted Resting told m counts = counts
+  counted here told m counts = tt
+
+  module _ (counts : CountsAt) where
+    pub attempts_along : {here : Phase} {told : List Entry} {m : HostMachine} → (run : Run start here told m) → Careful run → AllSteps (HeedsSo heeds) run → AllSteps (HeedsAs heeds) run
+        → AllAlong (KnowsCounts heeds) run
+    attempts_along Begins careful sure as_told = counted Resting [] start (counts Resting [] start Begins careful sure as_told)
+    attempts_along {here = next} {told = told} {m = m} (Turned turns run) careful sure as_told =
+        (attempts_along run careful.0 sure as_told, counted next told m (counts next told m (Turned turns run) careful sure as_told))
+    attempts_along {here = next} {told = all} {m = later} (Stepped step may all_is later_is run) careful sure as_told =
+        (attempts_along run careful.0 sure.0 as_told.0, counted next all later (counts next all later (Stepped step may all_is later_is run) careful sure as_told))

@@ -32,7 +32,7 @@ use Rattle.proof_choice.specs.Waits.{AskingGround, KnowsWants}
 use Rattle.proof_choice.proofs.Along.{both_along, every_along, law_along, so_along, walks_along}
 use Rattle.proof_choice.proofs.Owners.{OwnLaw, owners_walk}
 use Rattle.proof_choice.proofs.ServedTie.{first_served, served_lasts}
-use Rattle.proof_choice.proofs.Wanting.{wants_along}
+use Rattle.proof_choice.proofs.Wanting.{attempts_along, wants_along}
 use Rattle.proof_choice.proofs.Whole.{Grounds, knows_all}
 use Rattle.proof_choice.proofs.laws.hosts_know_what_they_choose.Goals as goal
 
@@ -103,6 +103,7 @@ module _ (c : goal.After-hosts_show_open_sessions) (keys : Keys) where
         (both_along start (both_know (KnowsCounts heeds) (KnowsReady heeds)) (KnowsSince (ServedAsTold heeds)) run (both_along start (KnowsCounts heeds) (KnowsReady heeds) run counts ready) (served run asks)))
 
 pub returns : goal.returns
-returns c = λ keys taken here told m run careful sure counts ready.
+returns c = λ keys taken here told m run careful sure as_told ready.
     let asks = asking c keys taken run careful sure in
-    both_along (first_alone keys (Some [])) (AskingGround (heeds_alone taken)) (KnowsAll (heeds_alone taken)) run asks (all c keys taken run asks counts ready)
+    both_along (first_alone keys (Some [])) (AskingGround (heeds_alone taken)) (KnowsAll (heeds_alone taken)) run asks 
+    (all c keys taken run asks (attempts_along (first_alone keys (Some [])) (heeds_alone taken) (c.hosts_count_attempts.ensures.known keys taken) run careful sure as_told) ready)
