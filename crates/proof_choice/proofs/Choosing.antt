@@ -270,7 +270,7 @@ module _ (node_is : (heeds : Heeds) (n : ℕ) (past : List Entry) → (attempts_
   other_may here past told m event other none are (Anew purpose f marks at free is new units now) = absurd (other at)
 
   -- which events come there
-  pub ticks_none : (h : HostState) (event : HostEvent) (left : List HostEvent) (clock : ℕ) → TicksAt (Ticking (event ∷ left)) h clock → BeginsNone event
+  ticks_none : (h : HostState) (event : HostEvent) (left : List HostEvent) (clock : ℕ) → TicksAt (Ticking (event ∷ left)) h clock → BeginsNone event
   ticks_none h (Begins n session command) left clock ticks = absurd ticks.0
   ticks_none h event left clock ticks = tt
 

@@ -73,7 +73,7 @@ use Rattle.proof_choice.specs.Ready.{ReadySo}
 use Rattle.proof_choice.specs.Readying.{ReadyAsTold, ReadyGround, Renewed}
 use Rattle.proof_choice.specs.Waits.{KnowsWants, WaitsAnew}
 use Rattle.proof_choice.proofs.Choices.{segment_runs}
-use Rattle.proof_choice.proofs.Choosing.{BeginsNone, ticks_none}
+use Rattle.proof_choice.proofs.Choosing.{BeginsNone}
 use Rattle.proof_choice.proofs.Nonces.{one_stays}
 use Rattle.proof_choice.proofs.Readies.{Bare}
 use Rattle.proof_choice.proofs.ReadyGoes.{Either, FollowsItem, GrowsAlong, along_either, bare_after, bare_of, behind_ready, goes_on_ready, other_ready, own_ready, wrote_either}
@@ -100,6 +100,10 @@ ticks_leave h (Starts n plan more payload) left clock ticks = absurd ticks.0
 ticks_leave h (Gives_text n payload) left clock ticks = absurd ticks.0
 ticks_leave h (Takes_nonce n seen text) left clock ticks = absurd ticks.0
 ticks_leave h event left clock ticks = tt
+
+ticks_begin_none : (h : HostState) (event : HostEvent) (left : List HostEvent) (clock : ℕ) → TicksAt (Ticking (event ∷ left)) h clock → BeginsNone event
+ticks_begin_none h (Begins n session command) left clock ticks = absurd ticks.0
+ticks_begin_none h event left clock ticks = tt
 
 follows_item : (past : List Entry) (now : ℕ) (h : HostState) (event : HostEvent) (left : List HostEvent) → EndsAsTold past now h (event ∷ left) → FollowsItem event
 follows_item past now h (Starts n plan more payload) left ends = absurd ends.0
@@ -329,7 +333,7 @@ module _ (grows : GrowsAlong) (brings : PayloadsBring) (taken : List Entry → C
           at (Ticking left) may.0.1
           (λ n from to.
           let leaves = subst (LeavesTexts false) (sym may.0.0) (ticks_leave m.state first left m.clock ticks) in
-          let none = subst BeginsNone (sym may.0.0) (ticks_none m.state first left m.clock ticks) in
+          let none = subst BeginsNone (sym may.0.0) (ticks_begin_none m.state first left m.clock ticks) in
           goes_on_ready (so_far n past) (so_far n (past ++ told)) (node_of m.state n) (node_of (after m.state event) n)
           (wrote_either grows taken n (Ticking (first ∷ left)) past told m.state event (ticking_not (first ∷ left)) none may.2 wrote)
           (one_stays n m.state event (within_of (Ticking (first ∷ left)) past m ground.0.0 n to) leaves)

@@ -78,15 +78,15 @@ module _ (grows : GrowsAlong) (brings : PayloadsBring) (taken : List Entry → C
 
   -- entries that leave the attempts
   leaves : (here : Phase) (past later : List Entry) (h : HostState) (clock : ℕ) → ((n : ℕ) → so_far n later ≡ so_far n past) → ReadyAsTold heeds here past h clock → ReadyAsTold heeds here later h clock
-  leaves (Behind left) past later h clock same tie n from to =
+  leaves (Behind left) past later h clock same tie = λ n from to.
       subst (λ (a : Attempts). ReadySo a (node_of (after_all h left) n) ⊎ Renewed a (node_of h n) (node_of (after_all h left) n)) (sym (same n)) (tie n from to)
-  leaves Resting past later h clock same tie n from to = subst (λ (a : Attempts). ReadySo a (node_of h n)) (sym (same n)) (tie n from to)
-  leaves (Asked line) past later h clock same tie n from to = subst (λ (a : Attempts). ReadySo a (node_of h n)) (sym (same n)) (tie n from to)
-  leaves Risen past later h clock same tie n from to = subst (λ (a : Attempts). ReadySo a (node_of h n)) (sym (same n)) (tie n from to)
-  leaves (Ticking left) past later h clock same tie n from to = subst (λ (a : Attempts). ReadySo a (node_of h n)) (sym (same n)) (tie n from to)
-  leaves Open past later h clock same tie n from to = subst (λ (a : Attempts). ReadySo a (node_of h n)) (sym (same n)) (tie n from to)
-  leaves Sleeping past later h clock same tie n from to = subst (λ (a : Attempts). ReadySo a (node_of h n)) (sym (same n)) (tie n from to)
-  leaves Submitting past later h clock same tie n from to = subst (λ (a : Attempts). ReadySo a (node_of h n)) (sym (same n)) (tie n from to)
+  leaves Resting past later h clock same tie = λ n from to. subst (λ (a : Attempts). ReadySo a (node_of h n)) (sym (same n)) (tie n from to)
+  leaves (Asked line) past later h clock same tie = λ n from to. subst (λ (a : Attempts). ReadySo a (node_of h n)) (sym (same n)) (tie n from to)
+  leaves Risen past later h clock same tie = λ n from to. subst (λ (a : Attempts). ReadySo a (node_of h n)) (sym (same n)) (tie n from to)
+  leaves (Ticking left) past later h clock same tie = λ n from to. subst (λ (a : Attempts). ReadySo a (node_of h n)) (sym (same n)) (tie n from to)
+  leaves Open past later h clock same tie = λ n from to. subst (λ (a : Attempts). ReadySo a (node_of h n)) (sym (same n)) (tie n from to)
+  leaves Sleeping past later h clock same tie = λ n from to. subst (λ (a : Attempts). ReadySo a (node_of h n)) (sym (same n)) (tie n from to)
+  leaves Submitting past later h clock same tie = λ n from to. subst (λ (a : Attempts). ReadySo a (node_of h n)) (sym (same n)) (tie n from to)
 
   loose_goes : (here : Phase) (past told : List Entry) (h : HostState) (clock : ℕ) → AllByRecursion IsLoose told → ReadyAsTold heeds here past h clock → ReadyAsTold heeds here (past ++ told) h clock
   loose_goes here past told h clock all tie = leaves here past (past ++ told) h clock (λ n. attempts_left taken n past told (all-weaker IsLoose LeavesAttempts loose_leaves told all)) tie
