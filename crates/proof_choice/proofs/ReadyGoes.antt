@@ -1,10 +1,7 @@
 -- What an event of a host, and what is noted of it, makes of the messages that are ready to be sealed.
-use Rattle.std.proofs.Common.{◌≡◌, ◌⊎◌, ℕ, ◌+◌, ◌-◌, ◌<◌, ◌≤◌, ◌==◌, ◌&&◌, ◌||◌, not, Bool, true, false, if◌then◌else◌, inl, inr, Option, Some, None, length, List, [], ◌∷◌, ◌++◌, map, refl, sym, ap, ap₂, ◌∙◌, subst, append-nil, append_assoc, arith}
-use Rattle.std.specs.Prelude.{is_some, slice_index}
-use Rattle.std.specs.List.{AllByRecursion, flat_map, list_any}
-use Rattle.std.proofs.lemmas.Bool.{both_ways, eq-eqb, eqb-true}
-use Rattle.zw_base.proofs.Each.{all-weaker}
-use Rattle.serial_frame.specs.Frame.{FrameParts}
+use Rattle.std.proofs.Common.{◌≡◌, ◌⊎◌, ℕ, ◌+◌, ◌<◌, ◌==◌, Bool, true, false, if◌then◌else◌, inl, inr, Some, None, length, List, [], ◌∷◌, ◌++◌, refl, sym, ap, ◌∙◌, subst, append_assoc}
+use Rattle.std.specs.List.{AllByRecursion, list_any}
+use Rattle.std.proofs.lemmas.Bool.{eqb-true}
 use Rattle.serial_frame.specs.Items.{unit_text}
 use Rattle.serial_frame.specs.declared.unit.Unit.TheVariants.{Framed}
 use Rattle.zw_words.specs.declared.side.Side.TheVariants.{Host, Chip}
@@ -14,31 +11,23 @@ use Rattle.zw_text.specs.Transcript.{folded}
 use Rattle.host_heard.specs.declared.told.Told.{Told}
 use Rattle.law_transcript.specs.Units.{Carried, sending_in}
 use Rattle.law_time.specs.Attempts.{Attempts, anew, attempts_by_request, goes_on}
-use Rattle.law_time.specs.Heeds.{Heeds}
-use Rattle.law_time.specs.Requests.{Asked, asked, is_new}
-use Rattle.law_time.specs.Queue.{requests}
+use Rattle.law_time.specs.Requests.{Asked, is_new}
 use Rattle.law_time.specs.Sessions.{is_last_command}
-use Rattle.host_node.specs.Facts.{NodeFacts, SeriesFacts}
+use Rattle.host_node.specs.Facts.{NodeFacts}
 use Rattle.host_node.specs.State.{NodeState}
-use Rattle.host_node.specs.Steps.{after_nonce, after_segment, after_start, after_text}
-use Rattle.host_node.specs.declared.attempt.Plan.{Plan}
-use Rattle.host_node.specs.declared.attempt.Plan.TheVariants.{Whole, Segments, Sealed}
-use Rattle.host_node.specs.declared.series.Series.{Series}
-use Rattle.host_node.specs.declared.series.Series.TheVariants.{Idle, Due, Running}
+use Rattle.host_node.specs.Steps.{after_nonce}
 use Rattle.host_model.specs.State.{HostState, node_of}
 use Rattle.host_model.specs.After.{after}
-use Rattle.host_model.specs.Did.{after_all}
 use Rattle.host_model.specs.Events.{HostEvent, Starts, Gives_text, Takes_nonce}
 use Rattle.host_model.specs.May.{May as MayHost}
-use Rattle.proof_attempts.specs.Attempts.{AreAttempts}
-use Rattle.proof_attempts.specs.proof_requests.law_host.Heard.{heeds_alone}
-use Rattle.proof_attempts.proofs.Doings.{node_after}
-use Rattle.proof_attempts.proofs.Wrote.{Wrote}
-use Rattle.proof_attempts.proofs.Wrote.Wrote.{Quietly, Again, Anew}
-use Rattle.proof_attempts.proofs.proof_requests_Telling.{IsQuiet}
-use Rattle.proof_attempts.specs.proof_requests.proof_alone.State.{HostMachine}
-use Rattle.proof_attempts.specs.proof_requests.proof_alone.Steps.{AreTold}
-use Rattle.proof_attempts.specs.proof_requests.proof_alone.Phases.{Phase, Submitting}
+use Rattle.proof_queue.specs.proof_attempts.Attempts.{AreAttempts}
+use Rattle.proof_queue.specs.proof_attempts.proof_requests.law_host.Heard.{heeds_alone}
+use Rattle.proof_queue.proofs.Doings.{node_after}
+use Rattle.proof_queue.proofs.Wrote.{Wrote}
+use Rattle.proof_queue.proofs.Wrote.Wrote.{Quietly, Again, Anew}
+use Rattle.proof_queue.proofs.proof_requests_Telling.{IsQuiet}
+use Rattle.proof_queue.specs.proof_attempts.proof_requests.proof_alone.Steps.{AreTold}
+use Rattle.proof_queue.specs.proof_attempts.proof_requests.proof_alone.Phases.{Phase, Submitting}
 use Rattle.host_model.specs.Outs.{outs}
 use Rattle.proof_queue.proofs.Books.{last_is}
 use Rattle.proof_giving.specs.Tie.{NodeSo, anew_step}
@@ -49,7 +38,7 @@ use Rattle.proof_choice.specs.Readying.{Renewed}
 use Rattle.proof_choice.proofs.Choosing.{BeginsNone, IsNoBegin, told_none}
 use Rattle.proof_choice.proofs.Nonces.{one_stays}
 use Rattle.proof_choice.proofs.Readies.{Bare, anew_ready, bare_stays, stays_ready, unbegun_bare}
-use Rattle.proof_choice.proofs.Staying.{LeavesTexts, Stays, no_some, none_of}
+use Rattle.proof_choice.proofs.Staying.{Stays, no_some}
 
 -- ---- attempts by notes
 

@@ -1,30 +1,22 @@
 -- The messages that are ready to be sealed go on as in the host at each step, where a frame that is judged and a host that starts leave them so.
-use Rattle.std.proofs.Common.{◌≡◌, ◌⊎◌, ℕ, ◌+◌, ◌-◌, ◌<◌, ◌≤◌, ◌==◌, ◌&&◌, ◌||◌, not, Bool, true, false, if◌then◌else◌, inl, inr, Option, Some, None, length, List, [], ◌∷◌, ◌++◌, map, refl, sym, ap, ap₂, ◌∙◌, subst, append-nil, append_assoc, arith}
+use Rattle.std.proofs.Common.{◌≡◌, ◌⊎◌, ℕ, ◌<◌, ◌≤◌, ◌==◌, ◌&&◌, ◌||◌, Bool, true, false, if◌then◌else◌, inl, inr, Option, Some, None, length, List, [], ◌∷◌, ◌++◌, map, refl, sym, ap, ap₂, ◌∙◌, subst, append_assoc, arith}
 use Rattle.std.specs.Prelude.{is_some}
-use Rattle.std.specs.List.{AllByRecursion, flat_map, list_any}
-use Rattle.std.proofs.lemmas.Bool.{and_right, both_ways, eq-eqb, eqb-true, ltb-true}
+use Rattle.std.specs.List.{flat_map, list_any}
+use Rattle.std.proofs.lemmas.Bool.{eqb-true, ltb-true}
 use Rattle.zw_base.proofs.Each.{all-weaker}
-use Rattle.serial_frame.specs.Frame.{FrameParts}
 use Rattle.serial_frame.specs.Items.{unit_text}
-use Rattle.serial_frame.specs.declared.item.Item.{Item}
-use Rattle.serial_frame.specs.declared.unit.Unit.{Unit as LineUnit}
 use Rattle.serial_frame.specs.declared.unit.Unit.TheVariants.{Framed}
-use Rattle.zw_words.specs.declared.side.Side.TheVariants.{Host, Chip}
-use Rattle.zw_text.specs.declared.line.Line.{Line}
-use Rattle.zw_text.specs.declared.line.Line.TheVariants as lines
-use Rattle.zw_text.specs.declared.entry.Refusal.{Refusal}
+use Rattle.zw_words.specs.declared.side.Side.TheVariants.{Host}
 use Rattle.zw_text.specs.declared.entry.Entry.{Entry}
 use Rattle.zw_text.specs.declared.entry.Entry.TheVariants as entry
-use Rattle.zw_text.specs.Transcript.{line_of}
 use Rattle.host_heard.specs.declared.told.Told.{Told}
-use Rattle.law_transcript.specs.Restarts.{is_restart}
-use Rattle.law_transcript.specs.Units.{Carried, sending_in, sending_of}
+use Rattle.law_transcript.specs.Units.{Carried, sending_of}
 use Rattle.law_time.specs.Attempts.{Attempts, anew, attempt_is_over, attempts_by_request, goes_on, is_of_attempt}
 use Rattle.law_time.specs.Heeds.{Heeds}
 use Rattle.law_time.specs.Moments.{clock}
-use Rattle.law_time.specs.Queue.{queue_before, requests}
+use Rattle.law_time.specs.Queue.{requests}
 use Rattle.law_time.specs.Requests.{Asked, are_none, asked, is_new}
-use Rattle.host_requests.specs.Frames.{frame_of, request_of}
+use Rattle.host_requests.specs.Frames.{frame_of}
 use Rattle.host_requests.specs.State.{next_id}
 use Rattle.host_requests.specs.declared.task.Purpose.{Purpose}
 use Rattle.host_requests.specs.declared.task.Purpose.TheVariants.{Attempt, Housekeeping, Abort}
@@ -40,27 +32,27 @@ use Rattle.host_node.specs.declared.series.Series.TheVariants.{Idle, Due, Runnin
 use Rattle.host_model.specs.State.{HostState, node_of}
 use Rattle.host_model.specs.After.{after, task_purpose}
 use Rattle.host_model.specs.Did.{MayAll, after_all}
-use Rattle.host_model.specs.Events.{HostEvent, Starts, Gives_text, Gives_segment, Takes_nonce, Submits_abort, Submits_front, Begins, Begin_unkept, Requests_do}
+use Rattle.host_model.specs.Events.{HostEvent, Starts, Gives_text, Gives_segment, Takes_nonce, Submits_abort, Submits_front, Begins, Begin_unkept}
 use Rattle.host_model.specs.Facts.{HostFacts}
 use Rattle.host_model.specs.May.{IsFree, May as MayHost}
 use Rattle.host_model.specs.Outs.{outs}
-use Rattle.host_model.specs.Pumping.{IsNext, no_more_event}
+use Rattle.host_model.specs.Pumping.{IsNext}
 use Rattle.host_model.specs.declared.out.HostOut.TheVariants.{Note, Write}
 use Rattle.host_model.proofs.Submitted.{SleepersAre, next_is, no_more_is}
-use Rattle.proof_attempts.specs.proof_requests.law_host.Heard.{heeds_alone}
-use Rattle.proof_attempts.specs.proof_requests.Asking.{doing_of}
-use Rattle.proof_attempts.specs.proof_requests.Walking.{Ground as RequestsGround, IsRead, IsTied, KnowsAsked, ReadsAs}
-use Rattle.proof_attempts.specs.proof_requests.proof_alone.State.{HostMachine, done}
-use Rattle.proof_attempts.specs.proof_requests.proof_alone.Steps.{AreTold, IsOfUnit, Does}
-use Rattle.proof_attempts.specs.proof_requests.proof_alone.Phases.{Phase, Resting, Asked as AskedLine, Risen, Ticking, Open, Behind, Sleeping, Submitting, IsNumbered, May}
-use Rattle.proof_attempts.specs.Attempts.{AreAttempts, begun_of}
-use Rattle.proof_attempts.specs.Since.{InTick, TicksAt}
-use Rattle.proof_attempts.proofs.Doings.{node_after}
-use Rattle.proof_attempts.proofs.Lasting.{by_else, rest_of}
-use Rattle.proof_attempts.proofs.Queued.{PayloadsBring}
-use Rattle.proof_attempts.proofs.Stepping.{IsSubmission, event_is_read, submissions, time_told}
-use Rattle.proof_attempts.proofs.Walking.{is_fresh, written_told}
-use Rattle.proof_attempts.proofs.Wrote.{Wrote, writes}
+use Rattle.proof_queue.specs.proof_attempts.proof_requests.law_host.Heard.{heeds_alone}
+use Rattle.proof_queue.specs.proof_attempts.proof_requests.Asking.{doing_of}
+use Rattle.proof_queue.specs.proof_attempts.proof_requests.Walking.{Ground as RequestsGround, IsRead, IsTied, KnowsAsked, ReadsAs}
+use Rattle.proof_queue.specs.proof_attempts.proof_requests.proof_alone.State.{HostMachine, done}
+use Rattle.proof_queue.specs.proof_attempts.proof_requests.proof_alone.Steps.{AreTold, IsOfUnit, Does}
+use Rattle.proof_queue.specs.proof_attempts.proof_requests.proof_alone.Phases.{Phase, Ticking, Behind, Sleeping, Submitting, IsNumbered, May}
+use Rattle.proof_queue.specs.proof_attempts.Attempts.{AreAttempts, begun_of}
+use Rattle.proof_queue.specs.proof_attempts.Since.{InTick, TicksAt}
+use Rattle.proof_queue.proofs.Doings.{node_after}
+use Rattle.proof_queue.proofs.Lasting.{by_else, rest_of}
+use Rattle.proof_queue.proofs.Queued.{PayloadsBring}
+use Rattle.proof_queue.proofs.Stepping.{IsSubmission, event_is_read, submissions, time_told}
+use Rattle.proof_queue.proofs.proof_attempts_Walking.{is_fresh, written_told}
+use Rattle.proof_queue.proofs.Wrote.{Wrote, writes}
 use Rattle.proof_queue.specs.Waiting.{want_of_task}
 use Rattle.proof_queue.proofs.Books.{last_is}
 use Rattle.proof_giving.specs.Tie.{AttemptsSo, NodeSo, WantsFit, is_badly_over, is_for, signed}
@@ -71,13 +63,13 @@ use Rattle.proof_giving.proofs.Begun.{starts_begin}
 use Rattle.proof_giving.proofs.Told.{attempts_asked, attempts_left, attempts_one}
 use Rattle.proof_choice.specs.Ready.{ReadySo}
 use Rattle.proof_choice.specs.Readying.{ReadyAsTold, ReadyGround, Renewed}
-use Rattle.proof_choice.specs.Waits.{KnowsWants, WaitsAnew}
+use Rattle.proof_choice.specs.Waits.{WaitsAnew}
 use Rattle.proof_choice.proofs.Choices.{segment_runs}
 use Rattle.proof_choice.proofs.Choosing.{BeginsNone}
 use Rattle.proof_choice.proofs.Nonces.{one_stays}
 use Rattle.proof_choice.proofs.Readies.{Bare}
 use Rattle.proof_choice.proofs.ReadyGoes.{Either, FollowsItem, GrowsAlong, along_either, bare_after, bare_of, behind_ready, goes_on_ready, other_ready, own_ready, wrote_either}
-use Rattle.proof_choice.proofs.Staying.{LeavesTexts, Stays, no_some, stays_same}
+use Rattle.proof_choice.proofs.Staying.{LeavesTexts, no_some, stays_same}
 
 -- ---- the ground
 

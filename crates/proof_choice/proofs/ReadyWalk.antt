@@ -1,10 +1,10 @@
 -- The walk over what is ready to be sealed, where a frame that is judged and a host that starts leave it so.
-use Rattle.std.proofs.Common.{◌≡◌, ◌⊎◌, ℕ, ◌+◌, ◌<◌, ◌≤◌, Bool, true, false, inl, inr, List, [], ◌∷◌, ◌++◌, refl, sym, ap, ◌∙◌, subst, append-nil, append_assoc}
+use Rattle.std.proofs.Common.{◌≡◌, ◌⊎◌, ℕ, ◌+◌, true, false, inl, inr, List, [], ◌∷◌, ◌++◌, refl, sym, ap, ◌∙◌, subst, append-nil, append_assoc}
 use Rattle.std.specs.List.{AllByRecursion}
 use Rattle.zw_base.proofs.Each.{all-weaker}
 use Rattle.serial_frame.specs.declared.item.Item.{Item}
 use Rattle.serial_frame.specs.declared.unit.Unit.{Unit as LineUnit}
-use Rattle.zw_words.specs.declared.side.Side.TheVariants.{Host, Chip}
+use Rattle.zw_words.specs.declared.side.Side.TheVariants.{Host}
 use Rattle.zw_text.specs.declared.line.Line.{Line}
 use Rattle.zw_text.specs.declared.line.Line.TheVariants as lines
 use Rattle.zw_text.specs.declared.entry.Refusal.{Refusal}
@@ -14,24 +14,24 @@ use Rattle.zw_text.specs.Transcript.{line_of}
 use Rattle.host_heard.specs.declared.told.Told.{Told}
 use Rattle.law_transcript.specs.Restarts.{is_restart}
 use Rattle.law_transcript.specs.Units.{Carried}
-use Rattle.law_time.specs.Attempts.{Attempts, anew}
+use Rattle.law_time.specs.Attempts.{Attempts}
 use Rattle.law_time.specs.Heeds.{Heeds}
 use Rattle.host_model.specs.State.{HostState, node_of}
 use Rattle.host_model.specs.After.{after}
 use Rattle.host_model.specs.Did.{after_all}
-use Rattle.host_model.specs.Events.{HostEvent, Accepts, Cancels, Hears, Starts, Gives_text, Takes_nonce}
+use Rattle.host_model.specs.Events.{HostEvent, Accepts, Cancels, Hears}
 use Rattle.host_model.specs.Outs.{answers}
 use Rattle.world_model.specs.Events.{OpensFrom, shown_values}
-use Rattle.proof_attempts.specs.proof_requests.law_host.Heard.{heeds_alone}
-use Rattle.proof_attempts.specs.proof_requests.proof_alone.State.{HostMachine, done}
-use Rattle.proof_attempts.specs.proof_requests.proof_alone.Steps.{IsAskedBy, Step, Tells, Comes, Misses, Says, Says_nothing, Asks, Refuses, Shows, Restarts, Begins_tick, Numbers, Judges, Does, entries, happens}
-use Rattle.proof_attempts.specs.proof_requests.proof_alone.Phases.{Phase, Resting, Asked, Risen, Ticking, Open, Behind, Sleeping, Submitting, IsJudgedNow, May, Turns}
-use Rattle.proof_attempts.specs.proof_requests.proof_alone.Runs.{Run}
-use Rattle.proof_attempts.specs.proof_requests.proof_alone.Runs.Run.{Begins, Turned, Stepped}
-use Rattle.proof_waking.proofs.Judging.{nothing_on}
-use Rattle.proof_attempts.specs.Since.{BeforeWords, IsElse, IsLoose, KnowsSince}
-use Rattle.proof_attempts.proofs.Lasting.{as_known, between_else, by_else, leads_to, missed_loose, numbered_else, of_rest, others_loose, rest_of}
-use Rattle.proof_attempts.proofs.Queued.{PayloadsBring}
+use Rattle.proof_queue.specs.proof_attempts.proof_requests.law_host.Heard.{heeds_alone}
+use Rattle.proof_queue.specs.proof_attempts.proof_requests.proof_alone.State.{HostMachine, done}
+use Rattle.proof_queue.specs.proof_attempts.proof_requests.proof_alone.Steps.{IsAskedBy, Step, Tells, Comes, Misses, Says, Says_nothing, Asks, Refuses, Shows, Restarts, Begins_tick, Numbers, Judges, Does, entries, happens}
+use Rattle.proof_queue.specs.proof_attempts.proof_requests.proof_alone.Phases.{Phase, Resting, Asked, Risen, Ticking, Open, Behind, Sleeping, Submitting, IsJudgedNow, May, Turns}
+use Rattle.proof_queue.specs.proof_attempts.proof_requests.proof_alone.Runs.{Run}
+use Rattle.proof_queue.specs.proof_attempts.proof_requests.proof_alone.Runs.Run.{Begins, Turned, Stepped}
+use Rattle.proof_queue.proofs.proof_waking_Judging.{nothing_on}
+use Rattle.proof_queue.specs.proof_attempts.Since.{BeforeWords, IsElse, IsLoose, KnowsSince}
+use Rattle.proof_queue.proofs.Lasting.{as_known, between_else, by_else, leads_to, missed_loose, numbered_else, of_rest, others_loose, rest_of}
+use Rattle.proof_queue.proofs.Queued.{PayloadsBring}
 use Rattle.proof_queue.specs.Heeding.{AllSteps, HeedsAs}
 use Rattle.proof_giving.specs.Told.{GoesAlong, LeavesAttempts, attempts_so_far}
 use Rattle.proof_giving.proofs.Told.{attempts_in_vain, attempts_left, attempts_said}

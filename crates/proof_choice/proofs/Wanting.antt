@@ -1,24 +1,21 @@
 -- What waits in the host is known along each careful run where it submits, and where it rests.
-use Rattle.std.proofs.Common.{◌≡◌, ℕ, ◌+◌, ◌-◌, ◌&&◌, ◌||◌, Bool, true, List, [], ◌∷◌, map, refl, sym, ap, ◌∙◌, arith}
+use Rattle.std.proofs.Common.{◌≡◌, ℕ, ◌+◌, ◌-◌, ◌&&◌, List, [], map, refl, sym, ap, ◌∙◌, arith}
 use Rattle.std.proofs.lemmas.Bool.{or_left}
 use Rattle.zw_words.specs.declared.side.Side.TheVariants.{Host}
 use Rattle.zw_text.specs.declared.entry.Entry.{Entry}
 use Rattle.zw_text.specs.declared.entry.Entry.TheVariants as entry
-use Rattle.serial_frame.specs.Items.{unit_text}
 use Rattle.host_heard.specs.declared.told.Told.{Told}
 use Rattle.law_transcript.specs.Units.{Carried}
 use Rattle.law_time.specs.Heeds.{Heeds}
 use Rattle.law_time.specs.Judged.{is_acknowledgement}
-use Rattle.law_time.specs.Moments.{clock, now_at}
-use Rattle.law_time.specs.Queue.{has_looked, judges_first, queue_before, requests, with_due}
+use Rattle.law_time.specs.Queue.{judges_first, requests, with_due}
 use Rattle.law_time.specs.Requests.{Asked, asked, is_new}
-use Rattle.host_requests.specs.declared.task.Task.{Task}
-use Rattle.proof_attempts.specs.proof_requests.law_host.Heard.{heeds_alone}
-use Rattle.proof_attempts.specs.proof_requests.proof_alone.State.{HostMachine}
-use Rattle.proof_attempts.specs.proof_requests.proof_alone.Phases.{Phase, Resting, Submitting}
-use Rattle.proof_attempts.specs.proof_requests.proof_alone.Careful.{Careful}
-use Rattle.proof_attempts.specs.proof_requests.proof_alone.Runs.{Run}
-use Rattle.proof_attempts.specs.proof_requests.proof_alone.Runs.Run.{Begins, Turned, Stepped}
+use Rattle.proof_queue.specs.proof_attempts.proof_requests.law_host.Heard.{heeds_alone}
+use Rattle.proof_queue.specs.proof_attempts.proof_requests.proof_alone.State.{HostMachine}
+use Rattle.proof_queue.specs.proof_attempts.proof_requests.proof_alone.Phases.{Phase, Resting, Submitting}
+use Rattle.proof_queue.specs.proof_attempts.proof_requests.proof_alone.Careful.{Careful}
+use Rattle.proof_queue.specs.proof_attempts.proof_requests.proof_alone.Runs.{Run}
+use Rattle.proof_queue.specs.proof_attempts.proof_requests.proof_alone.Runs.Run.{Begins, Turned, Stepped}
 use Rattle.proof_queue.specs.Heeding.{AllSteps, HeedsAs, HeedsSo}
 use Rattle.proof_queue.specs.Waiting.{WaitsAtLooks, queue_of, want_of_task}
 use Rattle.proof_queue.proofs.Books.{last_is}

@@ -1,5 +1,5 @@
 -- What is so where the host rests, before each line and tick, and in the end.
-use Rattle.std.proofs.Common.{◌≡◌, false, true, ℕ, List, []}
+use Rattle.std.proofs.Common.{◌≡◌, false, true, List, []}
 use Rattle.std.specs.Prelude.{Some}
 use Rattle.s0_crypto.specs.declared.key_pair.Keys.{Keys}
 use Rattle.zw_text.specs.declared.entry.Entry.{Entry}
@@ -9,12 +9,12 @@ use Rattle.law_transcript.specs.Units.{Carried}
 use Rattle.law_time.specs.Heeds.{Heeds}
 use Rattle.law_time.specs.Moments.{Allows}
 use Rattle.law_time.specs.Rests.{is_rest, may_rest}
-use Rattle.proof_attempts.specs.proof_requests.law_host.Heard.{heeds_alone}
-use Rattle.proof_attempts.specs.proof_requests.proof_alone.State.{HostMachine, first_alone}
-use Rattle.proof_attempts.specs.proof_requests.proof_alone.Phases.{Phase, Resting}
-use Rattle.proof_attempts.specs.proof_requests.proof_alone.Careful.{Careful}
-use Rattle.proof_attempts.specs.proof_requests.proof_alone.Runs.{Knowledge, Run, both_know}
-use Rattle.proof_attempts.specs.proof_requests.proof_alone.Time.{TieClock}
+use Rattle.proof_queue.specs.proof_attempts.proof_requests.law_host.Heard.{heeds_alone}
+use Rattle.proof_queue.specs.proof_attempts.proof_requests.proof_alone.State.{HostMachine, first_alone}
+use Rattle.proof_queue.specs.proof_attempts.proof_requests.proof_alone.Phases.{Phase, Resting}
+use Rattle.proof_queue.specs.proof_attempts.proof_requests.proof_alone.Careful.{Careful}
+use Rattle.proof_queue.specs.proof_attempts.proof_requests.proof_alone.Runs.{Knowledge, Run, both_know}
+use Rattle.proof_queue.specs.proof_attempts.proof_requests.proof_alone.Time.{TieClock}
 use Rattle.proof_queue.specs.Heeding.{AllSteps, HeedsAs, HeedsSo}
 use Rattle.proof_rests.specs.Known.{KnowsAll as KnowsDone, WasSo}
 use Rattle.proof_rests.specs.Undone.{may_begin}

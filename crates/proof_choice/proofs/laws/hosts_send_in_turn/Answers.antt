@@ -1,13 +1,12 @@
 -- What goes by the queue, and what is chosen where nothing waits.
-use Rattle.std.proofs.Common.{List, []}
+use Rattle.std.proofs.Common.{[]}
 use Rattle.std.specs.Prelude.{Some}
-use Rattle.s0_crypto.specs.declared.key_pair.Keys.{Keys}
 use Rattle.law_time.specs.Moments.{Allows}
-use Rattle.proof_attempts.specs.proof_requests.law_host.Heard.{heeds_alone}
-use Rattle.proof_attempts.specs.proof_requests.proof_alone.State.{first_alone}
-use Rattle.proof_attempts.specs.proof_requests.proof_alone.Runs.{both_know}
-use Rattle.proof_attempts.specs.Waking.{KnowsWork}
-use Rattle.proof_attempts.proofs.Queued.{PayloadsBring}
+use Rattle.proof_queue.specs.proof_attempts.proof_requests.law_host.Heard.{heeds_alone}
+use Rattle.proof_queue.specs.proof_attempts.proof_requests.proof_alone.State.{first_alone}
+use Rattle.proof_queue.specs.proof_attempts.proof_requests.proof_alone.Runs.{both_know}
+use Rattle.proof_queue.specs.proof_attempts.Waking.{KnowsWork}
+use Rattle.proof_queue.proofs.Queued.{PayloadsBring}
 use Rattle.proof_choice.specs.Choosing.{may_choose}
 use Rattle.proof_choice.specs.Turning.{ChoosingGround, KnowsAll}
 use Rattle.proof_choice.specs.Waits.{AskingGround}
