@@ -26,7 +26,7 @@ use Rattle.proof_attempts.specs.Since.{AlongRuns, BeforeWords, IsElse, IsLoose, 
 
 -- ---- entries
 
-others_loose : (e : Entry) → IsOfOthers e → IsLoose e
+pub others_loose : (e : Entry) → IsOfOthers e → IsLoose e
 others_loose (entry.Air frame sender receiver repeaters payload) others = tt
 others_loose (entry.Heard frame) others = tt
 others_loose (entry.Lost frame) others = tt
@@ -38,7 +38,7 @@ others_loose entry.ChipFull others = tt
 others_loose (entry.Cleared side count) others = tt
 others_loose e others = absurd others
 
-missed_loose : (marks : List Entry) → DidNotCome marks → AllByRecursion IsLoose marks
+pub missed_loose : (marks : List Entry) → DidNotCome marks → AllByRecursion IsLoose marks
 missed_loose (entry.Dropped Chip ∷ []) did = (tt, tt)
 missed_loose (entry.Overrun Chip ∷ []) did = (tt, tt)
 missed_loose (entry.Garbled Chip unit ∷ []) did = (tt, tt)
@@ -47,7 +47,7 @@ missed_loose marks did = absurd did
 
 -- ---- phases but the one where a line is asked
 
-between_else : (here : Phase) → IsBetween here → IsElse here
+pub between_else : (here : Phase) → IsBetween here → IsElse here
 between_else (Asked line) between = absurd between
 between_else here between = tt
 
@@ -63,14 +63,14 @@ module _ (Tie : TieOf) where
   rest_of (Asked line) past m other known = absurd other
   rest_of here past m other known = known
 
-  of_rest : (here : Phase) (past : List Entry) (m : HostMachine) → IsElse here → Tie here past m.state m.clock → KnowsSince Tie here past m
+  pub of_rest : (here : Phase) (past : List Entry) (m : HostMachine) → IsElse here → Tie here past m.state m.clock → KnowsSince Tie here past m
   of_rest (Asked line) past m other rest = absurd other
   of_rest here past m other rest = rest
 
-  leads_to : (next to : Phase) (past : List Entry) (m : HostMachine) → IsElse to → next ≡ to → Tie to past m.state m.clock → KnowsSince Tie next past m
+  pub leads_to : (next to : Phase) (past : List Entry) (m : HostMachine) → IsElse to → next ≡ to → Tie to past m.state m.clock → KnowsSince Tie next past m
   leads_to next to past m other is rest = subst (λ (p : Phase). KnowsSince Tie p past m) (sym is) (of_rest to past m other rest)
 
-  as_known : (here is : Phase) (past : List Entry) (m : HostMachine) → here ≡ is → KnowsSince Tie here past m → KnowsSince Tie is past m
+  pub as_known : (here is : Phase) (past : List Entry) (m : HostMachine) → here ≡ is → KnowsSince Tie here past m → KnowsSince Tie is past m
   as_known here is past m same known = subst (λ (p : Phase). KnowsSince Tie p past m) same known
 
   pub numbered_else : (here : Phase) (past : List Entry) (m : HostMachine) → m.awaits ≡ true → KnowsSince Tie here past m → IsElse here

@@ -1,22 +1,19 @@
 -- A node is blocked in the host only where the keeper has failed for it in this tick by the transcript, and where it is not no session of it was not kept.
-use Rattle.std.proofs.Common.{◌≡◌, ℕ, zero, suc, ◌+◌, ◌-◌, ◌<◌, ◌≤◌, ◌==◌, ◌&&◌, ◌||◌, nat_lt, Bool, true, false, if◌then◌else◌, inl, inr, List, [], ◌∷◌, ◌++◌, map, length, Option, Some, None, refl, sym, ap, ◌∙◌, subst, append-nil, append_assoc, arith}
+use Rattle.std.proofs.Common.{◌≡◌, ℕ, zero, suc, ◌+◌, ◌-◌, ◌<◌, ◌≤◌, ◌==◌, ◌&&◌, ◌||◌, nat_lt, Bool, true, false, if◌then◌else◌, inl, inr, List, [], ◌∷◌, ◌++◌, map, length, Option, Some, None, refl, sym, ap, ◌∙◌, subst, arith}
 use Rattle.std.specs.List.{AllByRecursion}
-use Rattle.std.proofs.lemmas.Bool.{both_ways, eq-eqb, eqb-true, false_from_ne_true, or_left}
+use Rattle.std.proofs.lemmas.Bool.{both_ways, eqb-true, false_from_ne_true, or_left}
 use Rattle.zw_base.proofs.Each.{all-weaker}
 use Rattle.s0_crypto.specs.declared.key_pair.Keys.{Keys}
 use Rattle.serial_link.specs.State.{tick_side}
 use Rattle.supervision.specs.Host.{told_of}
 use Rattle.supervision.specs.declared.host_node.Told.{Told}
 use Rattle.supervision.specs.declared.host_node.Told.TheVariants.{Final, Working, Old}
-use Rattle.host_keep.specs.Status.{status_byte}
-use Rattle.zw_text.specs.declared.line.Line.{Line}
 use Rattle.zw_text.specs.declared.entry.Entry.{Entry}
 use Rattle.zw_text.specs.declared.entry.Entry.TheVariants as entry
-use Rattle.zw_text.specs.Transcript.{line_of}
-use Rattle.law_transcript.specs.Restarts.{is_restart, since_restart}
+use Rattle.law_transcript.specs.Restarts.{since_restart}
 use Rattle.law_time.specs.Judged.{is_following}
 use Rattle.law_time.specs.Moments.{clock}
-use Rattle.host_requests.specs.Events.{RequestsEvent, end_at}
+use Rattle.host_requests.specs.Events.{end_at}
 use Rattle.host_requests.specs.Events.RequestsEvent.{Fails as request_fails}
 use Rattle.host_requests.specs.declared.end.End.{End}
 use Rattle.host_requests.specs.declared.end.How.{How}
@@ -29,7 +26,7 @@ use Rattle.host_node.specs.declared.attempt.Moment.TheVariants.{BeforeItsTick, B
 use Rattle.host_node.specs.declared.attempt.Plan.{Plan}
 use Rattle.host_node.specs.declared.attempt.Plan.TheVariants.{Whole, Segments, Sealed}
 use Rattle.host_node.specs.declared.no_more.NoMore.TheVariants.{Unasked}
-use Rattle.host_node.specs.State.{NodeState, has_waiting, is_idle, is_open, is_running, is_up, needs_tick}
+use Rattle.host_node.specs.State.{NodeState, has_waiting, is_idle, is_open, is_running, is_up}
 use Rattle.host_node.specs.Steps.{after_again, after_again_tick, after_attempt_end, after_hold_tick, after_no_more, after_occasion, after_sleep, after_told, asleep, new_series, next_due, series_over, tried_again, with_again, with_wait, without_attempt}
 use Rattle.host_node.specs.Events.{NodeEvent, after as after_node}
 use Rattle.host_node.specs.Events.NodeEvent.{Accepts as node_accepts, Blocks, Starts as node_starts, Succeeds, Ends_attempt, Reports, Notifies as node_notifies, Sleeps, Ends_no_more, Ticks, Restarts as node_restarts}
@@ -43,23 +40,23 @@ use Rattle.host_model.specs.Ticking.{ticking_nodes}
 use Rattle.host_model.specs.declared.out.HostOut.{HostOut}
 use Rattle.host_model.specs.declared.out.HostOut.TheVariants.{Note}
 use Rattle.host_model.proofs.Submitted.{SleepersAre, SubmittedAre, next_is, no_more_is}
-use Rattle.proof_work.specs.proof_walk.ByLine.{IsAsked}
-use Rattle.proof_work.proofs.HostOuts.{SharedAre, outs_are}
-use Rattle.proof_attempts.specs.proof_requests.proof_alone.State.{HostMachine}
-use Rattle.proof_attempts.specs.proof_requests.proof_alone.Steps.{AreTold, IsAskedBy}
-use Rattle.proof_attempts.specs.proof_requests.proof_alone.Phases.{Phase, Resting, Asked, Risen, Ticking, Open, Behind, Sleeping, Submitting, GoesBy, IsNumbered, Turns}
-use Rattle.proof_attempts.specs.proof_requests.proof_alone.Time.{TieClock}
-use Rattle.proof_attempts.specs.proof_requests.proof_waking.Judged.{IsOfRequest, KnowsJudged}
-use Rattle.proof_attempts.specs.Since.{InTick, IsLoose, IsOfItem, Lasts, TicksAt, is_to_tick, node_clock}
-use Rattle.proof_attempts.proofs.proof_alone_Apart.{AreOfLine}
-use Rattle.proof_attempts.proofs.proof_waking_Apart.{IsWordless, said_in_vain, said_on, wordless_more}
-use Rattle.proof_attempts.proofs.Counting.{answers_wordless, each_starts, loose_wordless, told_wordless}
-use Rattle.proof_attempts.proofs.Doings.{Doing, did, does_at, end_does, failing_does, held_does, node_after, part_does, purpose_does, task_does}
-use Rattle.proof_attempts.proofs.Holding.{clock_now}
-use Rattle.proof_waking.proofs.InOrder.{is_asked}
-use Rattle.proof_attempts.proofs.Lasting.{by_else, rest_of}
-use Rattle.proof_attempts.proofs.Telling.{told_so}
-use Rattle.proof_attempts.proofs.Ticking.{waits_tick}
+use Rattle.proof_rests.specs.proof_nonces.proof_work.proof_walk.ByLine.{IsAsked}
+use Rattle.proof_queue.proofs.HostOuts.{SharedAre, outs_are}
+use Rattle.proof_queue.specs.proof_attempts.proof_requests.proof_alone.State.{HostMachine}
+use Rattle.proof_queue.specs.proof_attempts.proof_requests.proof_alone.Steps.{AreTold}
+use Rattle.proof_queue.specs.proof_attempts.proof_requests.proof_alone.Phases.{Phase, Resting, Asked, Risen, Ticking, Open, Behind, Sleeping, Submitting, GoesBy, IsNumbered, Turns}
+use Rattle.proof_queue.specs.proof_attempts.proof_requests.proof_alone.Time.{TieClock}
+use Rattle.proof_queue.specs.proof_attempts.proof_requests.proof_waking.Judged.{IsOfRequest, KnowsJudged}
+use Rattle.proof_queue.specs.proof_attempts.Since.{InTick, IsLoose, IsOfItem, Lasts, TicksAt, is_to_tick, node_clock}
+use Rattle.proof_queue.proofs.proof_alone_Apart.{AreOfLine}
+use Rattle.proof_queue.proofs.proof_waking_Apart.{IsWordless, said_in_vain, said_on, wordless_more}
+use Rattle.proof_queue.proofs.Counting.{answers_wordless, each_starts, loose_wordless, told_wordless}
+use Rattle.proof_queue.proofs.Doings.{Doing, did, does_at, end_does, failing_does, held_does, node_after, part_does, purpose_does, task_does}
+use Rattle.proof_queue.proofs.Holding.{clock_now}
+use Rattle.proof_queue.proofs.InOrder.{is_asked}
+use Rattle.proof_queue.proofs.Lasting.{by_else, rest_of}
+use Rattle.proof_queue.proofs.Telling.{told_so}
+use Rattle.proof_queue.proofs.Ticking.{waits_tick}
 use Rattle.proof_choice.specs.Blocked.{BlockedSo, BlockingGround, BlocksAsTold}
 use Rattle.proof_choice.proofs.Failures.{IsKept, blocked_anew, blocked_begin, blocked_behind, blocked_later, blocked_more}
 

@@ -1,66 +1,39 @@
 -- What a host alone submits where nothing waits is chosen in its turn, and so is the session that begins.
-use Rattle.std.proofs.Common.{◌≡◌, ℕ, ◌+◌, ◌-◌, ◌<◌, ◌≤◌, ◌==◌, ◌&&◌, ◌||◌, not, nat_le, nat_lt, Bool, true, false, if◌then◌else◌, Option, Some, None, length, List, [], ◌∷◌, ◌++◌, map, refl, sym, ap, ap₂, ◌∙◌, subst, append-nil, append_assoc, arith}
-use Rattle.std.specs.Prelude.{is_none, is_some, slice_index}
-use Rattle.std.specs.List.{AllByRecursion, flat_map, list_all, list_any}
-use Rattle.std.proofs.lemmas.Bool.{and_from, and_parts, both_ways, eq-eqb, eqb-true, ltb-true, or_left, or_parts, or_right}
-use Rattle.serial_frame.specs.Frame.{FrameParts}
-use Rattle.serial_frame.specs.Items.{unit_text}
-use Rattle.serial_frame.specs.declared.unit.Unit.TheVariants.{Framed}
-use Rattle.chip_functions.specs.declared.request.Request.{Request}
+use Rattle.std.proofs.Common.{◌≡◌, ℕ, ◌<◌, ◌≤◌, ◌==◌, ◌&&◌, ◌||◌, not, nat_le, Bool, true, false, Option, Some, None, length, List, [], ◌∷◌, map, refl, sym, ap, ap₂, ◌∙◌, arith}
+use Rattle.std.specs.Prelude.{is_some, slice_index}
+use Rattle.std.specs.List.{AllByRecursion, list_all, list_any}
+use Rattle.std.proofs.lemmas.Bool.{and_from, eq-eqb, eqb-true, ltb-true, or_left, or_right}
 use Rattle.supervision.specs.Host.{open_session}
-use Rattle.zw_words.specs.declared.side.Side.TheVariants.{Host, Chip}
 use Rattle.zw_text.specs.declared.entry.Entry.{Entry}
-use Rattle.zw_text.specs.declared.entry.Entry.TheVariants as entry
 use Rattle.zw_text.specs.Transcript.{joined}
 use Rattle.host_heard.specs.declared.told.Told.{Told}
 use Rattle.law_transcript.specs.Commands.{waiting}
-use Rattle.law_transcript.specs.Lists.{EachAfter}
-use Rattle.law_transcript.specs.Units.{Carried, sending_in, sending_of}
+use Rattle.law_transcript.specs.Units.{Carried}
 use Rattle.law_time.specs.Attempts.{Attempts, Serving, serving}
 use Rattle.law_time.specs.Choice.{has_turn, has_work as works_told, is_chosen, is_in_tick, is_part, is_to_begin, parts_of, turn_of, unbegun_when}
-use Rattle.law_time.specs.Ends.{is_abort, is_abort_frame}
 use Rattle.law_time.specs.Heeds.{Heeds}
-use Rattle.law_time.specs.Moments.{Allows, clock}
-use Rattle.law_time.specs.Queue.{Requests, is_first, queue_before, requests}
-use Rattle.law_time.specs.Requests.{Asked, are_none, asked, is_new}
-use Rattle.host_requests.specs.Frames.{frame_of, request_of}
-use Rattle.host_requests.specs.State.{next_id}
-use Rattle.host_requests.specs.declared.task.Purpose.{Purpose}
-use Rattle.host_requests.specs.declared.task.Purpose.TheVariants.{Attempt, Housekeeping, Abort}
-use Rattle.host_requests.specs.declared.task.Task.{Task}
+use Rattle.law_time.specs.Moments.{clock}
+use Rattle.law_time.specs.Queue.{Requests, is_first, requests}
+use Rattle.law_time.specs.Requests.{Asked, asked}
 use Rattle.host_node.specs.Facts.{NodeFacts, SeriesFacts}
-use Rattle.host_node.specs.State.{NodeState, has_segment, has_work as works, is_idle}
-use Rattle.host_node.specs.declared.attempt.Plan.{Plan}
+use Rattle.host_node.specs.State.{NodeState, has_segment, has_work as works}
 use Rattle.host_node.specs.declared.series.Series.{Series}
 use Rattle.host_node.specs.declared.series.Series.TheVariants.{Idle, Due, Running}
 use Rattle.host_model.specs.State.{HostState, node_of}
-use Rattle.host_model.specs.After.{after, task_purpose}
-use Rattle.host_model.specs.Did.{MayAll}
-use Rattle.host_model.specs.Events.{HostEvent, Submits_abort, Submits_front, Starts, Gives_text, Gives_segment, Begins, Begin_unkept}
+use Rattle.host_model.specs.Events.{Begins}
 use Rattle.host_model.specs.Facts.{HostFacts}
-use Rattle.host_model.specs.May.{IsFree, IsServed, May as MayHost}
-use Rattle.host_model.specs.Outs.{outs}
-use Rattle.host_model.specs.Pumping.{IsNext}
-use Rattle.host_model.specs.declared.out.HostOut.TheVariants.{Note, Write}
+use Rattle.host_model.specs.May.{IsServed, May as MayHost}
 use Rattle.host_model.proofs.Pumps.{next_works}
-use Rattle.proof_attempts.specs.proof_requests.law_host.Heard.{heeds_alone}
-use Rattle.proof_attempts.specs.proof_requests.Asking.{doing_of}
-use Rattle.proof_attempts.specs.proof_requests.Walking.{Ground as RequestsGround, IsRead, IsTied, ReadsAs}
-use Rattle.proof_attempts.specs.proof_requests.proof_alone.State.{HostMachine}
-use Rattle.proof_attempts.specs.proof_requests.proof_alone.Steps.{AreTold, IsOfUnit}
-use Rattle.proof_attempts.specs.proof_requests.proof_alone.Phases.{Submitting, IsNumbered}
-use Rattle.proof_attempts.proofs.Queued.{PayloadsBring, served_is_node}
-use Rattle.proof_attempts.proofs.Stepping.{IsSubmission, event_is_read, time_told}
-use Rattle.proof_attempts.proofs.Walking.{is_fresh, written_told}
+use Rattle.proof_queue.specs.proof_attempts.proof_requests.law_host.Heard.{heeds_alone}
+use Rattle.proof_queue.proofs.Queued.{served_is_node}
 use Rattle.proof_queue.proofs.Books.{last_is}
 use Rattle.proof_queue.proofs.Orders.{is_among}
-use Rattle.proof_queue.specs.Waiting.{want_of_task}
 use Rattle.proof_giving.specs.Told.{attempts_so_far}
-use Rattle.proof_choice.specs.Choosing.{begins_well, may_choose}
+use Rattle.proof_choice.specs.Choosing.{begins_well}
 use Rattle.proof_choice.specs.Nodes.{NodeKnown}
 use Rattle.proof_choice.specs.Served.{served_so_far}
-use Rattle.proof_choice.specs.Turning.{AllKnown, IsInRange}
-use Rattle.proof_choice.proofs.Parts.{no_work, segment_chosen, start_chosen, text_chosen, to_begin}
+use Rattle.proof_choice.specs.Turning.{IsInRange}
+use Rattle.proof_choice.proofs.Parts.{no_work, to_begin}
 use Rattle.proof_choice.proofs.Served.{served_is}
 use Rattle.proof_choice.proofs.Turns.{has_its_turn}
 

@@ -1,9 +1,7 @@
 -- At each step of a host alone what it submits, and the sessions that begin, are chosen in their turn.
-use Rattle.std.proofs.Common.{◌≡◌, ℕ, ◌≤◌, ◌&&◌, ◌||◌, not, Bool, true, false, List, [], ◌∷◌, ◌++◌, map, refl, sym, ap, ◌∙◌, subst, append-nil}
+use Rattle.std.proofs.Common.{◌≡◌, ℕ, ◌≤◌, ◌||◌, not, Bool, true, false, List, [], ◌∷◌, ◌++◌, map, refl, sym, ap, ◌∙◌, subst, append-nil}
 use Rattle.std.specs.List.{AllByRecursion, flat_map, list_any}
 use Rattle.std.proofs.lemmas.Bool.{or_left, or_right}
-use Rattle.zw_base.proofs.Each.{all-weaker}
-use Rattle.serial_frame.specs.Frame.{FrameParts}
 use Rattle.serial_frame.specs.Items.{unit_text}
 use Rattle.serial_frame.specs.declared.item.Item.{Item}
 use Rattle.serial_frame.specs.declared.item.Item.TheVariants.{Good, Refused as refused_item}
@@ -18,48 +16,46 @@ use Rattle.zw_text.specs.Transcript.{joined}
 use Rattle.host_heard.specs.declared.told.Told.{Told}
 use Rattle.law_transcript.specs.Lists.{EachAfter}
 use Rattle.law_transcript.specs.Units.{Carried, sending_in, sending_of}
-use Rattle.law_time.specs.Attempts.{Attempts, Serving, serving}
+use Rattle.law_time.specs.Attempts.{Serving, serving}
 use Rattle.law_time.specs.Choice.{is_chosen, is_part, parts_of}
 use Rattle.law_time.specs.Ends.{is_abort, is_abort_frame}
 use Rattle.law_time.specs.Heeds.{Heeds}
 use Rattle.law_time.specs.Moments.{Allows, clock}
-use Rattle.law_time.specs.Queue.{Requests, queue_before, requests}
+use Rattle.law_time.specs.Queue.{queue_before, requests}
 use Rattle.law_time.specs.Requests.{are_none, asked, is_new}
-use Rattle.host_requests.specs.Frames.{frame_of, request_of}
+use Rattle.host_requests.specs.Frames.{frame_of}
 use Rattle.host_requests.specs.State.{next_id}
 use Rattle.host_requests.specs.declared.task.Purpose.{Purpose}
-use Rattle.host_requests.specs.declared.task.Purpose.TheVariants.{Attempt, Housekeeping, Abort}
+use Rattle.host_requests.specs.declared.task.Purpose.TheVariants.{Attempt, Abort}
 use Rattle.host_requests.specs.declared.task.Task.{Task}
-use Rattle.host_node.specs.declared.series.Series.TheVariants.{Due}
 use Rattle.host_model.specs.State.{HostState, node_of}
 use Rattle.host_model.specs.After.{task_purpose}
 use Rattle.host_model.specs.Did.{MayAll}
-use Rattle.host_model.specs.Events.{HostEvent, Accepts, Cancels, Submits_abort, Submits_front, Starts, Gives_text, Gives_segment, Begins, Begin_unkept, Requests_do, Line_ticks, Node_ticks}
+use Rattle.host_model.specs.Events.{HostEvent, Accepts, Cancels, Submits_abort, Submits_front, Starts, Gives_text, Gives_segment, Begins, Begin_unkept}
 use Rattle.host_model.specs.Facts.{HostFacts}
 use Rattle.host_model.specs.May.{IsFree, IsServed, May as MayHost}
 use Rattle.host_model.specs.Outs.{answer_to, answers, outs}
-use Rattle.host_model.specs.Pumping.{IsNext, no_more_event}
+use Rattle.host_model.specs.Pumping.{IsNext}
 use Rattle.host_model.specs.declared.out.HostOut.TheVariants.{Note, Write}
 use Rattle.host_model.proofs.Submitted.{SleepersAre, next_is, no_more_is}
-use Rattle.proof_work.proofs.HostOuts.{SharedAre, outs_are}
-use Rattle.proof_attempts.specs.proof_requests.law_host.Heard.{heeds_alone}
-use Rattle.proof_attempts.specs.proof_requests.Asking.{doing_of}
-use Rattle.proof_attempts.specs.proof_requests.Walking.{Ground as RequestsGround, IsRead, IsTied, ReadsAs}
-use Rattle.proof_attempts.specs.proof_requests.proof_alone.State.{HostMachine}
-use Rattle.proof_attempts.specs.proof_requests.proof_alone.Steps.{AreTold, DidNotCome, IsOfOthers, IsOfUnit, Step, Tells, Comes, Misses, Says, Says_nothing, Asks, Refuses, Shows, Restarts, Begins_tick, Numbers, Judges, Does, entries, happens}
-use Rattle.proof_attempts.specs.proof_requests.proof_alone.Phases.{Phase, Ticking, Behind, Sleeping, Submitting, GoesBy, IsNumbered, May}
-use Rattle.proof_attempts.specs.proof_requests.proof_alone.Runs.{WalkOver}
-use Rattle.proof_attempts.specs.Since.{InTick, IsOfItem, TicksAt}
-use Rattle.proof_attempts.proofs.Lasting.{by_else, rest_of}
-use Rattle.proof_attempts.proofs.Queued.{PayloadsBring, served_is_node}
-use Rattle.proof_attempts.proofs.Requested.{Unsubmitted}
-use Rattle.proof_attempts.proofs.Stepping.{IsSubmission, event_is_read, submissions, time_told}
-use Rattle.proof_attempts.proofs.Telling.{told_so}
-use Rattle.proof_attempts.proofs.Walking.{is_fresh, written_told}
-use Rattle.proof_attempts.proofs.Wrote.{Wrote, writes}
-use Rattle.proof_attempts.proofs.Wrote.Wrote.{Quietly, Again, Anew}
-use Rattle.proof_attempts.proofs.proof_alone_Apart.{AreOfLine}
-use Rattle.proof_attempts.proofs.proof_requests_Telling.{IsQuiet}
+use Rattle.proof_queue.proofs.HostOuts.{SharedAre, outs_are}
+use Rattle.proof_queue.specs.proof_attempts.proof_requests.law_host.Heard.{heeds_alone}
+use Rattle.proof_queue.specs.proof_attempts.proof_requests.Asking.{doing_of}
+use Rattle.proof_queue.specs.proof_attempts.proof_requests.Walking.{Ground as RequestsGround, IsRead, IsTied, ReadsAs}
+use Rattle.proof_queue.specs.proof_attempts.proof_requests.proof_alone.State.{HostMachine}
+use Rattle.proof_queue.specs.proof_attempts.proof_requests.proof_alone.Steps.{AreTold, DidNotCome, IsOfOthers, IsOfUnit, Step, Tells, Comes, Misses, Says, Says_nothing, Asks, Refuses, Shows, Restarts, Begins_tick, Numbers, Judges, Does, entries}
+use Rattle.proof_queue.specs.proof_attempts.proof_requests.proof_alone.Phases.{Phase, Ticking, Behind, Sleeping, Submitting, IsNumbered, May}
+use Rattle.proof_queue.specs.proof_attempts.proof_requests.proof_alone.Runs.{WalkOver}
+use Rattle.proof_queue.specs.proof_attempts.Since.{InTick, IsOfItem, TicksAt}
+use Rattle.proof_queue.proofs.Lasting.{by_else, rest_of}
+use Rattle.proof_queue.proofs.Queued.{PayloadsBring, served_is_node}
+use Rattle.proof_queue.proofs.Stepping.{IsSubmission, event_is_read, submissions, time_told}
+use Rattle.proof_queue.proofs.Telling.{told_so}
+use Rattle.proof_queue.proofs.proof_attempts_Walking.{is_fresh, written_told}
+use Rattle.proof_queue.proofs.Wrote.{Wrote, writes}
+use Rattle.proof_queue.proofs.Wrote.Wrote.{Quietly, Again, Anew}
+use Rattle.proof_queue.proofs.proof_alone_Apart.{AreOfLine}
+use Rattle.proof_queue.proofs.proof_requests_Telling.{IsQuiet}
 use Rattle.proof_queue.specs.Waiting.{want_of_task}
 use Rattle.proof_giving.specs.Told.{attempts_so_far}
 use Rattle.proof_choice.specs.Choosing.{begins_well, may_choose}
@@ -72,11 +68,11 @@ use Rattle.proof_choice.proofs.Parts.{segment_chosen, start_chosen, text_chosen}
 -- ---- entries that choose nothing
 
 -- no session begins
-abbrev IsNoBegin : Entry → Type 0
+abbrev pub IsNoBegin : Entry → Type 0
 IsNoBegin (entry.Begin node session command) = ⊥
 IsNoBegin e = Unit {0}
 
-abbrev BeginsNone : HostEvent → Type 0
+abbrev pub BeginsNone : HostEvent → Type 0
 BeginsNone (Begins n session command) = ⊥
 BeginsNone event = Unit {0}
 
@@ -96,7 +92,7 @@ shared_none = record {
   full = λ n. tt;
 }
 
-told_none : (h : HostState) (event : HostEvent) (told : List Entry) → BeginsNone event → AreTold (outs h event) told → AllByRecursion IsNoBegin told
+pub told_none : (h : HostState) (event : HostEvent) (told : List Entry) → BeginsNone event → AreTold (outs h event) told → AllByRecursion IsNoBegin told
 told_none h (Begins n session command) told none are = absurd none
 told_none h (Accepts order carriage) told none are = told_so IsNoBegin line_none [] told tt are
 told_none h event told none are = told_so IsNoBegin line_none (outs h event) told (outs_are IsNoBegin shared_none h event tt) are

@@ -1,5 +1,5 @@
 -- How what the keeper has failed to keep in a tick goes on with entries.
-use Rattle.std.proofs.Common.{◌≡◌, ◌⊎◌, ℕ, ◌+◌, ◌≤◌, ◌==◌, ◌&&◌, ◌||◌, not, Bool, true, false, if◌then◌else◌, inl, inr, List, [], ◌∷◌, ◌++◌, refl, sym, ap, ap₂, ◌∙◌, subst, append-nil, arith}
+use Rattle.std.proofs.Common.{◌≡◌, ℕ, ◌+◌, ◌≤◌, ◌==◌, ◌&&◌, ◌||◌, not, Bool, true, false, if◌then◌else◌, List, [], ◌∷◌, ◌++◌, refl, sym, ap, ap₂, ◌∙◌, subst, append-nil, append_assoc, arith}
 use Rattle.std.specs.List.{AllByRecursion, list_any}
 use Rattle.std.proofs.lemmas.Bool.{and_right, eq-eqb, ne_eqb}
 use Rattle.zw_text.specs.declared.entry.Entry.{Entry}
@@ -13,10 +13,17 @@ use Rattle.law_time.specs.Judged.{after_step, is_following, last_of}
 use Rattle.law_time.specs.Moments.{clock}
 use Rattle.law_time.specs.Requests.{are_none}
 use Rattle.host_node.specs.State.{NodeState}
-use Rattle.proof_attempts.proofs.Opening.{last_is}
-use Rattle.proof_attempts.proofs.proof_waking_Apart.{said_anew}
-use Rattle.proof_waking.proofs.Listening.{shown_joined}
+use Rattle.proof_queue.proofs.Opening.{last_is}
+use Rattle.proof_queue.proofs.proof_waking_Apart.{said_anew}
 use Rattle.proof_choice.specs.Blocked.{BlockedSo}
+
+shown_joined : (shows : List Entry → Entry → List ℕ) (start past told : List Entry) → shown_after shows start (past ++ told) ≡ shown_after shows start past ++ shown_after shows (start ++ past) told
+shown_joined shows start [] told = ap (λ (l : List Entry). shown_after shows l told) (sym (append-nil start))
+shown_joined shows start (e ∷ past) told =
+    let next : List Entry = start ++ e ∷ [] in
+    ap (λ (l : List ℕ). shows start e ++ l)
+    (shown_joined shows next past told ∙ ap (λ (l : List Entry). shown_after shows next past ++ shown_after shows l told) (append_assoc start (e ∷ []) past))
+    ∙ sym (append_assoc (shows start e) (shown_after shows next past) (shown_after shows (start ++ e ∷ past) told))
 
 abbrev Shows : Type 0
 Shows = List Entry → Entry → List ℕ

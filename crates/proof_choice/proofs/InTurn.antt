@@ -1,7 +1,6 @@
 -- What goes by the queue and is chosen in turn where nothing waits is sent in turn.
-use Rattle.std.proofs.Common.{◌≡◌, ℕ, ◌&&◌, ◌||◌, not, bytes_eq, Bool, true, false, if◌then◌else◌, List, [], ◌∷◌, ◌++◌, refl, sym, ap, ◌∙◌}
+use Rattle.std.proofs.Common.{◌≡◌, ℕ, ◌&&◌, ◌||◌, not, Bool, true, false, if◌then◌else◌, List, [], ◌∷◌, ◌++◌, refl, ap, ◌∙◌}
 use Rattle.std.specs.List.{list_any}
-use Rattle.std.proofs.lemmas.Bool.{and_from, and_parts}
 use Rattle.zw_words.specs.declared.side.Side.TheVariants.{Host, Chip}
 use Rattle.zw_text.specs.declared.entry.Entry.{Entry}
 use Rattle.zw_text.specs.declared.entry.Entry.TheVariants as entry
@@ -9,19 +8,18 @@ use Rattle.zw_text.specs.Transcript.{joined}
 use Rattle.host_heard.specs.declared.told.Told.{Told}
 use Rattle.law_transcript.specs.Commands.{waiting}
 use Rattle.law_transcript.specs.Lists.{EachAfter}
-use Rattle.law_transcript.specs.Units.{Carried, request_in, sending_in}
+use Rattle.law_transcript.specs.Units.{Carried, sending_in}
 use Rattle.law_time.specs.Attempts.{Serving, serving}
 use Rattle.law_time.specs.Choice.{has_turn, is_chosen, is_in_tick, is_in_turn, is_next, is_to_begin, may_send, unbegun_when}
 use Rattle.law_time.specs.Ends.{is_abort_frame, owes_abort}
 use Rattle.law_time.specs.Heeds.{Heeds}
 use Rattle.law_time.specs.Moments.{Allows, clock}
-use Rattle.law_time.specs.Queue.{Queue, Requests, is_first, queue_before, requests, waits_before}
+use Rattle.law_time.specs.Queue.{Requests, is_first, queue_before, requests, waits_before}
 use Rattle.law_time.specs.Requests.{Asked, are_none, asked, is_new}
-use Rattle.law_time.specs.Wants.{want_of}
-use Rattle.proof_attempts.specs.proof_requests.law_host.Heard.{heeds_alone}
+use Rattle.proof_queue.specs.proof_attempts.proof_requests.law_host.Heard.{heeds_alone}
 use Rattle.proof_queue.specs.Turn.{is_first_waiting, may_ask, may_go}
 use Rattle.proof_queue.proofs.Books.{last_is}
-use Rattle.proof_choice.specs.Choosing.{begins_well, may_choose}
+use Rattle.proof_choice.specs.Choosing.{may_choose}
 
 -- one that is new
 ask_in_turn : (chosen first : Bool) (owes is_abort : Bool) → (if owes then is_abort else not is_abort && first) ≡ true → (is_abort || chosen) ≡ true → (if owes then is_abort else not is_abort && chosen) ≡ true

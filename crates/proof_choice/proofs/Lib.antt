@@ -16,3 +16,6 @@ mod InTurn
 mod Whole
 mod Wanting
 mod Nonces
+mod ReadyGoes
+mod ReadyTie
+mod ReadyWalk

@@ -1,20 +1,19 @@
 -- Which nonce of a node a host takes behind a payload, by the messages of it that are heeded.
-use Rattle.std.proofs.Common.{◌≡◌, ◌⊎◌, ℕ, ◌+◌, ◌-◌, ◌%◌, ◌<◌, ◌==◌, ◌&&◌, nat_lt, not, Bool, true, false, if◌then◌else◌, inl, inr, Option, Some, None, length, List, [], ◌∷◌, ◌++◌, refl, sym, ap, ap₂, ◌∙◌, subst, append-nil, append_assoc, length-append, arith}
-use Rattle.std.specs.Prelude.{Result, Ok, Err, slice_index}
-use Rattle.std.specs.List.{AllByRecursion, flat_map}
+use Rattle.std.proofs.Common.{◌≡◌, ◌⊎◌, ℕ, ◌-◌, ◌<◌, Bool, true, false, if◌then◌else◌, inl, inr, Option, Some, None, length, List, [], ◌∷◌, ◌++◌, refl, sym, ap, ap₂, ◌∙◌, subst, append-nil, append_assoc, length-append, arith}
+use Rattle.std.specs.Prelude.{slice_index}
+use Rattle.std.specs.List.{flat_map}
 use Rattle.std.proofs.lemmas.List.{get_or_at, length-set}
-use Rattle.std.proofs.lemmas.Bool.{cases_Bool, eq-eqb, eqb-true, ltb-true}
+use Rattle.std.proofs.lemmas.Bool.{cases_Bool, eq-eqb}
 use Rattle.std.proofs.lemmas.Grind.{flat_map-append}
 use Rattle.zw_base.specs.declared.property.Setting.{Setting}
-use Rattle.zw_base.proofs.Each.{all-left, all-right}
 use Rattle.s0_crypto.specs.declared.key_pair.Keys.{Keys}
-use Rattle.s0_crypto.specs.Seal.{Seals, code_of}
+use Rattle.s0_crypto.specs.Seal.{code_of}
 use Rattle.s0_crypto.proofs.OpeningLemmas.{length-code_of}
 use Rattle.s0_session.specs.Nonces.{live_of}
-use Rattle.s0_session.specs.Sending.{seen_after, taken_from}
+use Rattle.s0_session.specs.Sending.{taken_from}
 use Rattle.class_info.specs.declared.report_status.ReportStatus.{ReportStatus}
 use Rattle.class_info.specs.Values.{status_byte}
-use Rattle.supervision.specs.Host.{command_at as command_of_session, open_session, told_of}
+use Rattle.supervision.specs.Host.{told_of}
 use Rattle.supervision.specs.declared.host_node.Told.{Told as TheTold}
 use Rattle.supervision.specs.declared.host_node.Told.TheVariants as booked
 use Rattle.host_heard.specs.declared.payload.Heard.{Heard}
@@ -32,11 +31,9 @@ use Rattle.host_model.specs.Did.{after_all}
 use Rattle.host_model.specs.Events.{HostEvent, Starts, Gives_text, Unreads, Is_unkept, Reports_old, Works, Finishes, Offers, Gives, Spends, Spends_unread, Takes_nonce, Notifies, Resends, Hears_value, Has_no_room}
 use Rattle.host_model.specs.Taking.{AreTaken, FinalEvents, IsKeptOr, IsOpened, IsTaken, NonceGetEvents, NonceReportEvents, PayloadEvents, ReportEvents, SealedEvents, is_secure, named_by, resent, value_event, value_events, wanted_segment}
 use Rattle.law_time.specs.Attempts.{nonce_told}
-use Rattle.proof_attempts.proofs.Doings.{Doing, did, does_all, node_after, nodes_are}
-use Rattle.proof_queue.proofs.Kept.{IsFollower}
-use Rattle.proof_queue.proofs.proof_waking_Followed.{FollowersAre, payload_all}
+use Rattle.proof_queue.proofs.Doings.{Doing, did, does_all, node_after, nodes_are}
 use Rattle.proof_queue.specs.Heeding.{heeded_of, heeded_opened, heeded_payload, heeded_sealed, taken_up}
-use Rattle.proof_choice.proofs.Staying.{LeavesTexts, Stays, all_stay, event_goes, no_some, stays_same, then_stays}
+use Rattle.proof_choice.proofs.Staying.{LeavesTexts, Stays, all_stay, event_goes, stays_same, then_stays}
 
 -- ---- a sealed text
 

@@ -1,42 +1,40 @@
 -- Each node for which a host alone has work joined by its transcript: for it a command was accepted, and that was after it joined.
-use Rattle.std.proofs.Common.{◌≡◌, ℕ, zero, suc, ◌<◌, ◌==◌, ◌&&◌, ◌||◌, nat_lt, Bool, true, false, if◌then◌else◌, Option, Some, None, All, length, List, [], ◌∷◌, ◌++◌, refl, sym, ap, ◌∙◌, subst, append-nil, append_assoc, arith}
-use Rattle.std.specs.Prelude.{is_none, is_some}
-use Rattle.std.specs.List.{AllByRecursion, flat_map, list_any}
-use Rattle.std.proofs.lemmas.Bool.{and_parts, eqb-true, or_left}
+use Rattle.std.proofs.Common.{◌≡◌, ℕ, ◌==◌, ◌&&◌, nat_lt, Bool, true, false, if◌then◌else◌, Some, length, List, [], ◌∷◌, ◌++◌, refl, sym, ap, ◌∙◌, subst, append-nil, append_assoc, arith}
+use Rattle.std.specs.Prelude.{is_none}
+use Rattle.std.specs.List.{AllByRecursion, flat_map}
+use Rattle.std.proofs.lemmas.Bool.{and_parts, or_left}
 use Rattle.std.proofs.lemmas.Grind.{flat_map-append}
 use Rattle.std.proofs.lemmas.List.Folds.{list_any-append}
 use Rattle.std.proofs.lemmas.List.Elements.{recursion_from_All}
-use Rattle.zw_base.specs.declared.order.Order.{Order}
 use Rattle.zw_words.specs.declared.side.Side.TheVariants.{Chip}
 use Rattle.zw_text.specs.declared.line.Line.{Line}
 use Rattle.zw_text.specs.declared.entry.Entry.{Entry}
 use Rattle.zw_text.specs.declared.entry.Entry.TheVariants as entry
-use Rattle.zw_text.specs.Transcript.{Doing, doing_lines, doing_step, folded, join_of, joined, line_of, lines_done, shown}
+use Rattle.zw_text.specs.Transcript.{Doing, doing_lines, doing_step, folded, join_of, joined, shown}
 use Rattle.zw_text.proofs.Views.{folded-append}
-use Rattle.supervision.specs.Host.{command_at as command_of_session, open_session}
+use Rattle.supervision.specs.Host.{open_session}
 use Rattle.law_transcript.specs.Lists.{EachAfter}
 use Rattle.law_transcript.specs.Stores.{node_at}
-use Rattle.host_node.specs.Facts.{NodeFacts, SeriesFacts}
 use Rattle.host_node.specs.State.{NodeState, has_waiting, has_work as works, is_false, is_idle, is_up}
 use Rattle.host_node.specs.declared.series.Series.{Series}
 use Rattle.host_node.specs.declared.series.Series.TheVariants.{Idle, Due, Running}
 use Rattle.host_model.specs.State.{HostState, node_of}
 use Rattle.host_model.specs.Events.{HostEvent, Accepts, Cancels, Hears}
 use Rattle.host_model.specs.Facts.{HostFacts, IsCommandOf}
-use Rattle.host_model.specs.May.{IsAccepted, May as MayHost, known_of}
+use Rattle.host_model.specs.May.{May as MayHost, known_of}
 use Rattle.host_model.specs.Outs.{answers, outs}
 use Rattle.host_model.proofs.Events.{session_owned}
 use Rattle.host_model.proofs.Tests.{open_command_is, unrefused_is, unrefused_so}
 use Rattle.proof_host.specs.Facts.{Facts}
 use Rattle.proof_host.specs.Tables.{nodes_by}
-use Rattle.proof_work.proofs.HostNotes.{NoteOuts, all_outs_note}
-use Rattle.proof_work.specs.proof_walk.Outside.{IsHostNote}
-use Rattle.proof_attempts.specs.proof_requests.proof_alone.State.{HostMachine}
-use Rattle.proof_attempts.specs.proof_requests.proof_alone.Steps.{AreTold, IsOfOthers, Step, Tells, Comes, Misses, Says, Says_nothing, Asks, Refuses, Shows, Restarts, Begins_tick, Numbers, Judges, Does, entries, happens}
-use Rattle.proof_attempts.specs.proof_requests.proof_alone.Phases.{Phase, Asked, May}
-use Rattle.proof_attempts.specs.proof_requests.proof_alone.Runs.{WalkOver}
-use Rattle.proof_attempts.proofs.proof_alone_Apart.{AreOfLine, missed_are, told_are}
-use Rattle.proof_known.specs.Known.{KnowsTold}
+use Rattle.proof_queue.proofs.HostNotes.{NoteOuts, all_outs_note}
+use Rattle.proof_rests.specs.proof_nonces.proof_work.proof_walk.Outside.{IsHostNote}
+use Rattle.proof_queue.specs.proof_attempts.proof_requests.proof_alone.State.{HostMachine}
+use Rattle.proof_queue.specs.proof_attempts.proof_requests.proof_alone.Steps.{AreTold, IsOfOthers, Step, Tells, Comes, Misses, Says, Says_nothing, Asks, Refuses, Shows, Restarts, Begins_tick, Numbers, Judges, Does, entries}
+use Rattle.proof_queue.specs.proof_attempts.proof_requests.proof_alone.Phases.{Phase, Asked, May}
+use Rattle.proof_queue.specs.proof_attempts.proof_requests.proof_alone.Runs.{WalkOver}
+use Rattle.proof_queue.proofs.proof_alone_Apart.{AreOfLine, missed_are, told_are}
+use Rattle.proof_rests.specs.proof_nonces.proof_known.Known.{KnowsTold}
 use Rattle.proof_queue.proofs.Orders.{is_among}
 use Rattle.proof_choice.proofs.Parts.{opened_of}
 

@@ -1,5 +1,5 @@
 -- What the session of a node has to send by the transcript is what the host has to give it.
-use Rattle.std.proofs.Common.{◌≡◌, ◌⊎◌, ℕ, ◌+◌, ◌-◌, ◌*◌, ◌/◌, ◌%◌, ◌<◌, ◌≤◌, ◌==◌, ◌&&◌, ◌||◌, nat_le, nat_lt, not, Bool, true, false, if◌then◌else◌, inl, inr, Option, Some, None, length, List, [], ◌∷◌, ◌++◌, map, refl, sym, ap, ap₂, ◌∙◌, subst, append-nil, arith}
+use Rattle.std.proofs.Common.{◌≡◌, ◌⊎◌, ℕ, ◌+◌, ◌-◌, ◌/◌, ◌<◌, ◌≤◌, ◌==◌, ◌&&◌, ◌||◌, nat_le, nat_lt, not, Bool, true, false, if◌then◌else◌, inl, inr, Option, Some, None, length, List, [], ◌∷◌, map, refl, sym, ap, ap₂, ◌∙◌, subst, append-nil, arith}
 use Rattle.std.specs.Prelude.{IsSome, bytes_eq, is_none, is_some, slice_index}
 use Rattle.std.specs.List.{flat_map, list_any}
 use Rattle.std.proofs.lemmas.Bool.{and_from, and_left, and_right, both_ways, eq-eqb, le-leb, lt-leb, lt-ltb, ltb-false, ltb-true, or_from, or_parts}
@@ -7,8 +7,6 @@ use Rattle.std.proofs.lemmas.Slice.Eq.{bytes_eq-Decides}
 use Rattle.zw_base.specs.declared.order.Order.{Order}
 use Rattle.encap.specs.Opening.{begins_with}
 use Rattle.supervision.specs.Host.{command_at as command_of_session, open_session}
-use Rattle.transport_segments.specs.Parts.{slice_at}
-use Rattle.transport_segments.specs.Segment.{segment_text}
 use Rattle.zw_text.specs.declared.entry.Entry.{Entry}
 use Rattle.zw_text.specs.Transcript.{accepted, sessions}
 use Rattle.host_heard.specs.declared.told.Told.{Told}
@@ -24,7 +22,7 @@ use Rattle.law_time.specs.Choice.{Part, Payload, Sealed_for, first_part, further
 use Rattle.law_time.specs.Heeds.{Heeds}
 use Rattle.law_time.specs.Requests.{are_none, asked}
 use Rattle.law_time.specs.Rests.{is_at_work, none_overdue, none_waits}
-use Rattle.law_time.specs.Sessions.{Session, is_open, last_command, last_place, runs, segment_at as segment_told, session_of}
+use Rattle.law_time.specs.Sessions.{Session, last_command, runs, segment_at as segment_told, session_of}
 use Rattle.law_time.specs.Waking.{is_up}
 use Rattle.host_node.specs.Facts.{NodeFacts, SeriesFacts}
 use Rattle.host_node.specs.State.{NodeState, has_segment, has_waiting, has_work as works, is_false, is_idle, is_open as has_open, is_up as hears}
@@ -34,15 +32,15 @@ use Rattle.host_node.specs.declared.series.Series.TheVariants.{Idle, Due, Runnin
 use Rattle.host_model.specs.State.{Command, HostState, command_at, node_of}
 use Rattle.host_model.specs.Facts.{FitsForm, HasSegments, HostFacts, IsSound}
 use Rattle.host_model.specs.May.{IsStart}
-use Rattle.host_model.specs.Sessions.{command_by, command_if, message_for, open_command, open_segment, segment_at, segment_by, segment_count, segment_of, start_by}
+use Rattle.host_model.specs.Sessions.{command_if, message_for, open_segment, segment_at, segment_by, segment_count, segment_of, start_by}
 use Rattle.host_model.proofs.Events.{session_owned}
 use Rattle.host_model.proofs.Pumps.{found_is}
 use Rattle.host_model.proofs.Tests.{open_command_is}
 use Rattle.proof_host.specs.Tables.{taken_by}
-use Rattle.proof_work.specs.Rests.{NodeRests}
-use Rattle.proof_attempts.specs.Attempts.{IsSign, LastIs, is_over_by}
-use Rattle.proof_attempts.specs.proof_requests.law_host.Heard.{heeds_alone, listing_heard}
-use Rattle.proof_attempts.proofs.AttemptsGo.{next_first, next_further, running_goes}
+use Rattle.proof_rests.specs.proof_nonces.proof_work.Rests.{NodeRests}
+use Rattle.proof_queue.specs.proof_attempts.Attempts.{IsSign, is_over_by}
+use Rattle.proof_queue.specs.proof_attempts.proof_requests.law_host.Heard.{heeds_alone, listing_heard}
+use Rattle.proof_queue.proofs.AttemptsGo.{next_first, next_further, running_goes}
 use Rattle.proof_queue.proofs.Segments.{open_is_last, session_last}
 use Rattle.proof_giving.specs.Stays.{ShowsSessions}
 use Rattle.proof_giving.specs.Tie.{SentAs, is_badly_over}
@@ -258,9 +256,9 @@ module _ (node_is : (heeds : Heeds) (n : ℕ) (past : List Entry) → (attempts_
 
     -- its sealed text
     text_by : (f : Form) → form ≡ f → GivesAs f s → (text : List ℕ) → s.text ≡ Some text → further_parts session f told ≡ Sealed_for (slice_index text (length text - 9)) ∷ []
-    text_by Plain is gives text has = none_some _ s.text text gives.1 has
-    text_by Cut is gives text has = none_some _ s.text text (sent.segments gives).1 has
-    text_by Sealed is gives text has = ap (λ (l : List ℕ). map (λ first. Sealed_for first) l) (known.ready.text text has)
+    text_by Plain is as_form text has = none_some _ s.text text as_form.1 has
+    text_by Cut is as_form text has = none_some _ s.text text (sent.segments as_form).1 has
+    text_by Sealed is as_form text has = ap (λ (l : List ℕ). map (λ first. Sealed_for first) l) (known.ready.text text has)
 
     pub text_parts : (text : List ℕ) → s.text ≡ Some text → parts_now ≡ Sealed_for (slice_index text (length text - 9)) ∷ []
     text_parts text has = run_parts running ∙ further_as form session (it (run_busy running)).form ∙ text_by form refl gives text has
@@ -326,7 +324,7 @@ module _ (node_is : (heeds : Heeds) (n : ℕ) (past : List Entry) → (attempts_
 
   none_is : (o : Option ℕ) → is_none o ≡ is_false (is_some o)
   none_is None = refl
-  none_is (Some session) = refl
+  none_is (Some one) = refl
 
   idle_works : s.series ≡ Idle → works s ≡ (is_false (has_open s) && has_waiting s && hears s && is_false s.blocked)
   idle_works idle = by s idle ∙ ap (λ (b : Bool). b && has_waiting s && hears s && is_false s.blocked) (none_is (open_session s.book))
@@ -413,10 +411,10 @@ module _ (node_is : (heeds : Heeds) (n : ℕ) (past : List Entry) → (attempts_
   any_one payload part is parts = ap (λ (l : List Part). list_any (is_part payload) l) parts ∙ ap (λ (b : Bool). b || false) is
 
   starts_as : (f : Form) (one : Session) (session : ℕ) (message : List ℕ) → one.number ≡ session → one.message ≡ message → is_part (start_by f session message).payload (first_part one f) ≡ true
-  starts_as Plain one session message numbers messages = same_bytes message one.message (sym messages)
-  starts_as Cut one session message numbers messages =
-      same_bytes (segment_at session message 0) (segment_told one 0) (sym (ap₂ (λ (k : ℕ) (l : List ℕ). segment_at k l 0) numbers messages))
-  starts_as Sealed one session message numbers messages = refl
+  starts_as Plain one number message numbers messages = same_bytes message one.message (sym messages)
+  starts_as Cut one number message numbers messages =
+      same_bytes (segment_at number message 0) (segment_told one 0) (sym (ap₂ (λ (k : ℕ) (l : List ℕ). segment_at k l 0) numbers messages))
+  starts_as Sealed one number message numbers messages = refl
 
   pub start_chosen : (plan : Plan) (more : Bool) (payload : List ℕ) → s.series ≡ Due → IsStart h n plan more payload → list_any (is_part payload) parts_now ≡ true
   start_chosen plan more payload due start =

@@ -1,5 +1,5 @@
 -- What a running attempt has to give stays as its order is carried, by each event of a host.
-use Rattle.std.proofs.Common.{◌≡◌, ℕ, zero, suc, ◌+◌, ◌-◌, ◌<◌, ◌≤◌, ◌==◌, ◌&&◌, nat_lt, Bool, true, false, if◌then◌else◌, length, List, [], ◌∷◌, ◌++◌, Option, Some, None, Contains, refl, sym, ap, ◌∙◌, subst, arith}
+use Rattle.std.proofs.Common.{◌≡◌, ℕ, zero, suc, ◌<◌, ◌≤◌, ◌==◌, Bool, true, false, if◌then◌else◌, length, List, [], Option, Some, None, refl, sym, ap, ◌∙◌, subst, arith}
 use Rattle.std.proofs.lemmas.Bool.{eqb-true}
 use Rattle.s0_crypto.specs.declared.key_pair.Keys.{Keys}
 use Rattle.supervision.specs.Host.{HostBook, command_at as command_of_session, open_session}
@@ -12,7 +12,7 @@ use Rattle.host_node.specs.declared.attempt.Plan.{Plan}
 use Rattle.host_node.specs.declared.attempt.Plan.TheVariants.{Whole, Segments, Sealed}
 use Rattle.host_node.specs.declared.series.Series.{Series}
 use Rattle.host_node.specs.declared.series.Series.TheVariants.{Idle, Due, Running}
-use Rattle.host_node.specs.State.{NodeState, SealsText}
+use Rattle.host_node.specs.State.{NodeState}
 use Rattle.host_node.specs.Steps.{after_nonce, after_start}
 use Rattle.host_node.specs.Events.{FitsPlan, after as after_node}
 use Rattle.host_node.specs.Events.NodeEvent.{Begins as node_begins}
@@ -20,17 +20,17 @@ use Rattle.host_node.specs.TableState.{node_of as node_among, unknown_from, unkn
 use Rattle.host_model.specs.State.{Command, HostState, command_at, first_host, first_nodes, node_of}
 use Rattle.host_model.specs.After.{after}
 use Rattle.host_model.specs.Events.{HostEvent, Takes_nonce, Hears, Starts, Gives_text, Begins}
-use Rattle.host_model.specs.Facts.{HostFacts, IsCommandOf}
+use Rattle.host_model.specs.Facts.{HostFacts}
 use Rattle.host_model.specs.May.{IsStart, May}
 use Rattle.host_model.specs.Sessions.{message_for, start_by}
 use Rattle.host_model.proofs.Events.{session_owned}
-use Rattle.proof_host.specs.Tables.{taken_at, taken_by}
+use Rattle.proof_host.specs.Tables.{taken_by}
 use Rattle.proof_host.proofs.Commands.{taken_set}
-use Rattle.proof_attempts.specs.proof_requests.proof_alone.Phases.{Resting}
-use Rattle.proof_attempts.specs.Since.{Lasts}
-use Rattle.proof_attempts.specs.Waking.{KnowsWork}
-use Rattle.proof_attempts.proofs.Counting.{each_starts}
-use Rattle.proof_attempts.proofs.Doings.{did, node_after}
+use Rattle.proof_queue.specs.proof_attempts.proof_requests.proof_alone.Phases.{Resting}
+use Rattle.proof_queue.specs.proof_attempts.Since.{Lasts}
+use Rattle.proof_queue.specs.proof_attempts.Waking.{KnowsWork}
+use Rattle.proof_queue.proofs.Counting.{each_starts}
+use Rattle.proof_queue.proofs.Doings.{did, node_after}
 use Rattle.proof_giving.specs.Stays.{KeepsSessions, NoSession}
 use Rattle.proof_choice.specs.Plans.{GivesAs, PlanSo, PlansAreSo}
 use Rattle.proof_choice.proofs.Staying.{LeavesTexts, Stays, all_stay, due_not, event_goes, idle_not, no_some, none_of, stays_same}

@@ -1,12 +1,11 @@
 -- For which nonce a message is ready stays so, by what an event makes of a node.
-use Rattle.std.proofs.Common.{◌≡◌, ℕ, ◌-◌, ◌≤◌, Bool, false, Option, Some, None, length, List, [], ◌∷◌, refl, sym, ◌∙◌, arith}
-use Rattle.std.specs.Prelude.{slice_index}
+use Rattle.std.proofs.Common.{◌≡◌, ℕ, Bool, false, None, refl, sym, ◌∙◌, arith}
 use Rattle.law_time.specs.Attempts.{Attempts, anew}
 use Rattle.host_node.specs.Facts.{NodeFacts, SeriesFacts}
 use Rattle.host_node.specs.declared.series.Series.{Series}
 use Rattle.host_node.specs.declared.series.Series.TheVariants.{Idle, Due, Running}
 use Rattle.host_node.specs.State.{NodeState}
-use Rattle.proof_attempts.specs.Attempts.{AreAttempts, begun_of}
+use Rattle.proof_queue.specs.proof_attempts.Attempts.{AreAttempts, begun_of}
 use Rattle.proof_choice.specs.Ready.{ReadySo}
 use Rattle.proof_choice.proofs.Staying.{Stays, no_some, none_of}
 
@@ -47,4 +46,3 @@ unbegun_bare told s time badly facts are = by s.series are.begun facts.series
     by Idle begun f = (f.1.no_text, f.1.no_pending)
     by Due begun f = (f.2.no_text, f.2.no_pending)
     by Running begun f = absurd (omega (arith, begun))
-

@@ -1,5 +1,5 @@
 -- Where a host alone rests nothing is left: nothing waits, no abort is owed, and nothing is owed to any node.
-use Rattle.std.proofs.Common.{◌≡◌, ℕ, ◌≤◌, ◌&&◌, ◌||◌, not, Bool, true, false, List, [], ◌∷◌, ◌++◌, map, refl, sym, ap, ap₂, ◌∙◌, subst}
+use Rattle.std.proofs.Common.{◌≡◌, ℕ, ◌≤◌, ◌&&◌, not, true, List, [], ◌∷◌, ◌++◌, map, refl, ap, ◌∙◌}
 use Rattle.std.specs.List.{AllByRecursion, list_all}
 use Rattle.std.proofs.lemmas.Bool.{and_from, and_parts}
 use Rattle.zw_text.specs.declared.entry.Entry.{Entry}
@@ -14,16 +14,15 @@ use Rattle.law_time.specs.Attempts.{Attempts, Serving, serving}
 use Rattle.law_time.specs.Ends.{owes_abort}
 use Rattle.law_time.specs.Heeds.{Heeds}
 use Rattle.law_time.specs.Moments.{Allows}
-use Rattle.law_time.specs.Queue.{Queue, Requests, requests, with_due}
+use Rattle.law_time.specs.Queue.{requests, with_due}
 use Rattle.law_time.specs.Requests.{Asked, are_none, asked}
 use Rattle.law_time.specs.Rests.{has_come, is_rest, may_rest, none_overdue, none_waits, owes_nothing}
-use Rattle.host_model.specs.State.{HostState, node_of}
 use Rattle.host_model.specs.Facts.{HostFacts}
-use Rattle.proof_work.specs.Rests.{Rests}
-use Rattle.proof_attempts.specs.proof_requests.law_host.Heard.{heeds_alone}
-use Rattle.proof_attempts.specs.proof_requests.proof_alone.State.{HostMachine}
-use Rattle.proof_attempts.specs.proof_requests.proof_alone.Phases.{Resting}
-use Rattle.proof_attempts.specs.proof_requests.proof_alone.Time.{TieClock}
+use Rattle.proof_rests.specs.proof_nonces.proof_work.Rests.{Rests}
+use Rattle.proof_queue.specs.proof_attempts.proof_requests.law_host.Heard.{heeds_alone}
+use Rattle.proof_queue.specs.proof_attempts.proof_requests.proof_alone.State.{HostMachine}
+use Rattle.proof_queue.specs.proof_attempts.proof_requests.proof_alone.Phases.{Resting}
+use Rattle.proof_queue.specs.proof_attempts.proof_requests.proof_alone.Time.{TieClock}
 use Rattle.proof_queue.proofs.Books.{last_is}
 use Rattle.proof_queue.specs.Waiting.{queue_of, want_of_task}
 use Rattle.proof_giving.specs.Told.{attempts_so_far}

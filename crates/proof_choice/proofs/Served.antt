@@ -13,11 +13,11 @@ use Rattle.law_transcript.specs.Restarts.{begins_refused, is_restart}
 use Rattle.law_transcript.specs.Units.{Carried, sending_in}
 use Rattle.law_time.specs.Attempts.{Serving, no_attempts, served_step, serving, serving_after, serving_from}
 use Rattle.law_time.specs.Heeds.{Heeds}
-use Rattle.law_time.specs.Queue.{Requests, no_requests, queue_before, requests, requests_after, requests_from, waits_before}
+use Rattle.law_time.specs.Queue.{Requests, no_requests, queue_before, requests, requests_after, requests_from}
 use Rattle.law_time.specs.Requests.{Asked, are_none, asked, is_new}
-use Rattle.proof_attempts.specs.Series.{IsOfNoLine}
-use Rattle.proof_attempts.specs.proof_requests.law_host.Heard.{heeds_alone}
-use Rattle.proof_attempts.proofs.Ahead.{ahead_from, ahead_joined}
+use Rattle.proof_queue.specs.proof_attempts.Series.{IsOfNoLine}
+use Rattle.proof_queue.specs.proof_attempts.proof_requests.law_host.Heard.{heeds_alone}
+use Rattle.proof_queue.proofs.Ahead.{ahead_from, ahead_joined}
 use Rattle.proof_queue.proofs.Books.{last_is, same_step}
 use Rattle.proof_choice.specs.Served.{served_from, served_so_far}
 

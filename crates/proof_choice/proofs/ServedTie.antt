@@ -1,9 +1,8 @@
 -- The node that was served last by the transcript is the one that the host served last, where what waits at its requests is as it is told.
-use Rattle.std.proofs.Common.{◌≡◌, ℕ, ◌&&◌, Bool, true, false, if◌then◌else◌, Option, Some, None, List, [], ◌∷◌, ◌++◌, map, refl, sym, ap, ◌∙◌, subst, append-nil, append_assoc}
+use Rattle.std.proofs.Common.{◌≡◌, ℕ, Bool, true, false, if◌then◌else◌, Option, Some, None, List, [], ◌∷◌, ◌++◌, map, refl, sym, ap, ◌∙◌, subst, append-nil, append_assoc}
 use Rattle.std.specs.Prelude.{IsSome}
 use Rattle.std.specs.List.{AllByRecursion, flat_map}
 use Rattle.zw_base.proofs.Each.{all-weaker}
-use Rattle.serial_frame.specs.Frame.{FrameParts}
 use Rattle.serial_frame.specs.Items.{unit_text}
 use Rattle.serial_frame.specs.declared.item.Item.{Item}
 use Rattle.serial_frame.specs.declared.item.Item.TheVariants.{Good, Refused as refused_item}
@@ -20,16 +19,16 @@ use Rattle.zw_text.specs.declared.entry.Entry.TheVariants as entry
 use Rattle.host_heard.specs.declared.told.Told.{Told}
 use Rattle.law_transcript.specs.Lists.{last_or}
 use Rattle.law_transcript.specs.Nodes.{controller}
-use Rattle.law_transcript.specs.Units.{Carried, sending_in, sending_of}
+use Rattle.law_transcript.specs.Units.{Carried, sending_of}
 use Rattle.law_time.specs.Heeds.{Heeds}
 use Rattle.law_time.specs.Queue.{queue_before}
 use Rattle.law_time.specs.Requests.{are_none, asked, is_new}
 use Rattle.host_keep.specs.declared.record.Record.{Record}
 use Rattle.host_keep.specs.declared.record.Record.TheVariants as records
 use Rattle.host_keep.specs.declared.final_status.FinalStatus.{FinalStatus}
-use Rattle.host_requests.specs.Events.{RequestsEvent, end_at}
+use Rattle.host_requests.specs.Events.{end_at}
 use Rattle.host_requests.specs.Events.RequestsEvent.{Fails as request_fails, Pushes}
-use Rattle.host_requests.specs.Frames.{frame_of, request_of}
+use Rattle.host_requests.specs.Frames.{frame_of}
 use Rattle.host_requests.specs.State.{next_id}
 use Rattle.host_requests.specs.declared.end.End.{End}
 use Rattle.host_requests.specs.declared.end.How.{How}
@@ -42,35 +41,34 @@ use Rattle.host_node.specs.declared.attempt.AttemptEnd.TheVariants.{NoneRan, Aga
 use Rattle.host_node.specs.declared.attempt.Moment.{Moment}
 use Rattle.host_node.specs.declared.attempt.Moment.TheVariants.{BeforeItsTick}
 use Rattle.host_model.specs.State.{HostState, first_host}
-use Rattle.host_model.specs.After.{after, failing_if, finishing, gives_up, giving, holding, is_full, is_held, line_ticked, offering, queues_if_room, request_does, requests_do, task_purpose}
+use Rattle.host_model.specs.After.{after, failing_if, finishing, gives_up, giving, holding, is_full, is_held, line_ticked, offering, queues_if_room, requests_do, task_purpose}
 use Rattle.host_model.specs.Did.{MayAll}
 use Rattle.host_model.specs.Ends.{PartEnd, Good as good_end, Passed_over, Bad, after_end_if, after_part, after_task, attempt_ended, part_end}
-use Rattle.host_model.specs.Events.{HostEvent, Accepts, Cancels, Requests_do, Finishes, Offers, Gives, Resends, Hears, Line_ticks, Node_ticks, Submits_abort, Submits_front, Starts, Gives_text, Gives_segment, Begins, Begin_unkept}
+use Rattle.host_model.specs.Events.{HostEvent, Accepts, Cancels, Requests_do, Finishes, Offers, Gives, Resends, Line_ticks, Node_ticks, Submits_abort, Submits_front, Starts, Gives_text, Gives_segment, Begins, Begin_unkept}
 use Rattle.host_model.specs.May.{IsFree}
-use Rattle.host_model.specs.Opening.{opened, restored_all}
+use Rattle.host_model.specs.Opening.{restored_all}
 use Rattle.host_model.specs.Outs.{answer_to, answers, outs}
 use Rattle.host_model.specs.Pumping.{IsNext}
 use Rattle.host_model.specs.Restoring.{ending, restored}
-use Rattle.host_model.specs.declared.out.HostOut.{HostOut}
 use Rattle.host_model.specs.declared.out.HostOut.TheVariants.{Note, Write}
 use Rattle.host_model.proofs.Submitted.{next_is}
-use Rattle.proof_work.specs.proof_walk.ByLine.{IsAsked}
+use Rattle.proof_rests.specs.proof_nonces.proof_work.proof_walk.ByLine.{IsAsked}
 use Rattle.world_model.specs.Events.{OpensFrom}
-use Rattle.proof_attempts.specs.proof_requests.law_host.Heard.{heeds_alone}
-use Rattle.proof_attempts.specs.proof_requests.Asking.{doing_of}
-use Rattle.proof_attempts.specs.proof_requests.Walking.{Ground as RequestsGround, IsRead, IsTied, ReadsAs}
-use Rattle.proof_attempts.specs.proof_requests.proof_alone.State.{HostMachine}
-use Rattle.proof_attempts.specs.proof_requests.proof_alone.Steps.{AreTold, Does, IsOfUnit}
-use Rattle.proof_attempts.specs.proof_requests.proof_alone.Phases.{Phase, Resting, Submitting, IsNumbered, May}
-use Rattle.proof_attempts.specs.Since.{IsLoose, Lasts}
-use Rattle.proof_waking.proofs.InOrder.{is_asked}
-use Rattle.proof_attempts.proofs.Queued.{PayloadsBring}
-use Rattle.proof_attempts.proofs.Requested.{Unsubmitted}
-use Rattle.proof_attempts.proofs.Stepping.{IsSubmission, event_is_read, submissions, time_told}
-use Rattle.proof_attempts.proofs.Walking.{IsWritten, is_fresh, written_told}
-use Rattle.proof_attempts.proofs.Wrote.{Wrote, writes}
-use Rattle.proof_attempts.proofs.Wrote.Wrote.{Quietly, Again, Anew}
-use Rattle.proof_attempts.proofs.proof_requests_Telling.{IsQuiet}
+use Rattle.proof_queue.specs.proof_attempts.proof_requests.law_host.Heard.{heeds_alone}
+use Rattle.proof_queue.specs.proof_attempts.proof_requests.Asking.{doing_of}
+use Rattle.proof_queue.specs.proof_attempts.proof_requests.Walking.{Ground as RequestsGround, IsRead, IsTied, ReadsAs}
+use Rattle.proof_queue.specs.proof_attempts.proof_requests.proof_alone.State.{HostMachine}
+use Rattle.proof_queue.specs.proof_attempts.proof_requests.proof_alone.Steps.{AreTold, Does, IsOfUnit}
+use Rattle.proof_queue.specs.proof_attempts.proof_requests.proof_alone.Phases.{Phase, Resting, Submitting, IsNumbered, May}
+use Rattle.proof_queue.specs.proof_attempts.Since.{IsLoose, Lasts}
+use Rattle.proof_queue.proofs.InOrder.{is_asked}
+use Rattle.proof_queue.proofs.Queued.{PayloadsBring}
+use Rattle.proof_queue.proofs.Requested.{Unsubmitted}
+use Rattle.proof_queue.proofs.Stepping.{IsSubmission, event_is_read, submissions, time_told}
+use Rattle.proof_queue.proofs.proof_attempts_Walking.{is_fresh, written_told}
+use Rattle.proof_queue.proofs.Wrote.{Wrote, writes}
+use Rattle.proof_queue.proofs.Wrote.Wrote.{Quietly, Again, Anew}
+use Rattle.proof_queue.proofs.proof_requests_Telling.{IsQuiet}
 use Rattle.proof_queue.specs.Waiting.{want_of_task}
 use Rattle.proof_choice.specs.Served.{ServedAsTold, served_so_far}
 use Rattle.proof_choice.specs.Waits.{AskingGround, WaitsAnew}

@@ -1,27 +1,26 @@
 -- What waits in the host is known along each careful run where it submits, and where it rests.
-use Rattle.std.proofs.Common.{◌≡◌, ℕ, ◌+◌, ◌-◌, ◌&&◌, ◌||◌, Bool, true, List, [], ◌∷◌, map, refl, sym, ap, ◌∙◌, arith}
+use Rattle.std.proofs.Common.{◌≡◌, ℕ, ◌+◌, ◌-◌, ◌&&◌, List, [], map, refl, sym, ap, ◌∙◌, arith}
 use Rattle.std.proofs.lemmas.Bool.{or_left}
 use Rattle.zw_words.specs.declared.side.Side.TheVariants.{Host}
 use Rattle.zw_text.specs.declared.entry.Entry.{Entry}
 use Rattle.zw_text.specs.declared.entry.Entry.TheVariants as entry
-use Rattle.serial_frame.specs.Items.{unit_text}
 use Rattle.host_heard.specs.declared.told.Told.{Told}
 use Rattle.law_transcript.specs.Units.{Carried}
 use Rattle.law_time.specs.Heeds.{Heeds}
 use Rattle.law_time.specs.Judged.{is_acknowledgement}
-use Rattle.law_time.specs.Moments.{clock, now_at}
-use Rattle.law_time.specs.Queue.{has_looked, judges_first, queue_before, requests, with_due}
+use Rattle.law_time.specs.Queue.{judges_first, requests, with_due}
 use Rattle.law_time.specs.Requests.{Asked, asked, is_new}
-use Rattle.host_requests.specs.declared.task.Task.{Task}
-use Rattle.proof_attempts.specs.proof_requests.law_host.Heard.{heeds_alone}
-use Rattle.proof_attempts.specs.proof_requests.proof_alone.State.{HostMachine}
-use Rattle.proof_attempts.specs.proof_requests.proof_alone.Phases.{Phase, Resting, Submitting}
-use Rattle.proof_attempts.specs.proof_requests.proof_alone.Careful.{Careful}
-use Rattle.proof_attempts.specs.proof_requests.proof_alone.Runs.{Run}
-use Rattle.proof_attempts.specs.proof_requests.proof_alone.Runs.Run.{Begins, Turned, Stepped}
-use Rattle.proof_queue.specs.Heeding.{AllSteps, HeedsSo}
+use Rattle.proof_queue.specs.proof_attempts.proof_requests.law_host.Heard.{heeds_alone}
+use Rattle.proof_queue.specs.proof_attempts.proof_requests.proof_alone.State.{HostMachine}
+use Rattle.proof_queue.specs.proof_attempts.proof_requests.proof_alone.Phases.{Phase, Resting, Submitting}
+use Rattle.proof_queue.specs.proof_attempts.proof_requests.proof_alone.Careful.{Careful}
+use Rattle.proof_queue.specs.proof_attempts.proof_requests.proof_alone.Runs.{Run}
+use Rattle.proof_queue.specs.proof_attempts.proof_requests.proof_alone.Runs.Run.{Begins, Turned, Stepped}
+use Rattle.proof_queue.specs.Heeding.{AllSteps, HeedsAs, HeedsSo}
 use Rattle.proof_queue.specs.Waiting.{WaitsAtLooks, queue_of, want_of_task}
 use Rattle.proof_queue.proofs.Books.{last_is}
+use Rattle.proof_giving.specs.Walking.{KnowsAttempts}
+use Rattle.proof_choice.specs.Counting.{KnowsCounts}
 use Rattle.proof_choice.specs.Turning.{AllAlong}
 use Rattle.proof_choice.specs.Waits.{KnowsWants, WaitsAnew}
 
@@ -56,3 +55,23 @@ module _ (start : HostMachine) (taken : List Entry → Carried → List Told) wh
     wants_along {here = next} {told = told} {m = m} (Turned turns run) careful sure = (wants_along run careful.0 sure, known next told m (Turned turns run) careful sure)
     wants_along {here = next} {told = all} {m = later} (Stepped step may all_is later_is run) careful sure =
         (wants_along run careful.0 sure.0, known next all later (Stepped step may all_is later_is run) careful sure)
+
+-- and so are the attempts of each node
+module _ (start : HostMachine) (heeds : Heeds) where
+  abbrev pub CountsAt : Type 0
+  CountsAt =
+      (here : Phase) (told : List Entry) (m : HostMachine) → (run : Run start here told m) → Careful run → AllSteps (HeedsSo heeds) run → AllSteps (HeedsAs heeds) run → KnowsAttempts heeds here told m
+
+  counted : (here : Phase) (told : List Entry) (m : HostMachine) → KnowsAttempts heeds here told m → KnowsCounts heeds here told m
+  counted Submitting told m counts = counts
+  counted Resting told m counts = counts
+  counted here told m counts = tt
+
+  module _ (counts : CountsAt) where
+    pub attempts_along : {here : Phase} {told : List Entry} {m : HostMachine} → (run : Run start here told m) → Careful run → AllSteps (HeedsSo heeds) run → AllSteps (HeedsAs heeds) run
+        → AllAlong (KnowsCounts heeds) run
+    attempts_along Begins careful sure as_told = counted Resting [] start (counts Resting [] start Begins careful sure as_told)
+    attempts_along {here = next} {told = told} {m = m} (Turned turns run) careful sure as_told =
+        (attempts_along run careful.0 sure as_told, counted next told m (counts next told m (Turned turns run) careful sure as_told))
+    attempts_along {here = next} {told = all} {m = later} (Stepped step may all_is later_is run) careful sure as_told =
+        (attempts_along run careful.0 sure.0 as_told.0, counted next all later (counts next all later (Stepped step may all_is later_is run) careful sure as_told))

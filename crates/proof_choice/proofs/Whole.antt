@@ -1,6 +1,5 @@
 -- What is known of a host alone along its run gives all that its choice goes by.
-use Rattle.std.proofs.Common.{◌≡◌, ◌≤◌, ℕ, ◌+◌, true, List, [], ◌∷◌, ◌++◌, refl, sym, ap, ◌∙◌, subst, arith}
-use Rattle.std.specs.List.{AllByRecursion, list_any}
+use Rattle.std.proofs.Common.{◌≡◌, ℕ, List, [], arith}
 use Rattle.zw_base.proofs.Each.{all-weaker}
 use Rattle.zw_text.specs.declared.entry.Entry.{Entry}
 use Rattle.zw_text.specs.Transcript.{joined}
@@ -13,30 +12,26 @@ use Rattle.law_time.specs.Heeds.{Heeds}
 use Rattle.law_time.specs.Requests.{asked}
 use Rattle.serial_frame.specs.declared.unit.Unit.{Unit as LineUnit}
 use Rattle.host_node.specs.Facts.{NodeFacts}
-use Rattle.host_node.specs.State.{NodeState, has_work}
 use Rattle.host_model.specs.State.{HostState, node_of}
-use Rattle.proof_attempts.specs.proof_requests.law_host.Heard.{heeds_alone}
-use Rattle.proof_attempts.specs.proof_requests.Asking.{TieAsked, doing_of}
-use Rattle.proof_attempts.specs.proof_requests.Walking.{Ground as RequestsGround, KnowsAsked}
-use Rattle.proof_attempts.specs.proof_requests.proof_alone.State.{HostMachine}
-use Rattle.proof_attempts.specs.proof_requests.proof_alone.Steps.{AreFrames}
-use Rattle.proof_attempts.specs.proof_requests.proof_alone.Phases.{Phase, Resting, Submitting}
-use Rattle.proof_attempts.specs.proof_requests.proof_alone.Runs.{Knowledge, both_know}
-use Rattle.proof_attempts.specs.Attempts.{is_over_by}
-use Rattle.proof_attempts.specs.Since.{KnowsSince, node_clock}
-use Rattle.proof_queue.specs.Sleeping.{IsLooking}
+use Rattle.proof_queue.specs.proof_attempts.proof_requests.law_host.Heard.{heeds_alone}
+use Rattle.proof_queue.specs.proof_attempts.proof_requests.Asking.{TieAsked, doing_of}
+use Rattle.proof_queue.specs.proof_attempts.proof_requests.Walking.{Ground as RequestsGround, KnowsAsked}
+use Rattle.proof_queue.specs.proof_attempts.proof_requests.proof_alone.State.{HostMachine}
+use Rattle.proof_queue.specs.proof_attempts.proof_requests.proof_alone.Steps.{AreFrames}
+use Rattle.proof_queue.specs.proof_attempts.proof_requests.proof_alone.Phases.{Phase, Resting, Submitting}
+use Rattle.proof_queue.specs.proof_attempts.proof_requests.proof_alone.Runs.{Knowledge, both_know}
+use Rattle.proof_queue.specs.proof_attempts.Attempts.{is_over_by}
+use Rattle.proof_queue.specs.proof_attempts.Since.{KnowsSince}
 use Rattle.proof_queue.proofs.Joined.{IsInRange as HasJoined}
 use Rattle.proof_queue.proofs.Seeing.{Sights}
 use Rattle.proof_queue.proofs.Segments.{Shows}
 use Rattle.proof_giving.specs.Stays.{ShowsSessions}
 use Rattle.proof_giving.specs.Tie.{AttemptsSo, is_badly_over}
 use Rattle.proof_giving.specs.Told.{attempts_so_far}
-use Rattle.proof_choice.specs.Blocked.{BlockedSo, BlocksAsTold}
+use Rattle.proof_choice.specs.Blocked.{BlocksAsTold}
 use Rattle.proof_choice.specs.Counting.{KnowsCounts, KnowsReady}
-use Rattle.proof_choice.specs.Nodes.{NodeKnown}
-use Rattle.proof_choice.specs.Plans.{PlanSo, PlansAreSo}
-use Rattle.proof_choice.specs.Ready.{ReadySo}
-use Rattle.proof_choice.specs.Served.{ServedAsTold, served_so_far}
+use Rattle.proof_choice.specs.Plans.{PlansAreSo}
+use Rattle.proof_choice.specs.Served.{ServedAsTold}
 use Rattle.proof_choice.specs.Turning.{AllKnown, IsInRange, KnowsAll}
 use Rattle.proof_choice.proofs.Owners.{OwnLaw, owner_joined}
 

@@ -8,3 +8,4 @@ pub mod Turning
 pub mod Choosing
 pub mod Resting
 pub mod Counting
+pub mod Readying

@@ -88,11 +88,11 @@ use Rattle.proof_giving.proofs.Stays.{judged_stands, judging_of, over_of, stays_
 
 -- ---- what is read of a frame
 
-abbrev notices_of : Kind → ℕ → List ℕ → List Notice
+abbrev pub notices_of : Kind → ℕ → List ℕ → List Notice
 notices_of kind.Response func body = []
 notices_of kind.Request func body = read_well (notice_of func body)
 
-notices_in : (k : Kind) (func : ℕ) (body : List ℕ) (sum : ℕ) → notice_in (framed (kind_code k ∷ func ∷ body) sum) ≡ notices_of k func body
+pub notices_in : (k : Kind) (func : ℕ) (body : List ℕ) (sum : ℕ) → notice_in (framed (kind_code k ∷ func ∷ body) sum) ≡ notices_of k func body
 notices_in kind.Response func body sum = refl
 notices_in kind.Request func body sum = ap (λ (b : List ℕ). read_well (notice_of func b)) (body_is body func sum)
 

@@ -1,24 +1,24 @@
-mod Told
-mod Begun
-mod Asking
+pub mod Told
+pub mod Begun
+pub mod Asking
 mod Badly
 mod Stays
 mod EndsSo
 mod NodesGo
 mod Over
 mod HostGoes
-mod AtRest
-mod Orders
+pub mod AtRest
+pub mod Orders
 mod Inner
-mod Along
+pub mod Along
 mod Finished
 mod Fewer
 mod Signs
 mod Mild
 mod Staying
 mod Requesting
-mod Heeded
-mod Framed
+pub mod Heeded
+pub mod Framed
 mod Ticked
 mod Asked
 mod Interviewed
@@ -28,6 +28,6 @@ mod Rested
 mod GivesUp
 mod Given
 mod Carries
-mod Acked
-mod Quiet
+pub mod Acked
+pub mod Quiet
 mod Segments

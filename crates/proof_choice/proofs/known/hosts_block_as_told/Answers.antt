@@ -1,7 +1,6 @@
 -- The tie lasts along each run.
-use Rattle.s0_crypto.specs.declared.key_pair.Keys.{Keys}
-use Rattle.proof_attempts.specs.Since.{AlongRuns, KnowsSince}
-use Rattle.proof_attempts.proofs.Lasting.{along, since_walk}
+use Rattle.proof_queue.specs.proof_attempts.Since.{KnowsSince}
+use Rattle.proof_queue.proofs.Lasting.{along, since_walk}
 use Rattle.proof_choice.specs.Blocked.{BlockingGround, BlocksAsTold}
 use Rattle.proof_choice.proofs.BlockedTie.{blocks_last, first_blocks}
 use Rattle.proof_choice.proofs.known.hosts_block_as_told.Goals as goal

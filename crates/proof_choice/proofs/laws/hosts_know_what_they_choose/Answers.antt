@@ -1,27 +1,25 @@
 -- What is known along the run, put together.
-use Rattle.std.proofs.Common.{◌≡◌, ℕ, List, []}
+use Rattle.std.proofs.Common.{ℕ, List, []}
 use Rattle.std.specs.Prelude.{Some}
 use Rattle.s0_crypto.specs.declared.key_pair.Keys.{Keys}
 use Rattle.zw_text.specs.declared.entry.Entry.{Entry}
 use Rattle.host_heard.specs.declared.told.Told.{Told}
-use Rattle.law_transcript.specs.Lists.{EachAfter}
 use Rattle.law_transcript.specs.Units.{Carried}
 use Rattle.law_time.specs.Heeds.{Heeds}
 use Rattle.law_time.specs.Moments.{Allows}
 use Rattle.law_time.specs.Waking.{may_wake}
 use Rattle.proof_host.specs.Facts.{Facts}
-use Rattle.proof_attempts.specs.proof_requests.law_host.Heard.{heeds_alone, listing_heard}
-use Rattle.proof_attempts.specs.proof_requests.Walking.{Ground as RequestsGround, KnowsAsked}
-use Rattle.proof_attempts.specs.proof_requests.proof_alone.State.{HostMachine, first_alone}
-use Rattle.proof_attempts.specs.proof_requests.proof_alone.Phases.{Phase, Resting}
-use Rattle.proof_attempts.specs.proof_requests.proof_alone.Careful.{Careful}
-use Rattle.proof_attempts.specs.proof_requests.proof_alone.Runs.{Knowledge, Run, both_know}
-use Rattle.proof_attempts.specs.Since.{KnowsSince}
-use Rattle.proof_attempts.proofs.Lasting.{since_walk}
-use Rattle.proof_attempts.proofs.Queued.{PayloadsBring}
-use Rattle.proof_attempts.proofs.Running.{run_keeps}
-use Rattle.proof_known.specs.Known.{KnowsOrders, KnowsTold, KnowsWhole}
-use Rattle.proof_sending.proofs.Grounds.{carried_so}
+use Rattle.proof_queue.specs.proof_attempts.proof_requests.law_host.Heard.{heeds_alone}
+use Rattle.proof_queue.specs.proof_attempts.proof_requests.Walking.{Ground as RequestsGround, KnowsAsked}
+use Rattle.proof_queue.specs.proof_attempts.proof_requests.proof_alone.State.{HostMachine, first_alone}
+use Rattle.proof_queue.specs.proof_attempts.proof_requests.proof_alone.Phases.{Phase}
+use Rattle.proof_queue.specs.proof_attempts.proof_requests.proof_alone.Careful.{Careful}
+use Rattle.proof_queue.specs.proof_attempts.proof_requests.proof_alone.Runs.{Knowledge, Run, both_know}
+use Rattle.proof_queue.specs.proof_attempts.Since.{KnowsSince}
+use Rattle.proof_queue.proofs.Lasting.{since_walk}
+use Rattle.proof_queue.proofs.Queued.{PayloadsBring}
+use Rattle.proof_queue.proofs.Running.{run_keeps}
+use Rattle.proof_rests.specs.proof_nonces.proof_known.Known.{KnowsTold, KnowsWhole}
 use Rattle.proof_queue.specs.Heeding.{AllSteps, HeedsSo}
 use Rattle.proof_queue.proofs.Seeing.{Sights, sights_along}
 use Rattle.proof_queue.proofs.Segments.{Shows}
@@ -32,7 +30,7 @@ use Rattle.proof_choice.specs.Waits.{AskingGround, KnowsWants}
 use Rattle.proof_choice.proofs.Along.{both_along, every_along, law_along, so_along, walks_along}
 use Rattle.proof_choice.proofs.Owners.{OwnLaw, owners_walk}
 use Rattle.proof_choice.proofs.ServedTie.{first_served, served_lasts}
-use Rattle.proof_choice.proofs.Wanting.{wants_along}
+use Rattle.proof_choice.proofs.Wanting.{attempts_along, wants_along}
 use Rattle.proof_choice.proofs.Whole.{Grounds, knows_all}
 use Rattle.proof_choice.proofs.laws.hosts_know_what_they_choose.Goals as goal
 
@@ -56,14 +54,8 @@ module _ (c : goal.After-hosts_show_open_sessions) (keys : Keys) where
 
   shows : (here : Phase) (told : List Entry) (m : HostMachine) → Run start here told m → (n : ℕ) → Shows told m.state n
   shows here told m run n =
-      let so = facts here told m run in
-      let said = (run_keeps (Allows may_wake) KnowsOrders c.hosts_keep_what_is_said.ensures.walk [] run (c.hosts_know_what_nodes_list.ensures.first keys, tt)).1.1 in
-      record {
-        sessions_are = so.begun n;
-        opened = c.hosts_show_open_sessions.ensures.opened told m.state n so;
-        last = c.hosts_show_open_sessions.ensures.last told m.state n so;
-        carried = carried_so c.laws_follow.ensures.laws c.orders_are_carried_as_said.ensures listing_heard told m.state so said;
-      }
+      let so = (c.hosts_count_attempts.ensures.grounds keys (λ past carried. []) here told m run).shows n in
+      record { sessions_are = so.sessions_are; opened = so.opened; last = so.last; carried = so.carried }
 
   grounds : (here : Phase) (told : List Entry) (m : HostMachine) → Run start here told m → Grounds here told m
   grounds here told m run =
@@ -103,6 +95,7 @@ module _ (c : goal.After-hosts_show_open_sessions) (keys : Keys) where
         (both_along start (both_know (KnowsCounts heeds) (KnowsReady heeds)) (KnowsSince (ServedAsTold heeds)) run (both_along start (KnowsCounts heeds) (KnowsReady heeds) run counts ready) (served run asks)))
 
 pub returns : goal.returns
-returns c = λ keys taken here told m run careful sure counts ready.
+returns c = λ keys taken here told m run careful sure as_told ready.
     let asks = asking c keys taken run careful sure in
-    both_along (first_alone keys (Some [])) (AskingGround (heeds_alone taken)) (KnowsAll (heeds_alone taken)) run asks (all c keys taken run asks counts ready)
+    both_along (first_alone keys (Some [])) (AskingGround (heeds_alone taken)) (KnowsAll (heeds_alone taken)) run asks
+    (all c keys taken run asks (attempts_along (first_alone keys (Some [])) (heeds_alone taken) (c.hosts_count_attempts.ensures.known keys taken) run careful sure as_told) ready)
