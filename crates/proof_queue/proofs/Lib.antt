@@ -44,3 +44,4 @@ pub use Rattle.proof_attempts.proofs.proof_requests_EndsHere
 pub use Rattle.proof_attempts.proofs.proof_requests_Judging
 pub use Rattle.proof_attempts.proofs.proof_requests_Ended
 pub use Rattle.proof_attempts.proofs.Ending as proof_attempts_Ending
+pub use Rattle.proof_sending.proofs.Grounds as proof_sending_Grounds
