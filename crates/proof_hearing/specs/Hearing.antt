@@ -22,6 +22,7 @@ use Rattle.proof_nonces.specs.proof_known.law_host.Frames.{hears_payload}
 use Rattle.proof_nonces.specs.proof_known.law_host.Heard.{heeds_alone, listing_heard}
 use Rattle.proof_nonces.specs.proof_known.law_host.Nonces.{is_late}
 use Rattle.proof_nonces.specs.proof_known.law_host.Messages.{Hearing, hears}
+use Rattle.proof_nonces.specs.proof_known.proof_alone.Phases.{Asked, Phase}
 use Rattle.proof_nonces.specs.proof_notes.Ties.{Ties}
 use Rattle.proof_queue.specs.proof_sending.Due.{AreCarried}
 use Rattle.proof_queue.specs.Heeding.{heeded_of, heeded_payload}
@@ -47,6 +48,11 @@ pub record Point (key : List ℕ) (heeds : Heeds) (past : List Entry) (n : ℕ) 
   pub same_keys : h.keys ≡ keys_of key
   pub carried : AreCarried listing_heard past h.commands
   pub late : is_late heeds past n ≡ true → (node_of h n).pending ≡ None
+
+-- a line was not just said
+abbrev pub NotAsked : Phase → Type 0
+NotAsked (Asked line) = ⊥
+NotAsked here = ⊤
 
 -- an entry that is no outcome
 abbrev pub NoOut : Entry → Type 0

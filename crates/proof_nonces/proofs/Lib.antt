@@ -11,7 +11,10 @@ mod Opening
 mod Counting
 mod Standing
 mod Unsealed
+pub use Rattle.proof_notes.proofs.AnswerFacts
 pub use Rattle.proof_notes.proofs.ByMessage
+pub use Rattle.proof_notes.proofs.Along as proof_notes_Along
+pub use Rattle.proof_notes.proofs.Walking as proof_notes_Walking
 pub use Rattle.proof_notes.proofs.Lasting
 pub use Rattle.proof_notes.proofs.Queueing
 pub use Rattle.proof_notes.proofs.Running as Running

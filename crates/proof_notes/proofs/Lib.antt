@@ -1,9 +1,9 @@
 pub mod ByMessage
 mod ByPayload
 mod ByEntry
-mod Walking
+pub mod Walking
 mod Lacking
-mod Along
+pub mod Along
 pub use Rattle.proof_attempts.proofs.Times
 pub use Rattle.proof_attempts.proofs.HostNotes
 pub use Rattle.proof_attempts.proofs.Doing
@@ -15,6 +15,7 @@ pub use Rattle.proof_attempts.proofs.Wrote
 pub use Rattle.proof_attempts.proofs.proof_requests_Telling
 pub use Rattle.proof_attempts.proofs.Queueing
 pub use Rattle.proof_attempts.proofs.Lasting
+pub use Rattle.proof_known.proofs.AnswerFacts
 pub use Rattle.proof_known.proofs.KeptKeys
 pub use Rattle.proof_known.proofs.Running
 pub use Rattle.proof_known.proofs.Apart

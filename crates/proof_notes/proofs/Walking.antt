@@ -31,16 +31,16 @@ use Rattle.host_model.proofs.Submitted.{next_is, no_more_is}
 use Rattle.world_model.specs.Events.{shown_values}
 use Rattle.proof_host.specs.Facts.{Facts}
 use Rattle.proof_known.specs.proof_transcript.proof_once.ByTable.{IsTable}
-use Rattle.proof_known.specs.proof_transcript.proof_spoken.Said.{AreSaid}
+use Rattle.proof_known.specs.proof_transcript.proof_spoken.Said.{AreSaid, KnowsListing}
 use Rattle.proof_known.specs.law_host.Heard.{listing_heard}
-use Rattle.proof_known.specs.proof_alone.Listening.{KnowsListening}
+use Rattle.proof_known.specs.proof_alone.Listening.{KnowsListening, ListensAsTold}
 use Rattle.proof_known.specs.proof_alone.State.{HostMachine}
 use Rattle.proof_known.specs.proof_alone.Steps.{AreTold, DidNotCome, IsOfOthers, IsOfUnit, Step, Tells, Comes, Misses, Says, Says_nothing, Asks, Refuses, Shows, Restarts, Begins_tick, Numbers, Judges, Does, entries, happens}
 use Rattle.proof_known.specs.proof_alone.Phases.{Phase, Resting, Asked, Risen, Ticking, Open, Behind, Sleeping, Submitting, IsBetween, IsJudgedNow, May, Turns}
 use Rattle.proof_known.specs.proof_alone.Runs.{Knowledge, WalkOver, both_know}
 use Rattle.proof_known.specs.proof_alone.Tables.{TieTables}
 use Rattle.proof_known.specs.proof_waking.Judged.{IsBehindFrame, IsOfRequest, Settled, TieFrames, frames_of}
-use Rattle.proof_known.specs.Known.{KnowsKeys, KnowsWhole, TieTold}
+use Rattle.proof_known.specs.Known.{HasPlaces, KnowsKeys, KnowsWhole, TieTold}
 use Rattle.proof_known.proofs.Noting.{Rooms}
 use Rattle.proof_known.proofs.Places.{no_more_places}
 use Rattle.proof_known.proofs.Apart.{acknowledged_frames}
@@ -114,20 +114,22 @@ no_events : (events : List HostEvent) → events ≡ [] → AllByRecursion IsOfR
 no_events events is = subst (AllByRecursion IsOfRequest) (sym is) tt
 
 module _ (keys : Keys) (opens : ShowsOpen) (said : ShowsTables) (rooms : Rooms) where
-  -- what is known behind an item
+  -- what is known where a message is taken, by the parts of the ground
+  pub ties_so : (past : List Entry) (m : HostMachine) → TieTables past m.state m.records → KnowsListing listing_heard past m.state → AreSaid listing_heard m.state.commands past → TieTold past m.state
+      → HasPlaces m.state → ListensAsTold past m.state → Ties past m.state
+  ties_so past m tables lists said_so told_so places hears = record {
+    facts = tables.facts;
+    lists_so = lists;
+    hears = hears;
+    opened = λ n. opens past m.state n tables.facts;
+    rooms = rooms past m tables lists said_so told_so (no_more_places m.state places);
+    tables = λ n. said past m.state n tables.facts said_so;
+  }
+
+  -- so behind an item
   pub ties_of : (left : List HostEvent) (past : List Entry) (m : HostMachine) → KnowsHost keys (Behind left) past m → Ties past m.state
   ties_of left past m ground =
-      let known = ground.0.0 in
-      let tables : TieTables past m.state m.records = known.0.0.0.0.0.0 in
-      let told_so : TieTold past m.state = known.0.1 in
-      record {
-        facts = tables.facts;
-        lists_so = known.0.0.0.1;
-        hears = ground.1;
-        opened = λ n. opens past m.state n tables.facts;
-        rooms = rooms past m tables known.0.0.0.1 known.0.0.1 told_so (no_more_places m.state known.1);
-        tables = λ n. said past m.state n tables.facts known.0.0.1;
-      }
+      let known = ground.0.0 in ties_so past m known.0.0.0.0.0.0 known.0.0.0.1 known.0.0.1 known.0.1 known.1 ground.1
 
   -- ---- items
 

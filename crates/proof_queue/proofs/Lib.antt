@@ -74,3 +74,4 @@ pub use Rattle.proof_attempts.proofs.Holding
 pub use Rattle.proof_attempts.proofs.Queueing
 pub use Rattle.proof_attempts.proofs.HostNotes
 pub use Rattle.proof_attempts.proofs.InOrder
+pub use Rattle.proof_sending.proofs.Grounds as proof_sending_Grounds
