@@ -263,12 +263,12 @@ pub record Devices : Type 0 where
       → device.sessions.status ≢ WORKING → (device_after device (device_hears (message_of carriage order session) drawn)).sessions.status ≢ WORKING
 
 -- the answer of a device in step tells the end
-answer_ends : (laws : Devices) (session : ℕ) (payload drawn : List ℕ) (device : State) → IsMessage session payload → HearsInStep session device
+answer_ends : (laws : Devices) (session : ℕ) (payload drawn : List ℕ) (device : State) → IsMessage session payload → device.awake ≡ true → HearsInStep session device
     → (reply : List ℕ) × ((device_replies device (device_hears payload drawn) ≡ reply ∷ []) × TellsEnd session reply)
-answer_ends laws session payload drawn device message hears =
+answer_ends laws session payload drawn device message awake hears =
     let text : List ℕ = message_of message.carriage message.order session in
-    let answer = laws.heard device drawn message.carriage message.order session message.fit message.end hears.awake hears.openly hears.step in
-    let over = laws.at_once device drawn message.carriage message.order session message.fit message.end hears.awake hears.openly hears.at_once hears.is_done.over in
+    let answer = laws.heard device drawn message.carriage message.order session message.fit message.end awake hears.openly hears.step in
+    let over = laws.at_once device drawn message.carriage message.order session message.fit message.end awake hears.openly hears.at_once hears.is_done.over in
     let new : State = device_after device (device_hears text drawn) in (
       answer.payload,
       (
@@ -376,7 +376,7 @@ module _ (airs : Airs) (these : List Bool) (many : length these ≡ 233) (laws :
           let fate = listener_hears m.outside.outer.air.network m.outside.devices at.frame listener request.out alive in
           let hears = heard at.frame at.next request.out listener.place listener.device fate listener.stands in
           let in_step : HearsInStep (begun_of (node_of m.host.state n).book) listener.device = subst (λ (k : ℕ). HearsInStep (begun_of (node_of m.host.state k).book) listener.device) request.node hears.1 in
-          let answer = answer_ends laws (begun_of (node_of m.host.state n).book) at.frame.payload drawn listener.device request.message in_step in
+          let answer = answer_ends laws (begun_of (node_of m.host.state n).book) at.frame.payload drawn listener.device request.message listener.is_up.awake in_step in
           subst (λ (k : ℕ). Stands (IsReport k (begun_of (node_of m.host.state n).book)) (on_air (happens m (Outside_does (Arrives drawn route))).outside.outer.air.frames)) request.node
           (answer_flies airs m is drawn route at (begun_of (node_of m.host.state n).book) listener.place listener.device answer.0 fate listener.stands hears.0 (subst (λ (k : ℕ). k < 233) (sym request.node) within) answer.1.0 answer.1.1)
 

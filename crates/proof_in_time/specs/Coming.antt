@@ -201,7 +201,6 @@ IsKept event = Unit {0}
 pub record HearsInStep (session : ℕ) (device : State) : Type 0 where
   pub openly : takes_openly device.kind ≡ true
   pub at_once : lists device.kind 0x26 ≡ false
-  pub awake : device.awake ≡ true
   pub step : IsInStep session device
   pub is_done : IsDone device
 
