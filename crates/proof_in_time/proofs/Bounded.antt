@@ -28,7 +28,6 @@ use Rattle.host_node.specs.declared.series.Series.TheVariants as series
 use Rattle.host_model.specs.After.{after}
 use Rattle.host_model.specs.Events.{HostEvent, Accepts, Line_ticks, Node_ticks, Requests_do, Starts}
 use Rattle.host_model.specs.State.{HostState, node_of}
-use Rattle.host_model.specs.Taking.{is_secure}
 use Rattle.host_model.specs.Ticking.{tick_events}
 use Rattle.host_model.proofs.Submitted.{next_is}
 use Rattle.outside_model.specs.Events.{OuterEvent, Begins_line, Begins_tick, Arrives, Device_ticks, Chip_ticks, Wakes_device, Shows, Cuts, outcome}
@@ -54,7 +53,7 @@ use Rattle.device_kinds.specs.Answers.{report_status}
 use Rattle.proof_answered.proofs.Unheard.{counts_says, decoder_says, device_says, does_says, effect_says, line_says, tick_says}
 use Rattle.proof_answered.specs.Outward.{AllListen}
 use Rattle.proof_in_time.specs.Answering.{AnswersSession, IsInStep}
-use Rattle.proof_in_time.specs.Coming.{AsksFor, Asked, Coming, Flies, Has, HearsInStep, IsAsking, IsHeardInStep, IsMessage, IsPlainly, IsReport, IsRequest, Sent, Stands, TellsEnd, Told, WaitsFor, one_later, ticks_left, ticks_of}
+use Rattle.proof_in_time.specs.Coming.{AsksFor, Asked, Coming, Flies, Has, HearsInStep, IsAsking, IsHeardInStep, IsMessage, IsPlainly, IsReport, IsRequest, Sent, Stands, TellsEnd, Told, WaitsFor, one_later, ticks_left, ticks_of, is_layered}
 use Rattle.proof_in_time.proofs.Carried.{Fits, arrives_comes, carry, many_on_air, ticks_once}
 use Rattle.proof_in_time.proofs.Grown.{Adds, Arrived, arrives_there, calm_adds, device_adds, same_adds, wakes_add}
 use Rattle.proof_in_time.proofs.Landed.{Any, answer_flies, has_piled}
@@ -128,7 +127,7 @@ decoder_waits n here next m goes w =
 
 pub refuses_waits : (n : ℕ) (here next : Phase) (m : Machine) (event : Event) → (happens m event).host.state ≡ m.host.state → Goes_on n here m next (happens m event) → WaitsFor n here m → WaitsFor n next (happens m event)
 refuses_waits n here next m event same goes w = record {
-  openly = ap (λ (h : HostState). is_secure (node_of h n).classes) same ∙ w.openly;
+  openly = ap (λ (h : HostState). is_layered (node_of h n).classes) same ∙ w.openly;
   bounded = λ run.
       let b = w.bounded (sym (ap (λ (h : HostState). (node_of h n).series) same) ∙ run) in
       record {
@@ -157,7 +156,7 @@ module _ (n : ℕ) (within : n < 233) where
   does_waits here next m event beside places goes w =
       let table : OnTable n (node_of m.host.state n) (after m.host.state event).nodes = beside_table n within m.host.state event places beside in
       record {
-        openly = ap is_secure table.from.same ∙ w.openly;
+        openly = ap is_layered table.from.same ∙ w.openly;
         bounded = λ run.
             let k = table.from.keeps run in
             let b = w.bounded k.running in
@@ -193,7 +192,7 @@ module _ (n : ℕ) (within : n < 233) where
   tick_waits events ticks m places lasts goes w =
       let t : TickOf (node_of m.host.state n) (node_of (after m.host.state (Node_ticks n)) n) = own_tick n within m.host.state places lasts in
       record {
-        openly = ap is_secure t.same ∙ w.openly;
+        openly = ap is_layered t.same ∙ w.openly;
         bounded = λ run.
             let b = w.bounded (t.running run) in
             let some = some_left events ticks (begun_of (node_of m.host.state n).book) b.left m b.comes in
@@ -231,7 +230,7 @@ module _ (n : ℕ) (within : n < 233) where
       let there : node_of (after h (Starts n plan more payload)) n ≡ after_start (node_of h n) plan = own_start n within h plan more payload places in
       let begun : begun_of (node_of (after h (Starts n plan more payload)) n).book ≡ begun_of (node_of h n).book = ap (λ (s : NodeState). begun_of s.book) there ∙ ap begun_of (start_book (node_of h n) plan) in
       record {
-        openly = ap (λ (s : NodeState). is_secure s.classes) there ∙ (ap is_secure (start_classes (node_of h n) plan) ∙ w.openly);
+        openly = ap (λ (s : NodeState). is_layered s.classes) there ∙ (ap is_layered (start_classes (node_of h n) plan) ∙ w.openly);
         bounded = λ run. record {
           left = 2;
           few = omega arith;
@@ -264,12 +263,12 @@ pub record Devices : Type 0 where
       → device.sessions.status ≢ WORKING → (device_after device (device_hears (message_of carriage order session) drawn)).sessions.status ≢ WORKING
 
 -- the answer of a device in step tells the end
-answer_ends : (laws : Devices) (session : ℕ) (payload drawn : List ℕ) (device : State) → IsMessage session payload → HearsInStep session device
+answer_ends : (laws : Devices) (session : ℕ) (payload drawn : List ℕ) (device : State) → IsMessage session payload → device.awake ≡ true → HearsInStep session device
     → (reply : List ℕ) × ((device_replies device (device_hears payload drawn) ≡ reply ∷ []) × TellsEnd session reply)
-answer_ends laws session payload drawn device message hears =
+answer_ends laws session payload drawn device message awake hears =
     let text : List ℕ = message_of message.carriage message.order session in
-    let answer = laws.heard device drawn message.carriage message.order session message.fit message.end hears.awake hears.openly hears.step in
-    let over = laws.at_once device drawn message.carriage message.order session message.fit message.end hears.awake hears.openly hears.at_once hears.is_done.over in
+    let answer = laws.heard device drawn message.carriage message.order session message.fit message.end awake hears.openly hears.step in
+    let over = laws.at_once device drawn message.carriage message.order session message.fit message.end awake hears.openly hears.at_once hears.is_done.over in
     let new : State = device_after device (device_hears text drawn) in (
       answer.payload,
       (
@@ -377,7 +376,7 @@ module _ (airs : Airs) (these : List Bool) (many : length these ≡ 233) (laws :
           let fate = listener_hears m.outside.outer.air.network m.outside.devices at.frame listener request.out alive in
           let hears = heard at.frame at.next request.out listener.place listener.device fate listener.stands in
           let in_step : HearsInStep (begun_of (node_of m.host.state n).book) listener.device = subst (λ (k : ℕ). HearsInStep (begun_of (node_of m.host.state k).book) listener.device) request.node hears.1 in
-          let answer = answer_ends laws (begun_of (node_of m.host.state n).book) at.frame.payload drawn listener.device request.message in_step in
+          let answer = answer_ends laws (begun_of (node_of m.host.state n).book) at.frame.payload drawn listener.device request.message listener.is_up.awake in_step in
           subst (λ (k : ℕ). Stands (IsReport k (begun_of (node_of m.host.state n).book)) (on_air (happens m (Outside_does (Arrives drawn route))).outside.outer.air.frames)) request.node
           (answer_flies airs m is drawn route at (begun_of (node_of m.host.state n).book) listener.place listener.device answer.0 fate listener.stands hears.0 (subst (λ (k : ℕ). k < 233) (sym request.node) within) answer.1.0 answer.1.1)
 

@@ -1,33 +1,43 @@
 -- The commands of these nodes go whole and unsealed, as they did; so an attempt gives the message of its session.
-use Rattle.std.proofs.Common.{◌≡◌, ◌⊎◌, ◌≤◌, ℕ, zero, suc, ◌+◌, inl, inr, Bool, true, List, [], ◌∷◌, ◌++◌, refl, sym, ap, ◌∙◌, subst}
+use Rattle.std.proofs.Common.{◌≡◌, ◌⊎◌, ◌≤◌, ◌+◌, ◌&&◌, ℕ, zero, suc, inl, inr, Bool, true, false, if◌then◌else◌, nat_lt, nat_le, not, List, [], ◌∷◌, ◌++◌, length, refl, sym, ap, ◌∙◌, subst}
+use Rattle.std.proofs.lemmas.Bool.{or_parts}
 use Rattle.std.specs.Prelude.{Option, Some, None, slice_get}
 use Rattle.std.specs.List.{AllByRecursion}
 use Rattle.zw_base.specs.declared.order.Order.{Order}
+use Rattle.encap.specs.declared.plan.Outer.TheVariants.{None as no_outer, Crc16, Security, Transport}
 use Rattle.supervision.specs.Host.{begun_of}
 use Rattle.supervision.proofs.OnceLemmas.{All-slice_get}
 use Rattle.host_keep.specs.Kept.{Taken}
-use Rattle.host_orders.specs.Wrapping.{form_of}
+use Rattle.std.specs.Option.{is_some}
+use Rattle.host_orders.specs.Classes.{actuator_of, lists}
+use Rattle.host_orders.specs.Messages.{classes_needed}
+use Rattle.host_orders.specs.Refusals.{Known, classes_of, first_refusal, first_some, is_bad, known_refusal, mailbox_full, too_long, unless, unsupported}
+use Rattle.host_orders.specs.Wrapping.{carriage_of, form_of, supervised_text, wrapped_len}
+use Rattle.host_orders.specs.declared.refused.Refused.{Refused}
+use Rattle.host_orders.specs.declared.refused.Refused.TheVariants.{BadValue, NotInterviewed, NotJoined, TooLong, Unsupervised}
 use Rattle.host_orders.specs.declared.carriage.Carriage.{Carriage}
 use Rattle.host_orders.specs.declared.carriage.Form.{Form}
+use Rattle.host_orders.specs.declared.carriage.Form.TheVariants.{Plain}
 use Rattle.host_node.specs.declared.attempt.Plan.{Plan}
 use Rattle.chip_sim.specs.Nodes.{is_marked}
 use Rattle.host_model.specs.After.{after}
 use Rattle.host_model.specs.Did.{after_all}
 use Rattle.host_model.specs.Events.{HostEvent, Accepts, Starts}
 use Rattle.host_model.specs.Facts.{HostFacts, IsCommandOf, IsSound}
-use Rattle.host_model.specs.May.{IsStart}
+use Rattle.host_model.specs.May.{IsAccepted, IsStart, known_of, May as MayHost}
 use Rattle.host_model.specs.Sessions.{message_for, start_by}
 use Rattle.host_model.specs.State.{Command, HostState, command_at, node_of}
+use Rattle.host_model.proofs.Accepted.{none_later}
 use Rattle.host_model.proofs.Silence.{judged_silent}
 use Rattle.world_model.specs.Events.{Event, Outside_does, Host_does, Host_takes, Decoder_ticks, Refuses, Restarts, Shows_values, happens, May}
 use Rattle.world_model.specs.State.{Machine}
-use Rattle.proof_course_plain.proofs.HostEvents.{open_is, owned}
 use Rattle.proof_course_plain.specs.proof_host.Tables.{taken_at, taken_by}
+use Rattle.proof_course_plain.proofs.HostEvents.{open_is, owned}
 use Rattle.proof_spoken.proofs.Orders.{IsNoOrder, SameOrders, event_kept}
 use Rattle.proof_spoken.proofs.Plain.{silent_none}
 use Rattle.proof_calm.specs.Resting.{IsEffect, LineAt}
 use Rattle.proof_calm.specs.proof_work.proof_walk.Phases.{Phase, Said_line, Doing, To_tick, Arriving, Giving, Ticking_devices, Ticking_chip, Ticking_decoder, Ticking_host, Sleeping, Submitting, Moving, Moved, Goes}
-use Rattle.proof_in_time.specs.Coming.{GoWhole, GoesWhole, IsMessage, IsPlainOrder, IsPlainStart, IsPlainly}
+use Rattle.proof_in_time.specs.Coming.{GoWhole, GoesWhole, IsMessage, IsPlainOrder, IsPlainStart, IsPlainly, is_layered}
 
 -- ---- they are kept
 
@@ -66,9 +76,63 @@ more_whole these commands one new go (suc place) command found marked = by (push
         let carriage : one.carriage ≡ command.carriage = ap (λ (c : Command). c.carriage) is in
         goes_as one.order command.order one.carriage command.carriage order carriage (new (ap (λ (o : Order). is_marked these o.node) order ∙ marked))
 
-event_whole : (these : List Bool) (h : HostState) (event : HostEvent) → IsPlainOrder these event → GoWhole these h.commands → GoWhole these (after h event).commands
-event_whole these h (Accepts order carriage) plain go = more_whole these h.commands _ plain go
-event_whole these h event plain go = same_whole these h.commands (after h event).commands (event_kept h event tt) go
+-- where neither is listed, an order that is accepted fits in one payload
+none_first : (o : Option Refused) (more : List (Option Refused)) → first_some (o ∷ more) ≡ None → o ≡ None
+none_first None more is = refl
+none_first (Some refused) more is = absurd cc
+
+fourth : (a b c d e : Option Refused) → first_some (a ∷ b ∷ c ∷ d ∷ e ∷ []) ≡ None → d ≡ None
+fourth a b c d e none = none_first d (e ∷ []) (none_later c (d ∷ e ∷ []) (none_later b (c ∷ d ∷ e ∷ []) (none_later a (b ∷ c ∷ d ∷ e ∷ []) none)))
+
+third : (a b c : Option Refused) → first_some (a ∷ b ∷ c ∷ []) ≡ None → c ≡ None
+third a b c none = none_first c [] (none_later b (c ∷ []) (none_later a (b ∷ c ∷ []) none))
+
+not_long : (over secure transport long : Bool) (wide narrow : Refused) (short : Bool) → (if over then Some wide else (if (if secure then short else (not transport && long)) then Some narrow else None)) ≡ None → secure ≡ false → transport ≡ false
+    → long ≡ false
+not_long true secure transport long wide narrow short none bare uncut = absurd cc
+not_long false true transport long wide narrow short none bare uncut = absurd cc
+not_long false false true long wide narrow short none bare uncut = absurd cc
+not_long false false false true wide narrow short none bare uncut = absurd cc
+not_long false false false false wide narrow short none bare uncut = refl
+
+form_plain : (secure long crc : Bool) → secure ≡ false → long ≡ false → form_of (if secure then Security else (if long then Transport else (if crc then Crc16 else no_outer))) ≡ Plain
+form_plain true long crc bare short = absurd cc
+form_plain false true crc bare short = absurd cc
+form_plain false false true bare short = refl
+form_plain false false false bare short = refl
+
+known_plain : (classes : List ℕ) (waiting : ℕ) (order : Order) → known_refusal classes waiting order ≡ None → lists classes 0x98 ≡ false → lists classes 0x55 ≡ false → form_of (carriage_of classes order).outer ≡ Plain
+unfolding known_refusal
+known_plain classes waiting order none bare uncut =
+    let actuator = actuator_of classes in
+    let wrapped = wrapped_len actuator order in
+    let len = length (supervised_text actuator order) in
+    let fits : too_long classes len wrapped ≡ None =
+    fourth (unsupported classes (classes_needed actuator order.what order.end)) (unless (not (is_bad actuator order.what)) BadValue) (unless (lists classes 0x6C) Unsupervised) (too_long classes len wrapped) (mailbox_full waiting) none in
+    let short = not_long (nat_lt 255 len) (lists classes 0x98) (lists classes 0x55) (nat_lt 46 wrapped) (TooLong len) (TooLong wrapped) (nat_lt 26 wrapped) fits bare uncut in
+    form_plain (lists classes 0x98) (nat_lt 46 wrapped) (lists classes 0x56 && nat_le (wrapped + 4) 46) bare short
+
+refusal_plain : (known : Known) (classes : List ℕ) (order : Order) → known.classes ≡ Some classes → first_refusal known order ≡ None → is_layered (Some classes) ≡ false → form_of (carriage_of classes order).outer ≡ Plain
+unfolding first_refusal
+refusal_plain known classes order listed none openly =
+    let passes : known_refusal (classes_of known) known.waiting order ≡ None = third (unless known.joined NotJoined) (unless (is_some known.classes) NotInterviewed) (known_refusal (classes_of known) known.waiting order) none in
+    let parts = or_parts (lists classes 0x98) (lists classes 0x55) openly in
+    known_plain classes known.waiting order (ap (λ (c : Option (List ℕ)). known_refusal (classes_of (record known { classes = c })) known.waiting order) (sym listed) ∙ passes) parts.0 parts.1
+
+accepted_whole : (h : HostState) (order : Order) (carriage : Carriage) → IsAccepted h order carriage → is_layered (node_of h order.node).classes ≡ false → order.end ≤ 127 → GoesWhole order carriage
+accepted_whole h order carriage accepted openly few = record {
+  plain = ap (λ (c : Carriage). form_of c.outer) accepted.carried
+      ∙ refusal_plain (known_of (node_of h order.node)) accepted.classes order accepted.listed accepted.unrefused (ap is_layered (sym accepted.listed) ∙ openly);
+  end = few;
+}
+
+-- none of these nodes lists one of the two
+abbrev AreOpen : List Bool → HostState → Type 0
+AreOpen these h = (n : ℕ) → is_marked these n ≡ true → is_layered (node_of h n).classes ≡ false
+
+event_whole : (these : List Bool) (h : HostState) (event : HostEvent) → MayHost h event → AreOpen these h → IsPlainOrder these event → GoWhole these h.commands → GoWhole these (after h event).commands
+event_whole these h (Accepts order carriage) may bare plain go = more_whole these h.commands _ (λ marked. accepted_whole h order carriage may (bare order.node marked) (plain marked)) go
+event_whole these h event may bare plain go = same_whole these h.commands (after h event).commands (event_kept h event tt) go
 
 events_whole : (these : List Bool) (h : HostState) (events : List HostEvent) → AllByRecursion IsNoOrder events → GoWhole these h.commands → GoWhole these (after_all h events).commands
 events_whole these h [] no_order go = go
@@ -103,19 +167,19 @@ steady_of (Moving passes ticks) next m event (rest, ways, is, to) at = steady_as
 steady_of (Moved b passes ticks) next m event (rest, items, done, is, to) at = steady_as event _ is tt
 steady_of here next m event goes at = absurd goes
 
-machine_whole : (these : List Bool) (m : Machine) (event : Event) → IsSteady event → May m event → IsPlainly these m event → GoWhole these m.host.state.commands → GoWhole these (happens m event).host.state.commands
+machine_whole : (these : List Bool) (m : Machine) (event : Event) → IsSteady event → May m event → AreOpen these m.host.state → IsPlainly these m event → GoWhole these m.host.state.commands → GoWhole these (happens m event).host.state.commands
 unfolding happens May
-machine_whole these m (Outside_does event) steady may plainly go = go
-machine_whole these m (Host_does event) steady may plainly go = event_whole these m.host.state event plainly go
-machine_whole these m (Host_takes count rest items events) steady may plainly go = events_whole these m.host.state events (silent_none m.host.state events (judged_silent m.host.state items events may.judged)) go
-machine_whole these m Decoder_ticks steady may plainly go = go
-machine_whole these m (Refuses line refusal) steady may plainly go = go
-machine_whole these m (Shows_values node) steady may plainly go = go
-machine_whole these m (Restarts state) steady may plainly go = absurd steady
+machine_whole these m (Outside_does event) steady may bare plainly go = go
+machine_whole these m (Host_does event) steady may bare plainly go = event_whole these m.host.state event may.0 bare plainly go
+machine_whole these m (Host_takes count rest items events) steady may bare plainly go = events_whole these m.host.state events (silent_none m.host.state events (judged_silent m.host.state items events may.judged)) go
+machine_whole these m Decoder_ticks steady may bare plainly go = go
+machine_whole these m (Refuses line refusal) steady may bare plainly go = go
+machine_whole these m (Shows_values node) steady may bare plainly go = go
+machine_whole these m (Restarts state) steady may bare plainly go = absurd steady
 
-pub on_whole : (these : List Bool) (here next : Phase) (m : Machine) (event : Event) → Goes here m event next → LineAt here m → May m event → IsPlainly these m event → GoWhole these m.host.state.commands
+pub on_whole : (these : List Bool) (here next : Phase) (m : Machine) (event : Event) → Goes here m event next → LineAt here m → May m event → AreOpen these m.host.state → IsPlainly these m event → GoWhole these m.host.state.commands
     → GoWhole these (happens m event).host.state.commands
-on_whole these here next m event goes at may plainly go = machine_whole these m event (steady_of here next m event goes at) may plainly go
+on_whole these here next m event goes at may bare plainly go = machine_whole these m event (steady_of here next m event goes at) may bare plainly go
 
 -- ---- what an attempt gives
 

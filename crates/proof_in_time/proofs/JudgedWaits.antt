@@ -1,6 +1,7 @@
 -- What the host judges leaves of the attempt of a node that runs: its session is over where a report tells its end.
-use Rattle.std.proofs.Common.{◌≡◌, ◌≤◌, ◌<◌, ℕ, ◌+◌, Bool, true, false, inl, inr, Option, Some, List, [], ◌∷◌, ◌++◌, length, sym, ap, ◌∙◌, subst}
+use Rattle.std.proofs.Common.{◌≡◌, ◌≤◌, ◌<◌, ℕ, ◌+◌, Bool, true, false, inl, inr, Option, Some, None, List, [], ◌∷◌, ◌++◌, length, refl, sym, ap, ◌∙◌, subst}
 use Rattle.std.specs.Prelude.{◌⊎◌}
+use Rattle.std.proofs.lemmas.Bool.{or_parts}
 use Rattle.std.specs.List.{AllByRecursion}
 use Rattle.zw_base.proofs.Each.{all-left, all-right}
 use Rattle.supervision.specs.Session.{wire_id}
@@ -34,7 +35,7 @@ use Rattle.proof_calm.proofs.Followed.{FollowersAre, payload_all}
 use Rattle.proof_calm.proofs.Following.{kept}
 use Rattle.proof_calm.proofs.Judging.{TieBy, ends_by, one_more, unit_tied}
 use Rattle.proof_calm.proofs.Reading.{goods}
-use Rattle.proof_in_time.specs.Coming.{Has, IsKept, TellsEnd, brings}
+use Rattle.proof_in_time.specs.Coming.{Has, IsKept, TellsEnd, brings, is_layered}
 use Rattle.proof_in_time.specs.Reporting.{AwaitsReport, EndsSession, IsOver}
 use Rattle.proof_in_time.proofs.NodeWaits.{IsBeside, OnTable, beside_table}
 use Rattle.proof_in_time.proofs.Reported.{report_ends, session_over}
@@ -124,8 +125,12 @@ pub record Runs (n session wait : ℕ) (Elsewhere : Type 0) (pending : List Fram
 
 pub record Judges (n session wait : ℕ) (Elsewhere : Type 0) (pending : List FrameParts) (h : HostState) : Type 0 where
   pub places : length h.nodes ≡ 233
-  pub openly : is_secure (node_of h n).classes ≡ false
+  pub openly : is_layered (node_of h n).classes ≡ false
   pub runs : (node_of h n).series ≡ Running → Runs n session wait Elsewhere pending h
+
+unsecured : (classes : Option (List ℕ)) → is_layered classes ≡ false → is_secure classes ≡ false
+unsecured None openly = refl
+unsecured (Some classes) openly = (or_parts (is_secure (Some classes)) _ openly).0
 
 same_open : (a b : HostBook) → b.commands ≡ a.commands → b.outcome ≡ a.outcome → open_session b ≡ open_session a
 same_open a b commands outcome = ap (λ (o : Option ℕ). open_session (record b { outcome = o })) outcome ∙ ap (λ (cs : List ℕ). open_session (record a { commands = cs })) commands
@@ -142,7 +147,7 @@ module _ (n : ℕ) (within : n < 233) (session wait : ℕ) (Elsewhere : Type 0) 
   event_judges : (pending : List FrameParts) (h : HostState) (event : HostEvent) → IsTold event → J pending h → J pending (after h event)
   event_judges pending h event told j = record {
     places = table.places;
-    openly = ap is_secure table.from.same ∙ j.openly;
+    openly = ap is_layered table.from.same ∙ j.openly;
     runs = λ run.
         let k = table.from.keeps run in
         let r = j.runs k.running in
@@ -201,7 +206,7 @@ module _ (n : ℕ) (within : n < 233) (session wait : ℕ) (Elsewhere : Type 0) 
           of (inl is) = inl is
           of (inr (payload, (tells, inr has))) = inr (payload, (tells, has))
           of (inr (payload, (tells, inl is))) =
-              absurd (report_ended h payload events node tells (subst (λ (f : FrameParts). FrameFollows h f events) (sym is) follows) keeps j.places (record { opened = was.at.opened; openly = j.openly }) run)
+              absurd (report_ended h payload events node tells (subst (λ (f : FrameParts). FrameFollows h f events) (sym is) follows) keeps j.places (record { opened = was.at.opened; openly = unsecured (node_of h n).classes j.openly }) run)
 
   module _ (s : ChipState) where
     unit_judges : (h : HostState) (unit : LineUnit) (rest : List FrameParts) (events : List HostEvent) → IsNode n → IsPlain unit → IsJudged h (Good unit) events → TieBy true (kept h) s (frames_in (unit ∷ []) ++ rest) [] → AllByRecursion IsKept events

@@ -287,7 +287,7 @@ module _ (airs : Airs) (these : List Bool) (many : length these ≡ 233) (none :
         λ n marked.
             event_waits airs these many laws n marked (node_within these many none n marked) here next m event goes may plainly (keeps m event (told_kept these past (entries m event) is)) was.1 tied.0 tied.1 tied.2 tied.3 tied.6 tied.7
             (at.0.0 stretched).1 sent (was.0 n marked) next_tied.0,
-        on_whole these here next m event goes tied.0 may plainly was.1,
+        on_whole these here next m event goes tied.0 may (λ n marked. (was.0 n marked).openly) plainly was.1,
       )
 
   pub waits_walk : WalkWhere (IsPlainly these) AsksNothing (KnowWaits these)

@@ -21,7 +21,6 @@ use Rattle.host_model.specs.Events.{HostEvent, Starts}
 use Rattle.host_model.specs.May.{May as MayHost}
 use Rattle.host_model.specs.Pumping.{IsNext, no_more_event}
 use Rattle.host_model.specs.State.{HostState, node_of}
-use Rattle.host_model.specs.Taking.{is_secure}
 use Rattle.host_model.proofs.Submitted.{next_is, no_more_is}
 use Rattle.outside_model.specs.Events.{Chip_takes}
 use Rattle.world_model.specs.Events.{Outside_does, Host_does, Host_takes, happens, May}
@@ -44,7 +43,7 @@ use Rattle.proof_calm.proofs.Reading.{goods}
 use Rattle.proof_calm.proofs.Requested.{moved_frames}
 use Rattle.proof_answered.specs.Outward.{IsSentTo}
 use Rattle.proof_answered.proofs.Unheard.{chip_part_says, unheard_idle, unheard_judged}
-use Rattle.proof_in_time.specs.Coming.{AsksFor, Coming, Has, IsKept, IsMessage, IsOnAir, IsPlainStart, IsRequest, Sent, Stands, TellsEnd, Told, WaitsFor, brings, one_later, ticks_left}
+use Rattle.proof_in_time.specs.Coming.{AsksFor, Coming, Has, IsKept, IsMessage, IsOnAir, IsPlainStart, IsRequest, Sent, Stands, TellsEnd, Told, WaitsFor, brings, one_later, ticks_left, is_layered}
 use Rattle.proof_in_time.proofs.Bounded.{again_far, does_waits, either_node, host_stays, open_where, outer_waits, refuses_waits, session_of, start_waits, still_fits, waits_none}
 use Rattle.proof_in_time.proofs.Carried.{Fits, IsThere, carry, carry_or, many_on_air}
 use Rattle.proof_in_time.proofs.Grown.{Adds, calm_adds, takes_add}
@@ -142,9 +141,9 @@ module _ (airs : Airs) (these : List Bool) (many : length these ≡ 233) (n : �
     pub comes : Coming n (begun_of (node_of h n).book) left next later
     pub waits : ((node_of h n).attempt_wait ≡ 0) ⊎ (90 + left ≤ (node_of h n).attempt_wait)
 
-  waits_by : (next : Phase) (later : Machine) (h : HostState) → later.host.state ≡ h → is_secure (node_of h n).classes ≡ false → ((node_of h n).series ≡ series.Running → BoundedBy next later h) → WaitsFor n next later
+  waits_by : (next : Phase) (later : Machine) (h : HostState) → later.host.state ≡ h → is_layered (node_of h n).classes ≡ false → ((node_of h n).series ≡ series.Running → BoundedBy next later h) → WaitsFor n next later
   waits_by next later h same openly bounded = record {
-    openly = subst (λ (g : HostState). is_secure (node_of g n).classes ≡ false) (sym same) openly;
+    openly = subst (λ (g : HostState). is_layered (node_of g n).classes ≡ false) (sym same) openly;
     bounded = λ run. let b = subst (λ (g : HostState). (node_of g n).series ≡ series.Running → BoundedBy next later g) (sym same) bounded run in record { left = b.left; few = b.few; comes = b.comes; waits = b.waits };
   }
 

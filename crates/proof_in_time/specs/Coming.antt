@@ -1,5 +1,5 @@
 -- What is on its way while an attempt of a node runs, at each phase of quiet lines and ticks (this project's own rule), and how many ticks of the node are to come before its session is over.
-use Rattle.std.specs.Prelude.{◌≡◌, ◌≢◌, ◌⊎◌, ℕ, ◌+◌, ◌≤◌, ◌==◌, nat_lt, Bool, false, true, if◌then◌else◌, List, [], ◌∷◌, ◌++◌, length, slice_get, Some}
+use Rattle.std.specs.Prelude.{◌≡◌, ◌≢◌, ◌⊎◌, ℕ, ◌+◌, ◌≤◌, ◌==◌, nat_lt, Bool, false, true, if◌then◌else◌, List, [], ◌∷◌, ◌++◌, length, slice_get, ◌||◌, Option, Some, None}
 use Rattle.std.specs.List.{list_any}
 use Rattle.zw_base.specs.declared.order.Order.{Order}
 use Rattle.zw_text.specs.declared.entry.Entry.{Entry}
@@ -18,6 +18,7 @@ use Rattle.mesh_sim.specs.Fates.{fate_of}
 use Rattle.mesh_sim.specs.declared.fate.Fate.TheVariants.{AtDevice}
 use Rattle.device_kinds.specs.Kind.{lists}
 use Rattle.device_sim.specs.State.{State}
+use Rattle.host_orders.specs.Classes.{lists as lists_class}
 use Rattle.host_orders.specs.Refusals.{IsFit}
 use Rattle.host_orders.specs.Wrapping.{form_of, message_of}
 use Rattle.host_orders.specs.declared.carriage.Carriage.{Carriage}
@@ -28,7 +29,6 @@ use Rattle.host_requests.specs.declared.under_way.UnderWay.{UnderWay}
 use Rattle.host_node.specs.declared.series.Series.TheVariants.{Running}
 use Rattle.host_model.specs.Events.{HostEvent, Accepts, Is_unkept, Node_ticks, Starts}
 use Rattle.host_model.specs.State.{Command, HostState, command_at, node_of}
-use Rattle.host_model.specs.Taking.{is_secure}
 use Rattle.outside_model.specs.Events.{OuterEvent, Arrives}
 use Rattle.world_model.specs.Events.{Event, Outside_does, Host_does}
 use Rattle.world_model.specs.State.{Machine}
@@ -156,9 +156,14 @@ pub record IsBounded (n : ℕ) (here : Phase) (m : Machine) : Type 0 where
   pub comes : Coming n (begun_of (node_of m.host.state n).book) left here m
   pub waits : ((node_of m.host.state n).attempt_wait ≡ 0) ⊎ (90 + left ≤ (node_of m.host.state n).attempt_wait)
 
--- so while an attempt of it runs; and its plain reports are taken
+-- the node lists Security 0 or Transport Service
+abbrev pub is_layered : Option (List ℕ) → Bool
+is_layered None = false
+is_layered (Some classes) = lists_class classes 0x98 || lists_class classes 0x55
+
+-- so while an attempt of it runs; and it lists none of the two, so that its plain reports are taken
 pub record WaitsFor (n : ℕ) (here : Phase) (m : Machine) : Type 0 where
-  pub openly : is_secure (node_of m.host.state n).classes ≡ false
+  pub openly : is_layered (node_of m.host.state n).classes ≡ false
   pub bounded : (node_of m.host.state n).series ≡ Running → IsBounded n here m
 
 abbrev pub AllWaitFor : List Bool → Phase → Machine → Type 0
@@ -177,9 +182,9 @@ GoWhole these commands = (number : ℕ) (command : Command) → command_at comma
 
 -- ---- what is assumed of events
 
--- an order for one of these nodes goes whole
+-- an order for one of these nodes is for an end point that has a number on the wire
 abbrev pub IsPlainOrder : List Bool → HostEvent → Type 0
-IsPlainOrder these (Accepts order carriage) = is_marked these order.node ≡ true → GoesWhole order carriage
+IsPlainOrder these (Accepts order carriage) = is_marked these order.node ≡ true → order.end ≤ 127
 IsPlainOrder these event = Unit {0}
 
 -- so an attempt gives the message of the session that was begun last
@@ -196,7 +201,6 @@ IsKept event = Unit {0}
 pub record HearsInStep (session : ℕ) (device : State) : Type 0 where
   pub openly : takes_openly device.kind ≡ true
   pub at_once : lists device.kind 0x26 ≡ false
-  pub awake : device.awake ≡ true
   pub step : IsInStep session device
   pub is_done : IsDone device
 

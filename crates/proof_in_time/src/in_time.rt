@@ -23,10 +23,10 @@ use crate::messages_are_answered;
 use proof_answered::{attempts_stay_first, workers_alone_speak};
 use proof_calm::waking::traffic::frames_fly_in_order;
 
-/// Over a stretch of lines for nodes that listen, in which the keeper does not fail, while an attempt of one of these runs its request is on its way to the
-/// chip, or its message is on the air, or the report of its device is, or the chip has that for the host: so the host is told within two ticks of the node, and
-/// the wait of no attempt runs out. Then each series stays at its first attempt. It is assumed of events that an order for one of these nodes goes whole and
-/// unsealed, and that a device without levels that hears its message is in step with the host.
+/// Over a stretch of lines for nodes that listen and list neither Transport Service nor Security 0, in which the keeper does not fail, while an attempt of one
+/// of these runs its request is on its way to the chip, or its message is on the air, or the report of its device is, or the chip has that for the host: so the
+/// host is told within two ticks of the node, and the wait of no attempt runs out. Then each series stays at its first attempt. It is assumed of events that a
+/// device without levels that hears a message is in step with the host.
 pub fn waits_never_run_out()
     ensures walk { (these : List Bool) → length these ≡ 233 → is_marked these 0 ≡ false → WalkWhere (IsPlainly these) AsksNothing (KnowWaits these) }
     ensures in_time { (these : List Bool) (here : Phase) (past : List Entry) (m : Machine) (event : Event) → IsKeptFor these past →
