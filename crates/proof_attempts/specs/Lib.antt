@@ -11,4 +11,3 @@ pub mod Attempts
 pub use Rattle.proof_work.specs.proof_walk as proof_walk
 pub use Rattle.proof_requests.specs as proof_requests
 pub use Rattle.proof_work.specs as proof_work
-pub use Rattle.proof_work.specs as proof_work

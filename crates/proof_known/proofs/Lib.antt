@@ -26,5 +26,3 @@ pub use Rattle.proof_waking.proofs.Settling
 pub use Rattle.proof_waking.proofs.Followed
 pub use Rattle.proof_waking.proofs.Apart
 pub use Rattle.proof_waking.proofs.Parts
-pub use Rattle.proof_waking.proofs.InOrder
-pub use Rattle.proof_waking.proofs.Listening
