@@ -1,19 +1,17 @@
 -- At each step of a host alone, and along its runs, a command counts as unanswered only where it is to be given up, and none is to be where a line is said or the number of a tick stands.
-use Rattle.std.proofs.Common.{◌≡◌, ℕ, ◌+◌, ◌-◌, ◌≤◌, ◌==◌, ◌||◌, Bool, true, false, if◌then◌else◌, inl, inr, List, [], ◌∷◌, ◌++◌, map, Option, Some, None, refl, sym, ap, ap₂, ◌∙◌, subst, arith}
+use Rattle.std.proofs.Common.{◌≡◌, ℕ, ◌+◌, ◌-◌, ◌≤◌, ◌==◌, ◌||◌, Bool, true, false, if◌then◌else◌, inl, inr, List, [], ◌∷◌, ◌++◌, Some, None, refl, sym, ap, ap₂, ◌∙◌, subst, arith}
 use Rattle.std.specs.List.{AllByRecursion}
 use Rattle.std.proofs.lemmas.Bool.{eq-eqb}
 use Rattle.zw_base.proofs.Each.{all-append}
 use Rattle.zw_base.specs.declared.property.Setting.{Setting}
-use Rattle.serial_frame.specs.Frame.{FrameParts}
 use Rattle.serial_frame.specs.declared.item.Item.{Item}
 use Rattle.serial_frame.specs.declared.item.Item.TheVariants.{Good, Refused as refused_item}
 use Rattle.serial_frame.specs.declared.item.Refusal.TheVariants.{Stray, BadLength, BadSum, BadKind, Aborted}
-use Rattle.serial_frame.specs.declared.unit.Unit.{Unit as LineUnit}
 use Rattle.serial_frame.specs.declared.unit.Unit.TheVariants.{Ack, Nak, Can, Framed}
 use Rattle.serial_link.specs.State.{pause_after, turn_ticked}
 use Rattle.serial_link.specs.declared.turn.Turn.{Turn}
 use Rattle.serial_link.specs.declared.turn.Turn.TheVariants.{Idle as TurnIdle, Copied, Paused}
-use Rattle.zw_words.specs.declared.side.Side.TheVariants.{Host, Chip}
+use Rattle.zw_words.specs.declared.side.Side.TheVariants.{Chip}
 use Rattle.chip_functions.specs.Field.{IsNode}
 use Rattle.host_keep.specs.declared.final_status.FinalStatus.TheVariants as final
 use Rattle.zw_text.specs.declared.entry.Entry.{Entry}
@@ -28,26 +26,20 @@ use Rattle.law_time.specs.Heeds.{Heeds}
 use Rattle.law_time.specs.Moments.{clock}
 use Rattle.law_time.specs.Requests.{asked}
 use Rattle.law_time.specs.Unanswered.{none_to_give_up}
-use Rattle.host_requests.specs.Events.{RequestsEvent, after as requests_after, end_at}
 use Rattle.host_requests.specs.Events.RequestsEvent.{Fails, Ticks}
 use Rattle.host_requests.specs.State.{RequestsState}
-use Rattle.host_requests.specs.declared.end.How.{How}
-use Rattle.host_requests.specs.declared.next.Next.TheVariants.{Ends}
 use Rattle.host_requests.specs.declared.task.Purpose.{Purpose}
 use Rattle.host_requests.specs.declared.task.Purpose.TheVariants.{Attempt}
 use Rattle.host_requests.specs.declared.under_way.UnderWay.{UnderWay}
 use Rattle.host_node.specs.Steps.{tick_end}
-use Rattle.host_node.specs.declared.attempt.Moment.{Moment}
 use Rattle.host_node.specs.declared.attempt.Moment.TheVariants.{BeforeItsTick}
-use Rattle.host_node.specs.declared.series.Series.TheVariants.{Running}
 use Rattle.host_model.specs.State.{HostState, command_at, node_of}
 use Rattle.host_model.specs.Sessions.{open_command, settings_with}
 use Rattle.host_model.specs.After.{after, failing_if, gives_up, is_full, is_held, line_ticked}
 use Rattle.host_model.specs.Ends.{attempt_entries}
 use Rattle.host_model.specs.Events.{HostEvent, Accepts, Begin_unkept, Begins, Cancels, Drops_no_more, Finishes, Gives, Gives_segment, Gives_text, Has_no_room, Hears, Hears_value, Interview_unkept, Interviews, Is_unkept, Line_ticks, Node_ticks, Notifies, Offers, Reports_old, Requests_do, Resends, Spends_unread, Starts, Submits_abort, Submits_front, Unreads}
 use Rattle.host_model.specs.Outs.{answer_to, answers, copy_out, dropped_if, failing_entries, held_entries, noted, outs, request_entries, stored_entries}
-use Rattle.host_model.specs.Pumping.{IsNext, no_more_event}
-use Rattle.host_model.specs.declared.out.HostOut.{HostOut}
+use Rattle.host_model.specs.Pumping.{no_more_event}
 use Rattle.host_model.proofs.Submitted.{SleepersAre, SubmittedAre, next_is, no_more_is}
 use Rattle.proof_host.specs.Facts.{Facts}
 use Rattle.proof_host.proofs.Lists.{each-append}
@@ -55,23 +47,23 @@ use Rattle.proof_queue.specs.Heeding.{AllSteps, HeedsAs, HeedsSo}
 use Rattle.proof_queue.specs.proof_attempts.Carried.{CarriesWell, HasOthers, UnderWayWell}
 use Rattle.proof_queue.specs.proof_attempts.Since.{is_to_tick}
 use Rattle.proof_queue.specs.proof_attempts.proof_requests.Asking.{TieAsked, doing_of}
-use Rattle.proof_queue.specs.proof_attempts.proof_requests.Walking.{Ground as RequestsGround, HalfTick, BeforeTick, IsNodeTick, KnowsAsked, KnowsTick}
+use Rattle.proof_queue.specs.proof_attempts.proof_requests.Walking.{KnowsAsked, KnowsTick}
 use Rattle.proof_queue.specs.proof_attempts.proof_requests.law_host.Heard.{heeds_alone}
 use Rattle.proof_queue.specs.proof_attempts.proof_requests.proof_alone.Careful.{Careful}
 use Rattle.proof_queue.specs.proof_attempts.proof_requests.proof_alone.Phases.{Phase, Resting, Asked, Risen, Ticking, Open, Behind, Sleeping, Submitting, IsNumbered, May}
 use Rattle.proof_queue.specs.proof_attempts.proof_requests.proof_alone.Runs.{Run}
 use Rattle.proof_queue.specs.proof_attempts.proof_requests.proof_alone.Runs.Run.{Begins as run_begins, Turned, Stepped}
 use Rattle.proof_queue.specs.proof_attempts.proof_requests.proof_alone.State.{HostMachine}
-use Rattle.proof_queue.specs.proof_attempts.proof_requests.proof_alone.Steps.{AreTold, DidNotCome, IsOfOthers, Step, Tells, Comes, Misses, Says, Says_nothing, Asks, Refuses, Shows, Restarts, Begins_tick, Numbers, Judges, Does, entries, happens}
-use Rattle.proof_queue.proofs.HostOuts.{OutIs, OutsAre}
-use Rattle.proof_queue.proofs.Stepping.{behind_notes, first_same, time_told}
+use Rattle.proof_queue.specs.proof_attempts.proof_requests.proof_alone.Steps.{AreTold, DidNotCome, IsOfOthers, Step, Tells, Comes, Misses, Says, Says_nothing, Asks, Refuses, Shows, Restarts, Begins_tick, Numbers, Judges, Does, entries}
+use Rattle.proof_queue.proofs.HostOuts.{OutsAre}
+use Rattle.proof_queue.proofs.Stepping.{first_same, time_told}
 use Rattle.proof_queue.proofs.Telling.{told_so}
 use Rattle.proof_queue.proofs.proof_alone_Apart.{AreOfLine}
 use Rattle.proof_queue.proofs.proof_attempts_Walking.{event_quiet, line_outs, line_ticks_tie, noted_notes, request_ticks_tie}
 use Rattle.proof_queue.proofs.proof_requests_Telling.{IsQuiet}
 use Rattle.proof_giving.specs.Stays.{ShowsSessions}
-use Rattle.proof_giving.specs.Tie.{AttemptsAs, AttemptsSo, is_for, is_inner_now}
-use Rattle.proof_giving.specs.Walking.{EndsAsTold, EndsSo, Grounds, KnowsAttempts}
+use Rattle.proof_giving.specs.Tie.{AttemptsSo, is_for, is_inner_now}
+use Rattle.proof_giving.specs.Walking.{Grounds, KnowsAttempts}
 use Rattle.proof_giving.proofs.GivesUp.{IsOther, IsTiedTo, Well, noted_is, others_well, requests_well, tick_well}
 use Rattle.proof_giving.proofs.Requesting.{event_ends, requests_are}
 use Rattle.proof_giving.proofs.Stays.{stays_quiet}
@@ -395,10 +387,15 @@ module _ (taken : List Entry → Carried → List Told) where
       → none_to_give_up heeds told m.clock ≡ true)
       (numbers : (here : Phase) (told : List Entry) (m : HostMachine) → (run : Run start here told m) → Careful run → AllSteps (HeedsSo heeds) run → AllSteps (HeedsAs heeds) run → m.awaits ≡ true
       → none_to_give_up heeds told (m.clock - 1) ≡ true) where
+    pub step_given : (here next : Phase) (told : List Entry) (m : HostMachine) (step : Step) → May here m step next → (run : Run start here told m) → Careful run → AllSteps (HeedsSo heeds) run → AllSteps (HeedsAs heeds) run
+        → GivesWell told (entries m step)
+    step_given here next told m step may run careful sure heeded =
+        step_gives here next told m step may (grounds here told m run) (counts here told m run careful sure heeded) (rests here told m run careful sure heeded) (numbers here told m run careful sure heeded)
+
     pub all_given : {here : Phase} {told : List Entry} {m : HostMachine} → (run : Run start here told m) → Careful run → AllSteps (HeedsSo heeds) run → AllSteps (HeedsAs heeds) run → GivesWell [] told
     all_given run_begins careful sure heeded = tt
     all_given (Turned turns run) careful sure heeded = all_given run careful.0 sure heeded
     all_given (Stepped {here = here} {told = told} {m = m} step may all_is later_is run) careful sure heeded =
         subst (GivesWell []) (sym all_is)
         (each-append (Well heeds) [] told (entries m step) (all_given run careful.0 sure.0 heeded.0)
-        (step_gives here _ told m step may (grounds here told m run) (counts here told m run careful.0 sure.0 heeded.0) (rests here told m run careful.0 sure.0 heeded.0) (numbers here told m run careful.0 sure.0 heeded.0)))
+        (step_given here _ told m step may run careful.0 sure.0 heeded.0))

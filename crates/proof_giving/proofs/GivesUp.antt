@@ -1,21 +1,10 @@
 -- At each step of a host alone a command counts as unanswered only where it is to be given up for its node: where the request of a third attempt ends badly, or its wait is over.
-use Rattle.std.proofs.Common.{◌≡◌, ◌⊎◌, ℕ, ◌+◌, ◌-◌, ◌≤◌, ◌<◌, ◌==◌, ◌&&◌, ◌||◌, Bool, true, false, if◌then◌else◌, inl, inr, List, [], ◌∷◌, ◌++◌, length, map, Option, Some, None, refl, sym, ap, ap₂, ◌∙◌, subst, append-nil, arith}
+use Rattle.std.proofs.Common.{◌≡◌, ◌⊎◌, ℕ, ◌+◌, ◌-◌, ◌≤◌, ◌==◌, ◌&&◌, ◌||◌, Bool, true, false, if◌then◌else◌, inl, inr, List, [], ◌∷◌, ◌++◌, Option, Some, None, refl, sym, ap, ap₂, ◌∙◌, subst, arith}
 use Rattle.std.specs.Prelude.{is_some, nat_le, nat_lt}
 use Rattle.std.specs.List.{AllByRecursion, list_any}
-use Rattle.std.proofs.lemmas.Bool.{both_ways, eq-eqb, eqb-true, le-leb, ltb-false, or_left, or_right}
+use Rattle.std.proofs.lemmas.Bool.{eq-eqb, eqb-true, le-leb, ltb-false, or_left, or_right}
 use Rattle.std.proofs.lemmas.List.Elements.{recursion_from_All}
-use Rattle.zw_base.proofs.Each.{all-append, all-right}
-use Rattle.serial_frame.specs.Frame.{FrameParts}
-use Rattle.serial_frame.specs.declared.item.Item.{Item}
-use Rattle.serial_frame.specs.declared.item.Item.TheVariants.{Good, Refused as refused_item}
-use Rattle.serial_frame.specs.declared.item.Refusal.TheVariants.{Stray, BadLength, BadSum, BadKind, Aborted}
-use Rattle.serial_frame.specs.declared.unit.Unit.{Unit as LineUnit}
-use Rattle.serial_frame.specs.declared.unit.Unit.TheVariants.{Ack, Nak, Can, Framed}
-use Rattle.serial_link.specs.State.{copy_due, turn_ticked}
-use Rattle.serial_link.specs.declared.turn.Turn.{Turn}
-use Rattle.serial_link.specs.declared.turn.Turn.TheVariants.{Idle as TurnIdle, Copied, Paused}
-use Rattle.zw_words.specs.declared.side.Side.{Side}
-use Rattle.zw_words.specs.declared.side.Side.TheVariants.{Host, Chip}
+use Rattle.zw_base.proofs.Each.{all-right}
 use Rattle.chip_functions.specs.Field.{IsNode}
 use Rattle.zw_text.specs.declared.entry.Ended.TheVariants as ended
 use Rattle.zw_text.specs.declared.entry.Entry.{Entry}
@@ -25,7 +14,7 @@ use Rattle.host_heard.specs.declared.told.Told.{Told}
 use Rattle.law_transcript.specs.Lists.{EachAfter}
 use Rattle.law_transcript.specs.Stores.{node_at}
 use Rattle.law_transcript.specs.Units.{Carried}
-use Rattle.law_time.specs.Attempts.{Attempts, attempt_is_over, ends_badly, is_late}
+use Rattle.law_time.specs.Attempts.{Attempts, attempt_is_over, is_late}
 use Rattle.law_time.specs.Heeds.{Heeds}
 use Rattle.law_time.specs.Moments.{clock}
 use Rattle.law_time.specs.Requests.{asked}
@@ -47,17 +36,15 @@ use Rattle.host_node.specs.Facts.{NodeFacts, SeriesFacts}
 use Rattle.host_node.specs.Steps.{after_again, after_again_tick, after_hold_tick, after_occasion, attempt_end, falls_asleep, new_series, tick_end, with_again, with_wait}
 use Rattle.host_node.specs.declared.attempt.AttemptEnd.{AttemptEnd}
 use Rattle.host_node.specs.declared.attempt.AttemptEnd.TheVariants.{Again, NoneRan, Unanswered}
-use Rattle.host_node.specs.declared.attempt.Moment.{Moment}
 use Rattle.host_node.specs.declared.series.Series.{Series}
 use Rattle.host_node.specs.declared.series.Series.TheVariants.{Due, Idle, Running}
 use Rattle.host_node.specs.State.{NodeState, has_waiting, is_idle, is_open as is_node_open, is_running, is_up}
 use Rattle.host_model.specs.State.{HostState, node_of}
 use Rattle.host_model.specs.Sessions.{command_by, open_command}
 use Rattle.host_model.specs.After.{requests_do}
-use Rattle.host_model.specs.Ends.{Bad, Good as part_good, PartEnd, Passed_over, asleep_entry, attempt_entries, end_entries, end_entries_if, failed_entry, neighbours_entry, out_entry, part_end, part_entries, task_entries}
-use Rattle.host_model.specs.Facts.{HostFacts, IsCommandOf}
+use Rattle.host_model.specs.Ends.{Bad, Good as part_good, PartEnd, Passed_over, asleep_entry, attempt_entries, end_entries, end_entries_if, failed_entry, neighbours_entry, part_end, part_entries, task_entries}
+use Rattle.host_model.specs.Facts.{IsCommandOf}
 use Rattle.host_model.specs.Outs.{noted, request_entries}
-use Rattle.host_model.specs.declared.out.HostOut.{HostOut}
 use Rattle.proof_host.specs.Facts.{Facts}
 use Rattle.proof_queue.specs.proof_attempts.Attempts.{IsSign, begun_of, has_ended_badly}
 use Rattle.proof_queue.specs.proof_attempts.proof_requests.Ends.{next_at}
@@ -69,7 +56,7 @@ use Rattle.proof_queue.proofs.AttemptsGo.{running_goes}
 use Rattle.proof_queue.proofs.Opening.{OpenLast, open_last}
 use Rattle.proof_giving.specs.Told.{attempts_so_far}
 use Rattle.proof_giving.specs.Stays.{ShowsSessions}
-use Rattle.proof_giving.specs.Tie.{AttemptsAs, AttemptsSo, NodeSo, is_bad_part, is_badly_over, is_for, signed}
+use Rattle.proof_giving.specs.Tie.{AttemptsSo, NodeSo, is_bad_part, is_badly_over, is_for, signed}
 use Rattle.proof_giving.specs.Walking.{gives_up_well}
 use Rattle.proof_giving.proofs.Along.{signed_series}
 use Rattle.proof_giving.proofs.Asking.{over_as}
@@ -125,12 +112,12 @@ task_other h task how = tt
 
 -- ---- a command that is to be given up
 
-abbrev IsUnanswered : AttemptEnd → Type 0
+abbrev pub IsUnanswered : AttemptEnd → Type 0
 IsUnanswered (Unanswered fell) = Unit {0}
 IsUnanswered end = ⊥
 
 -- the attempt that ends so was the third
-ends_third : (s : NodeState) → IsUnanswered (attempt_end s) → (s.series ≡ Running) × (nat_lt (s.book.attempts + 1) 3 ≡ false)
+pub ends_third : (s : NodeState) → IsUnanswered (attempt_end s) → (s.series ≡ Running) × (nat_lt (s.book.attempts + 1) 3 ≡ false)
 ends_third s is = by s.series refl (nat_lt (s.book.attempts + 1) 3) refl is
   where
     by : (x : Series) → s.series ≡ x → (b : Bool) → nat_lt (s.book.attempts + 1) 3 ≡ b → IsUnanswered (if is_running x then (if b then Again else Unanswered (falls_asleep s)) else NoneRan)
@@ -204,7 +191,7 @@ unanswered_well heeds past told now k (Unanswered fell) (Some c) are time gives 
 
 -- ---- where the request under way ends
 
-signed_attempts : (b : Bool) (s : NodeState) → (signed b s).book.attempts ≡ s.book.attempts
+pub signed_attempts : (b : Bool) (s : NodeState) → (signed b s).book.attempts ≡ s.book.attempts
 signed_attempts true s = by (is_running s.series)
   where
     by : (r : Bool) → (if r then with_wait s 100 else s).book.attempts ≡ s.book.attempts

@@ -27,6 +27,8 @@ mod Counted
 mod Rested
 mod GivesUp
 mod Given
+mod Prompt
+mod Promptly
 mod Carries
 pub mod Acked
 pub mod Quiet

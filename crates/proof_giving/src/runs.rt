@@ -1,12 +1,12 @@
 //! The attempts of each node along runs of a host alone.
 
-ghost use Rattle.std.specs.Prelude.{◌≡◌, ℕ, ◌-◌, true, Some, List, []};
+ghost use Rattle.std.specs.Prelude.{◌≡◌, ℕ, ◌-◌, false, true, Some, List, []};
 ghost use Rattle.s0_crypto.specs.declared.key_pair.Keys.{Keys};
 ghost use Rattle.zw_text.specs.declared.entry.Entry.{Entry};
 ghost use Rattle.host_heard.specs.declared.told.Told.{Told};
 ghost use Rattle.law_transcript.specs.Units.{Carried};
 ghost use Rattle.law_time.specs.Moments.{KeepsAfter};
-ghost use Rattle.law_time.specs.Unanswered.{none_to_give_up};
+ghost use Rattle.law_time.specs.Unanswered.{GivesUpAfterThree, none_to_give_up};
 ghost use Rattle.proof_queue.specs.proof_attempts.proof_requests.law_host.Heard.{heeds_alone};
 ghost use Rattle.proof_queue.specs.proof_attempts.proof_requests.proof_alone.State.{HostMachine, first_alone};
 ghost use Rattle.proof_queue.specs.proof_attempts.proof_requests.proof_alone.Phases.{Phase, Resting};
@@ -73,6 +73,20 @@ pub fn hosts_give_up_as_told()
     ensures { (keys : Keys) (taken : List Entry → Carried → List Told) (here : Phase) (told : List Entry) (m : HostMachine) →
         (run : Run (first_alone keys (Some [])) here told m) → Careful run → AllSteps (HeedsSo (heeds_alone taken)) run →
         AllSteps (HeedsAs (heeds_alone taken)) run → KeepsAfter [] (gives_up_well (heeds_alone taken)) told }
+{
+    hosts_count_attempts();
+    hosts_rest_with_none_to_give_up();
+}
+
+/// Also directly after the frame that ends the third attempt, where one does: so `GivesUpAfterThree` holds of any such run, and whole where it ends at a rest,
+/// with no tick of its line to come.
+pub fn hosts_give_up_after_three()
+    ensures told { (keys : Keys) (taken : List Entry → Carried → List Told) (here : Phase) (told : List Entry) (m : HostMachine) →
+        (run : Run (first_alone keys (Some [])) here told m) → Careful run → AllSteps (HeedsSo (heeds_alone taken)) run →
+        AllSteps (HeedsAs (heeds_alone taken)) run → GivesUpAfterThree false (heeds_alone taken) told }
+    ensures whole { (keys : Keys) (taken : List Entry → Carried → List Told) (told : List Entry) (m : HostMachine) →
+        (run : Run (first_alone keys (Some [])) Resting told m) → Careful run → AllSteps (HeedsSo (heeds_alone taken)) run →
+        AllSteps (HeedsAs (heeds_alone taken)) run → m.left ≡ 0 → GivesUpAfterThree true (heeds_alone taken) told }
 {
     hosts_count_attempts();
     hosts_rest_with_none_to_give_up();
