@@ -19,3 +19,4 @@ mod Nonces
 mod ReadyGoes
 mod ReadyTie
 mod ReadyWalk
+mod ReadyJudged
