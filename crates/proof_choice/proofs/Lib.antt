@@ -20,3 +20,4 @@ mod ReadyGoes
 mod ReadyTie
 mod ReadyWalk
 mod ReadyJudged
+mod ReadyStarts
