@@ -19,3 +19,5 @@ mod Nonces
 mod ReadyGoes
 mod ReadyTie
 mod ReadyWalk
+mod ReadyJudged
+mod ReadyStarts

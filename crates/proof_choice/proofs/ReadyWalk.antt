@@ -74,7 +74,8 @@ module _ (grows : GrowsAlong) (brings : PayloadsBring) (taken : List Entry → C
   abbrev pub StartsReady : Type 0
   StartsReady =
       (before : List Entry) (words : List ℕ) (m : HostMachine) (state : HostState) → OpensFrom m.keys m.records state → is_restart (line_of (entry.Said words)) ≡ true
-      → ReadyGround heeds (Asked lines.Restart) (before ++ entry.Said words ∷ []) m → ReadyAsTold heeds Resting before m.state m.clock → ReadyAsTold heeds Open (before ++ entry.Said words ∷ []) state m.clock
+      → ReadyGround heeds (Asked lines.Restart) (before ++ entry.Said words ∷ []) m → ReadyGround heeds Open (before ++ entry.Said words ∷ []) (record m { state = state; came = [] })
+      → ReadyAsTold heeds Resting before m.state m.clock → ReadyAsTold heeds Open (before ++ entry.Said words ∷ []) state m.clock
 
   -- entries that leave the attempts
   leaves : (here : Phase) (past later : List Entry) (h : HostState) (clock : ℕ) → ((n : ℕ) → so_far n later ≡ so_far n past) → ReadyAsTold heeds here past h clock → ReadyAsTold heeds here later h clock
@@ -178,10 +179,13 @@ module _ (grows : GrowsAlong) (brings : PayloadsBring) (taken : List Entry → C
     step_goes here next past m (Restarts state) may as_told ground later known =
         let at : BeforeWords (ReadyAsTold heeds) lines.Restart past m = as_known (ReadyAsTold heeds) here (Asked lines.Restart) past m may.0 known in
         let asked : ReadyGround heeds (Asked lines.Restart) past m = subst (λ (p : Phase). ReadyGround heeds p past m) may.0 ground in
+        let opened : ReadyGround heeds Open past (happens m (Restarts state))
+        = subst (λ (l : List Entry). ReadyGround heeds Open l (happens m (Restarts state))) (append-nil past) (subst (λ (p : Phase). ReadyGround heeds p (past ++ []) (happens m (Restarts state))) may.2 later) in
         leads_to (ReadyAsTold heeds) next Open (past ++ []) (happens m (Restarts state)) tt may.2
         (subst (λ (l : List Entry). Tie Open l state m.clock) (sym (append-nil past))
         (subst (λ (l : List Entry). Tie Open l state m.clock) (sym at.are)
-        (starts at.before at.words m state may.1 (ap is_restart at.read) (subst (λ (l : List Entry). ReadyGround heeds (Asked lines.Restart) l m) at.are asked) at.tie)))
+        (starts at.before at.words m state may.1 (ap is_restart at.read) (subst (λ (l : List Entry). ReadyGround heeds (Asked lines.Restart) l m) at.are asked)
+        (subst (λ (l : List Entry). ReadyGround heeds Open l (happens m (Restarts state))) at.are opened) at.tie)))
     step_goes here next past m (Begins_tick left) may as_told ground later known =
         leads_to (ReadyAsTold heeds) next Risen (past ++ []) (happens m (Begins_tick left)) tt may.2
         (subst (λ (l : List Entry). Tie Risen l m.state (m.clock + 1)) (sym (append-nil past)) (rest_of (ReadyAsTold heeds) Resting past m tt (as_known (ReadyAsTold heeds) here Resting past m may.0 known)))
