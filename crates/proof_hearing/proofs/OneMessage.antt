@@ -66,7 +66,7 @@ use Rattle.proof_nonces.proofs.Noting.{noted_told}
 use Rattle.proof_nonces.proofs.Walking.{own_long}
 use Rattle.proof_queue.specs.Heeding.{taken_up}
 use Rattle.proof_hearing.specs.Books.{BooksSo, SealedOpen, nonces_to}
-use Rattle.proof_hearing.specs.Hearing.{KeepsLast, NoOut, Point, StaysLate, choosing, else_of, waited}
+use Rattle.proof_hearing.specs.Hearing.{NoOut, Point, StaysLate, choosing, else_of, waited}
 use Rattle.proof_hearing.proofs.Alike.{Alike, finish_here, finish_other, hold_same, same_alike, takes_here, takes_other, wakes_go, works_go}
 use Rattle.proof_hearing.proofs.BooksGo.{books_end, books_give, books_offer, books_on, books_take, one_offered, segment_to}
 use Rattle.proof_hearing.proofs.Wanted.{unwanted, wanted}
@@ -76,6 +76,10 @@ some_of x y e = cc
 
 none_of : {A : Type 0} (x : A) → ◌≡◌ {A = Option A} None (Some x) → ⊥
 none_of x e = cc
+
+-- one event that is two
+taken_not : (n seen : ℕ) (text : List ℕ) (event : HostEvent) → event ∷ [] ≡ Takes_nonce n seen text ∷ [] → event ∷ [] ≡ Is_unkept n ∷ [] → ⊥
+taken_not n seen text event is unkept = let bad : Takes_nonce n seen text ∷ [] ≡ Is_unkept n ∷ [] = sym is ∙ unkept in cc
 
 first_of : (a b : HostEvent) (more less : List HostEvent) → a ∷ more ≡ b ∷ less → a ≡ b
 first_of a b more less e = cc
@@ -733,19 +737,19 @@ module _ (key : List ℕ) (taken : List Entry → Carried → List Told) (before
           (ap₂ (λ (a b : Bool). if a then Some node.seen else (if b then Some (node.seen + 1) else None)) (sym last_is) (sym next_is)
           ∙ sym (ap (λ (o : Option (List ℕ)). taken_from o node.seen (slice_index nonce 0)) pending) ∙ is)
 
-    nonce_one : KeepsLast → (nonce : List ℕ) (event : HostEvent) (told : List Entry) (count : Option ℕ) → count_at node (slice_index nonce 0) ≡ count → NonceReportEvents h n nonce count (event ∷ [])
+    nonce_one : (nonce : List ℕ) (event : HostEvent) (told : List Entry) (count : Option ℕ) → count_at node (slice_index nonce 0) ≡ count → NonceReportEvents h n nonce count (event ∷ [])
         → AreTold (outs h event) told → Late told → May h event → SaysOf (NonceReport nonce) event told
-    nonce_one keeps nonce event told None counted is = absurd (let bad : event ∷ [] ≡ [] = is in cc)
-    nonce_one keeps nonce event told (Some seen) counted (own, text, seals, inl is) =
+    nonce_one nonce event told None counted is = absurd (let bad : event ∷ [] ≡ [] = is in cc)
+    nonce_one nonce event told (Some seen) counted (own, text, seals, inl is, sure) =
         known_event (NonceReport nonce) event (Takes_nonce n seen text) told is
         (λ are late may.
         let (another, other, counts, sealed_by, eight) = may in
         known_notes (NonceReport nonce) (Takes_nonce n seen text) told [] are
         (takes_one nonce seals.plain seals.is_pending seen own text seals (own_long node h.keys own other nonce another text seals sealed_by eight) (counts_so nonce seals.plain seals.is_pending seen counted)) late)
-    nonce_one keeps nonce event told (Some seen) counted (own, text, seals, inr is) =
+    nonce_one nonce event told (Some seen) counted (own, text, seals, inr is, sure) =
         known_event (NonceReport nonce) event (Is_unkept n) told is
         (λ are late may. known_notes (NonceReport nonce) (Is_unkept n) told (entry.Unkept n ∷ []) (note_told (entry.Unkept n) told are)
-        (unkept_one nonce seals.plain seals.is_pending seen (λ same. keeps h n nonce seen (own, text, seals, inr refl) same) (counts_so nonce seals.plain seals.is_pending seen counted)) late)
+        (unkept_one nonce seals.plain seals.is_pending seen (λ same. taken_not n seen text event (sure same) is) (counts_so nonce seals.plain seals.is_pending seen counted)) late)
 
     -- ---- where nothing follows
 
@@ -769,8 +773,8 @@ module _ (key : List ℕ) (taken : List Entry → Carried → List Told) (before
             ∙ both (are_none sealer.pending) (choosing keepings texts course)
 
     nonce_quiet : (nonce : List ℕ) (count : Option ℕ) → count_at node (slice_index nonce 0) ≡ count → NonceReportEvents h n nonce count [] → Quiet (NonceReport nonce)
-    nonce_quiet nonce (Some seen) counted (own, text, seals, inl is) = absurd (let bad : [] ≡ Takes_nonce n seen text ∷ [] = is in cc)
-    nonce_quiet nonce (Some seen) counted (own, text, seals, inr is) = absurd (let bad : [] ≡ Is_unkept n ∷ [] = is in cc)
+    nonce_quiet nonce (Some seen) counted (own, text, seals, inl is, sure) = absurd (let bad : [] ≡ Takes_nonce n seen text ∷ [] = is in cc)
+    nonce_quiet nonce (Some seen) counted (own, text, seals, inr is, sure) = absurd (let bad : [] ≡ Is_unkept n ∷ [] = is in cc)
     nonce_quiet nonce None counted is = by node.pending refl
       where
         by : (o : Option (List ℕ)) → node.pending ≡ o → Quiet (NonceReport nonce)
@@ -823,14 +827,14 @@ module _ (key : List ℕ) (taken : List Entry → Carried → List Told) (before
 
     -- ---- any message but values
 
-    pub message_one : KeepsLast → (message : Told) → IsNoValues message → (event : HostEvent) (told : List Entry) → IsTaken h n payload sealed message (event ∷ []) → AreTold (outs h event) told → Late told
+    pub message_one : (message : Told) → IsNoValues message → (event : HostEvent) (told : List Entry) → IsTaken h n payload sealed message (event ∷ []) → AreTold (outs h event) told → Late told
         → May h event → SaysOf message event told
-    message_one keeps (Report id status wake) other event told is = report_one id status wake event told is
-    message_one keeps NonceGet other event told is = get_one event told (live_of h.nonces n) refl is
-    message_one keeps (NonceReport nonce) other event told is = nonce_one keeps nonce event told (count_at node (slice_index nonce 0)) refl is
-    message_one keeps Notification other event told is = wakes_one event told is
-    message_one keeps (SegmentRequest id offset) other event told is = segment_one id offset event told is
-    message_one keeps (Values settings) other event told is = absurd other
+    message_one (Report id status wake) other event told is = report_one id status wake event told is
+    message_one NonceGet other event told is = get_one event told (live_of h.nonces n) refl is
+    message_one (NonceReport nonce) other event told is = nonce_one nonce event told (count_at node (slice_index nonce 0)) refl is
+    message_one Notification other event told is = wakes_one event told is
+    message_one (SegmentRequest id offset) other event told is = segment_one id offset event told is
+    message_one (Values settings) other event told is = absurd other
 
     pub message_quiet : (message : Told) → IsNoValues message → IsTaken h n payload sealed message [] → Quiet message
     message_quiet (Report id status wake) other is = absurd (no_report id status wake is)

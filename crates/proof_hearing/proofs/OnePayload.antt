@@ -37,7 +37,7 @@ use Rattle.proof_nonces.specs.proof_notes.Full.{MessageNotes, hearing_of}
 use Rattle.proof_nonces.proofs.ByMessage.{IsNoValues, One, note_told, one_message}
 use Rattle.proof_queue.specs.Heeding.{heeded_of, heeded_opened, heeded_payload, heeded_sealed, taken_up}
 use Rattle.proof_hearing.specs.Books.{BooksSo}
-use Rattle.proof_hearing.specs.Hearing.{HeardOne, HearsSo, KeepsLast, NoOut, Point, StaysLate, Remaining, Whole, Left, RemainsSo, choosing, else_of, finishes, heeded_rest, waited}
+use Rattle.proof_hearing.specs.Hearing.{HeardOne, HearsSo, NoOut, Point, StaysLate, Remaining, Whole, Left, RemainsSo, choosing, else_of, finishes, heeded_rest, waited}
 use Rattle.proof_hearing.proofs.BooksGo.{books_spend, none_live}
 use Rattle.proof_hearing.proofs.OneMessage.{Noted, account, message_one, message_quiet, same_host, still_books, value_so}
 use Rattle.proof_hearing.proofs.Unsealing.{shut_so, unsealed_so}
@@ -63,7 +63,7 @@ values_up : (h : HostState) (n : ℕ) (settings : List Setting) (message : Told)
 values_up h n [] message = refl
 values_up h n (s ∷ settings) message = value_up h n s (value_events (after h (value_event h n s)) n settings) message
 
-module _ (key : List ℕ) (taken : List Entry → Carried → List Told) (before upto : List Entry) (n : ℕ) (payload : List ℕ) (is_node : IsNode n) (keeps : KeepsLast) where
+module _ (key : List ℕ) (taken : List Entry → Carried → List Told) (before upto : List Entry) (n : ℕ) (payload : List ℕ) (is_node : IsNode n) where
   abbrev heeds : Heeds
   heeds = heeds_alone taken
 
@@ -192,7 +192,7 @@ module _ (key : List ℕ) (taken : List Entry → Carried → List Told) (before
           as_event (In_turn (message ∷ more)) (Total (message ∷ more) events (one ∷ [], rest, is, first, others)) h course event one left rest told (sym ev ∙ is)
           (λ are_one may_one.
           begins (hears (it sealed) message) message more (taken_up (one ∷ []) message) h course one rest told
-          (message_one key taken before upto n payload is_node sealed h course point books room keeps message tt one told first are_one late may_one)
+          (message_one key taken before upto n payload is_node sealed h course point books room message tt one told first are_one late may_one)
           (heeded_of h n payload sealed (message ∷ more) events (one ∷ [], rest, is, first, others)) others refl) are may
       messages_go (message ∷ more) events ev (a ∷ b ∷ first, rest, is, these, others) are may = absurd (refuted message a b first tt these)
 

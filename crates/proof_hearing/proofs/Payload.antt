@@ -14,11 +14,11 @@ use Rattle.proof_nonces.specs.proof_known.law_host.Frames.{hears_carried}
 use Rattle.proof_nonces.specs.proof_known.law_host.Heard.{heeds_alone}
 use Rattle.proof_nonces.specs.proof_known.law_host.Messages.{Hearing}
 use Rattle.proof_nonces.specs.proof_known.proof_alone.Steps.{AreTold}
-use Rattle.proof_hearing.specs.Hearing.{HearsSo, KeepsLast, Point, Remaining, RemainsSo, StaysLate, Whole, choosing, else_of, finishes, hearing_at, heeded_rest}
+use Rattle.proof_hearing.specs.Hearing.{HearsSo, Point, Remaining, RemainsSo, StaysLate, Whole, choosing, else_of, finishes, hearing_at, heeded_rest}
 use Rattle.proof_hearing.proofs.Grows.{finishes_adds}
 use Rattle.proof_hearing.proofs.OnePayload.{hears_one, hears_over}
 
-module _ (key : List ℕ) (taken : List Entry → Carried → List Told) (before upto : List Entry) (n : ℕ) (payload : List ℕ) (is_node : IsNode n) (keeps : KeepsLast) where
+module _ (key : List ℕ) (taken : List Entry → Carried → List Told) (before upto : List Entry) (n : ℕ) (payload : List ℕ) (is_node : IsNode n) where
   abbrev pub hearing : Hearing
   hearing = hearing_at taken before upto n payload
 
@@ -43,7 +43,7 @@ module _ (key : List ℕ) (taken : List Entry → Carried → List Told) (before
   pub payload_goes : (begun : Course) (total : List Told) (past told : List Entry) (h : HostState) (event : HostEvent) (left : List HostEvent) → Point key (heeds_alone taken) past n h
       → StaysLate (heeds_alone taken) n past told → AreTold (outs h event) told → May h event → InPayload begun total past h (event ∷ left) → InPayload begun total (past ++ told) (after h event) left
   payload_goes begun total past told h event left point late are may in_it =
-      let one = hears_one key taken before upto n payload is_node keeps past h in_it.course point in_it.so event left told late in_it.remaining in_it.remains are may in
+      let one = hears_one key taken before upto n payload is_node past h in_it.course point in_it.so event left told late in_it.remaining in_it.remains are may in
       record {
         remaining = one.more;
         course = one.next;
@@ -70,7 +70,7 @@ module _ (key : List ℕ) (taken : List Entry → Carried → List Told) (before
       → ((keepings : List Bool) (later : List (Option (List ℕ))) → finishes hearing Whole (choosing (in_it.kept ++ keepings) (in_it.texts ++ later) begun) ≡ choosing keepings later in_it.course)
       × (in_it.course.taken ≡ total)
   payload_over begun total past h point in_it =
-      let over = hears_over key taken before upto n payload is_node keeps past h in_it.course point in_it.so in_it.remaining in_it.remains in (
+      let over = hears_over key taken before upto n payload is_node past h in_it.course point in_it.so in_it.remaining in_it.remains in (
         (λ keepings later. in_it.leads keepings later ∙ over.0 keepings later),
         sym (in_it.heeded ∙ ap (λ (l : List Told). in_it.course.taken ++ l) over.1 ∙ append-nil in_it.course.taken),
       )

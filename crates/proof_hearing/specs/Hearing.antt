@@ -1,6 +1,6 @@
 -- What a host alone and a course make of a payload, event by event (this project's own rule): the course in the middle of it has what the events so far have noted, and its books are the
 -- host's; the next event makes of it what the course makes of the next message, whatever is chosen later.
-use Rattle.std.specs.Prelude.{◌≡◌, ℕ, ◌+◌, Bool, true, false, List, [], ◌∷◌, ◌++◌, length, Option, Some, None, ⊤}
+use Rattle.std.specs.Prelude.{◌≡◌, ℕ, ◌+◌, Bool, true, false, List, [], ◌∷◌, ◌++◌, length, Option, None, ⊤}
 use Rattle.std.specs.List.{AllByRecursion}
 use Rattle.chip_functions.specs.Field.{IsNode}
 use Rattle.s0_crypto.specs.Sealing.{keys_of}
@@ -15,8 +15,8 @@ use Rattle.host_heard.specs.Telling.{heard_at}
 use Rattle.host_heard.specs.declared.told.Told.{Told}
 use Rattle.host_model.specs.State.{HostState, node_of}
 use Rattle.host_model.specs.After.{after}
-use Rattle.host_model.specs.Events.{HostEvent, Is_unkept}
-use Rattle.host_model.specs.Taking.{AreTaken, NonceReportEvents, PayloadEvents}
+use Rattle.host_model.specs.Events.{HostEvent}
+use Rattle.host_model.specs.Taking.{AreTaken, PayloadEvents}
 use Rattle.proof_nonces.specs.proof_known.law_host.Course.{Course, each_in_turn}
 use Rattle.proof_nonces.specs.proof_known.law_host.Frames.{hears_payload}
 use Rattle.proof_nonces.specs.proof_known.law_host.Heard.{heeds_alone, listing_heard}
@@ -62,10 +62,6 @@ NoOut entry = ⊤
 -- what is noted leaves an attempt late, but for the node whose command ends
 abbrev pub StaysLate : Heeds → ℕ → List Entry → List Entry → Type 0
 StaysLate heeds n past told = (m : ℕ) → IsNode m → (m ≡ n → AllByRecursion NoOut told) → is_late heeds past m ≡ true → is_late heeds (past ++ told) m ≡ true
-
--- where the last nonce is told again nothing is to be kept, so nothing is not kept
-abbrev pub KeepsLast : Type 0
-KeepsLast = (h : HostState) (n : ℕ) (nonce : List ℕ) (seen : ℕ) → NonceReportEvents h n nonce (Some seen) (Is_unkept n ∷ []) → (node_of h n).seen ≡ seen → ⊥
 
 -- ---- what is left of a payload
 

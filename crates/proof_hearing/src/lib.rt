@@ -2,12 +2,13 @@
 //!
 //! The law of the host's notes is a course (`law_host`): what is noted is told before it stands, by what was chosen, and with the books of the nonces. Here one
 //! payload that a host alone judged, without any walk: where the course has the books and the queue of the host, each event after the payload has noted just
-//! what the course notes next, by what that event chose, and the books go together again (`payloads_are_heard`). What that asks of the host is so along its runs
-//! (`hosts_have_points`). The walk over runs is not there yet.
+//! what the course notes next, by what that event chose, and the books go together again (`payloads_are_heard`). What that asks of the host is so along its
+//! runs (`hosts_have_points`). The walk over runs is not there yet.
 //! The definitions are in `specs/`: `Books` (how the books of a course stand to a host) and `Hearing` (what an event makes of a payload).
 //! `proofs/Putting` has a book among books, `Alike` what events leave at the nodes, `BooksGo` how books go with an event, `Wanted` that no segment is wanted
-//! where the host has none, `Unsealing` what a sealed payload opens to, `OneMessage` one message with its event, `OnePayload` all of a payload, and `Grows`
-//! that notes are only added. For walks there are besides `Sent`, what a new request makes of the books, and `Around`, what it leaves, and a restart.
+//! where the host has none, `Unsealing` what a sealed payload opens to, `OneMessage` one message with its event, `OnePayload` all messages, `Grows` that notes
+//! are only added, and `Payload` a payload from its acknowledgement to its end. For walks there are besides `Sent`, what a new request makes of the books,
+//! `Around`, what it leaves, and a restart, and `Beginning`, the books at first, and what the law of nonces asks of them.
 #![tactic(auto)]
 
 mod payloads;

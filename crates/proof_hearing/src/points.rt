@@ -21,8 +21,9 @@ use proof_nonces::notes::known::transcript::spoken::{
 };
 use proof_nonces::requests::hosts_listen_as_told;
 
-/// At each phase of a run of a host alone but where a line was just said, over a keeper that tells its records and has none at first, where no plain text waits of an
-/// attempt that is late, all is so that a payload or a request is to find: the host's facts, its tables and what nodes listed by the transcript, its keys, and how orders are carried.
+/// At each phase of a run of a host alone but where a line was just said, over a keeper that tells its records and has none at first, where no plain text
+/// waits of an attempt that is late, all is so that a payload or a request is to find: the host's facts, its tables and what nodes listed by the transcript,
+/// its keys, and how orders are carried.
 pub fn hosts_have_points()
     ensures { (key : List ℕ) (taken : List Entry → Carried → List Told) (here : Phase) (told : List Entry) (m : HostMachine) →
         Run (first_alone (keys_of key) (Some [])) here told m → NotAsked here → (n : ℕ) →
