@@ -197,7 +197,7 @@ abbrev pub IsKept : HostEvent → Type 0
 IsKept (Is_unkept n) = ⊥
 IsKept event = Unit {0}
 
--- a device hears a frame that is for it in step with the host; none of them is at work for long
+-- a device without levels hears a frame that is for it in step with the host, at no work
 pub record HearsInStep (session : ℕ) (device : State) : Type 0 where
   pub openly : takes_openly device.kind ≡ true
   pub at_once : lists device.kind 0x26 ≡ false
