@@ -25,8 +25,8 @@ use proof_queue::hosts_queue_as_told;
 use proof_sending::spoken::orders_are_carried_as_said;
 
 /// In any careful run of a host alone, also where it starts again, over a keeper that tells its records and has none at first, by messages that are heeded as
-/// the host took them: each node is tied to its attempts at each phase, so where the host submits and where it rests, and behind an item with the sign that
-/// is still to come. What it stands on holds along any run (`grounds`).
+/// the host took them: each node is tied to its attempts at each phase, so where the host submits and where it rests, and after an item with the sign that
+/// is still to come. What it depends on holds along any run (`grounds`).
 pub fn hosts_count_attempts()
     ensures grounds { (keys : Keys) (taken : List Entry → Carried → List Told) (here : Phase) (told : List Entry) (m : HostMachine) →
         Run (first_alone keys (Some [])) here told m → Grounds (heeds_alone taken) here told m }
