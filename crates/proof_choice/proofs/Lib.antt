@@ -21,3 +21,4 @@ mod ReadyTie
 mod ReadyWalk
 mod ReadyJudged
 mod ReadyStarts
+mod Unended
