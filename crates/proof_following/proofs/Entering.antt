@@ -9,7 +9,6 @@ use Rattle.zw_base.specs.declared.property.Setting.{Setting}
 use Rattle.value_store.proofs.Keys.{same_property_laws}
 use Rattle.zw_words.specs.declared.side.Side.TheVariants.{Host}
 use Rattle.zw_text.specs.Entry.{done_word, ended_word}
-use Rattle.zw_text.specs.declared.entry.Ended.TheVariants as ended
 use Rattle.zw_text.specs.declared.entry.Entry.{Entry}
 use Rattle.zw_text.specs.declared.entry.Entry.TheVariants as entry
 use Rattle.zw_text.specs.Transcript.{line_of}

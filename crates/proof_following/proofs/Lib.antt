@@ -10,3 +10,4 @@ mod Hearing
 mod Acks
 mod TickNotes
 mod Informing
+mod Judging

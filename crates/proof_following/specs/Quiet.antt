@@ -57,6 +57,10 @@ pub record Calm (heeds : Heeds) (past : List Entry) (now : ℕ) (c : Course) : T
 abbrev pub gone_to : List Entry → Entry → Course → ℕ
 gone_to past e c = if nat_lt c.ticked (clock past) && not (is_before_host past e) then clock past else c.ticked
 
+-- the course with which a frame begins to be judged
+abbrev pub begun : List Entry → Course → Course
+begun past c = record c { put = 0; ticked = gone_to past acknowledges c }
+
 -- ---- an end that is not noted
 
 -- it is over, and what was sent to a lock waits no more

@@ -1,12 +1,14 @@
 //! The end of a request in a host alone, and what the course of notes makes of it.
 
-ghost use Rattle.std.specs.Prelude.{◌≡◌, ℕ, Bool, true, false, is_none, Some, List, [], ◌∷◌, ◌++◌};
+ghost use Rattle.std.specs.Prelude.{◌≡◌, ℕ, Bool, true, false, is_none, nat_lt, Some, List, [], ◌∷◌, ◌++◌};
 ghost use Rattle.s0_crypto.specs.declared.key_pair.Keys.{Keys};
 ghost use Rattle.chip_functions.specs.declared.notice.Update.{Update};
 ghost use Rattle.zw_text.specs.declared.entry.Entry.TheVariants.{Interviewed, Unkept};
 ghost use Rattle.zw_text.specs.declared.entry.Entry.{Entry};
+ghost use Rattle.law_transcript.specs.Units.{bringing_in};
 ghost use Rattle.law_time.specs.Errands.{errand};
 ghost use Rattle.law_time.specs.Heeds.{Heeds};
+ghost use Rattle.law_time.specs.Moments.{clock};
 ghost use Rattle.host_requests.specs.Events.{RequestsEvent};
 ghost use Rattle.host_node.specs.declared.attempt.Moment.TheVariants.{BetweenTicks};
 ghost use Rattle.host_model.specs.After.{after};
@@ -16,10 +18,14 @@ ghost use Rattle.host_model.specs.Taking.{told_requests};
 ghost use Rattle.proof_ends.specs.Ends.{nodes_asked};
 ghost use Rattle.proof_ends.specs.proof_requests.law_host.Course.{Course};
 ghost use Rattle.proof_ends.specs.proof_requests.law_host.Ends.{ends_by_frame};
+ghost use Rattle.proof_ends.specs.proof_requests.law_host.Following.{after as followed};
+ghost use Rattle.proof_ends.specs.proof_requests.law_host.Frames.{frame_next};
+ghost use Rattle.proof_ends.specs.proof_requests.law_host.Ticks.{is_denied};
 ghost use Rattle.proof_ends.specs.proof_requests.proof_alone.State.{HostMachine, first_alone};
 ghost use Rattle.proof_ends.specs.proof_requests.proof_alone.Phases.{Behind};
 ghost use Rattle.proof_ends.specs.proof_requests.proof_alone.Runs.{Run};
 ghost use Rattle.proof_following.specs.Ended.{GivesUpAsHost, IsFrameEvent, NotedSo};
+ghost use Rattle.proof_following.specs.Quiet.{Calm, acknowledges, begun};
 
 use proof_ends::rests::attempts::{hosts_show_open_sessions, hosts_tell_of_sleep};
 use proof_ends::rests::requests::hosts_tell_of_ends;
@@ -32,6 +38,23 @@ pub fn hosts_end_by_frames()
         Run (first_alone keys (Some [])) (Behind (told_requests event)) past m → IsFrameEvent event → errand heeds.listing past ≡ nodes_asked past →
         c.over ≡ is_none m.state.requests.under_way → GivesUpAsHost heeds past m.state event c →
         NotedSo c (request_entries m.state event) (is_none (after m.state (Requests_do event BetweenTicks)).requests.under_way) (ends_by_frame heeds past c) }
+{
+    hosts_tell_of_sleep();
+    hosts_tell_of_ends();
+    hosts_show_open_sessions();
+}
+
+/// So it is of the whole acknowledgement of that frame, which brings nothing of a node, where before it nothing is to be noted, and no answer has had the line
+/// give up the request.
+pub fn hosts_judge_frames()
+    ensures { (keys : Keys) (heeds : Heeds) (event : RequestsEvent) (past rest : List Entry) (frame : List ℕ) (m : HostMachine) (c : Course) →
+        Run (first_alone keys (Some [])) (Behind (told_requests event)) (past ++ acknowledges ∷ []) m → IsFrameEvent event → frame_next past ≡ frame ∷ [] →
+        bringing_in frame ≡ [] → c.fits ≡ true → c.due ≡ [] → c.over ≡ is_none m.state.requests.under_way →
+        (nat_lt c.ticked (clock past) ≡ true → Calm heeds past (clock past) c) → (c.over ≡ false → is_denied past ≡ false) →
+        errand heeds.listing (past ++ acknowledges ∷ []) ≡ nodes_asked (past ++ acknowledges ∷ []) →
+        GivesUpAsHost heeds (past ++ acknowledges ∷ []) m.state event (begun past c) →
+        NotedSo (begun past c) (request_entries m.state event) (is_none (after m.state (Requests_do event BetweenTicks)).requests.under_way)
+        (followed heeds past acknowledges rest c) }
 {
     hosts_tell_of_sleep();
     hosts_tell_of_ends();

@@ -2,11 +2,12 @@
 //!
 //! The law of all notes is a course over the transcript (`law_host`). Here, step by step, what the course makes of what happens is what the host notes of it:
 //! the end of a request by a frame and without one (`ends_make_notes`), after each frame that a host alone judges (`hosts_end_by_frames`,
-//! `hosts_end_interviews`), and in a tick (`ticks_make_notes`, `ticks_go_by_nodes`); the acknowledgement of a frame (`frames_are_judged`); and entries and
-//! ticks at which nothing is to be noted, and notes that are due (`entries_go_on`). That the course of a whole run fits is not said.
+//! `hosts_end_interviews`), and in a tick (`ticks_make_notes`, `ticks_go_by_nodes`); the acknowledgement of a frame (`frames_are_judged`,
+//! `hosts_judge_frames`); and entries and ticks at which nothing is to be noted, and notes that are due (`entries_go_on`). That the course of a whole run fits
+//! is not said.
 //! The definitions are in `specs/Ended` (ends) and `specs/Quiet` (where nothing is noted). `proofs/Ending` has ends, `Framing` a frame that is judged,
-//! `HostEnds`, `Hearing` and `Informing` the same in a host; `Ticking`, `LateEnds`, `TickNotes` and `Silent` have ticks, `Entering`, `Coming` and `Acks` single
-//! entries.
+//! `HostEnds`, `Hearing`, `Judging` and `Informing` the same in a host; `Ticking`, `LateEnds`, `TickNotes` and `Silent` have ticks, `Entering`, `Coming` and
+//! `Acks` single entries.
 #![tactic(auto)]
 
 mod following;
@@ -15,5 +16,5 @@ mod hosts;
 pub use following::{
     ends_make_notes, entries_go_on, frames_are_judged, ticks_go_by_nodes, ticks_make_notes,
 };
-pub use hosts::{hosts_end_by_frames, hosts_end_interviews};
+pub use hosts::{hosts_end_by_frames, hosts_end_interviews, hosts_judge_frames};
 pub use proof_ends as ends;
