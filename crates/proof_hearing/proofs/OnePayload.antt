@@ -5,7 +5,7 @@ use Rattle.std.specs.List.{AllByRecursion}
 use Rattle.std.proofs.lemmas.Bool.{eqb-true, leb-true}
 use Rattle.zw_base.specs.declared.property.Setting.{Setting}
 use Rattle.chip_functions.specs.Field.{IsNode}
-use Rattle.s0_crypto.specs.Opening.{nonce_in}
+use Rattle.s0_crypto.specs.Opening.{sender_nonce_in}
 use Rattle.s0_crypto.specs.Seal.{Seals}
 use Rattle.s0_crypto.specs.Sealing.{unsealed_at}
 use Rattle.s0_crypto.specs.declared.key_pair.Keys.{Keys}
@@ -327,7 +327,7 @@ module _ (key : List ℕ) (taken : List Entry → Carried → List Told) (before
           ap (λ (k : Keys). unsealed_at k (nonce_with books.drawn n (giver course).given) (ends_from n) payload) (sym point.same_keys)
           ∙ ap (λ (l : List ℕ). unsealed_at h.keys l (ends_from n) payload) (sym (live_nonce h course books nonce is_named.live)) ∙ is
 
-      plain_so : (plain : List ℕ) → Seals h.keys (nonce_in payload) nonce (ends_from n) plain payload → unsealed_at h.keys nonce (ends_from n) payload ≡ Some plain
+      plain_so : (plain : List ℕ) → Seals h.keys (sender_nonce_in payload) nonce (ends_from n) plain payload → unsealed_at h.keys nonce (ends_from n) payload ≡ Some plain
       plain_so plain seals = unsealed_so h.keys nonce (ends_from n) payload plain is_named.long is_named.byte seals
 
       spends_books : (text : Option (List ℕ)) → IsOpening key books.drawn (opening course text) → StaysLate heeds n past told → AllByRecursion NoOut told
