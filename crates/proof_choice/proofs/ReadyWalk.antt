@@ -2,7 +2,10 @@
 use Rattle.std.proofs.Common.{◌≡◌, ◌⊎◌, ℕ, ◌+◌, true, false, inl, inr, List, [], ◌∷◌, ◌++◌, refl, sym, ap, ◌∙◌, subst, append-nil, append_assoc}
 use Rattle.std.specs.List.{AllByRecursion}
 use Rattle.zw_base.proofs.Each.{all-weaker}
+use Rattle.serial_frame.specs.Items.{unit_text}
 use Rattle.serial_frame.specs.declared.item.Item.{Item}
+use Rattle.serial_frame.specs.declared.item.Item.TheVariants.{Good}
+use Rattle.serial_frame.specs.declared.unit.Unit.TheVariants.{Ack, Framed}
 use Rattle.serial_frame.specs.declared.unit.Unit.{Unit as LineUnit}
 use Rattle.zw_words.specs.declared.side.Side.TheVariants.{Host}
 use Rattle.zw_text.specs.declared.line.Line.{Line}
@@ -33,6 +36,7 @@ use Rattle.proof_queue.specs.proof_attempts.Since.{BeforeWords, IsElse, IsLoose,
 use Rattle.proof_queue.proofs.Lasting.{as_known, between_else, by_else, leads_to, missed_loose, numbered_else, of_rest, others_loose, rest_of}
 use Rattle.proof_queue.proofs.Queued.{PayloadsBring}
 use Rattle.proof_queue.specs.Heeding.{AllSteps, HeedsAs}
+use Rattle.proof_giving.specs.Stays.{ShowsSessions}
 use Rattle.proof_giving.specs.Told.{GoesAlong, LeavesAttempts, attempts_so_far}
 use Rattle.proof_giving.proofs.Told.{attempts_in_vain, attempts_left, attempts_said}
 use Rattle.proof_choice.specs.Ready.{ReadySo}
@@ -64,11 +68,16 @@ module _ (grows : GrowsAlong) (brings : PayloadsBring) (taken : List Entry → C
   abbrev so_far : ℕ → List Entry → Attempts
   so_far n past = attempts_so_far heeds n past
 
+  -- where a frame is acknowledged the transcript shows the sessions of each node
+  abbrev pub ShowsAcked : List Entry → HostMachine → Step → Type 0
+  ShowsAcked past m (Judges (Good (Framed f)) rest behind told) = (n : ℕ) → ShowsSessions heeds (past ++ entry.Written Host (unit_text Ack) ∷ []) (after m.state (Hears (Good (Framed f)))) n
+  ShowsAcked past m one = Unit {0}
+
   -- a frame is judged, and the host starts
   abbrev pub JudgesReady : Type 0
   JudgesReady =
       (past : List Entry) (m : HostMachine) (item : Item) (rest : List LineUnit) (behind : List HostEvent) (told : List Entry) → IsJudgedNow m item rest behind told
-      → HeedsAs heeds past m (Judges item rest behind told) → ReadyGround heeds Open past m → ReadyGround heeds (Behind behind) (past ++ told) (record (done m (Hears item)) { came = rest })
+      → HeedsAs heeds past m (Judges item rest behind told) → ShowsAcked past m (Judges item rest behind told) → ReadyGround heeds Open past m → ReadyGround heeds (Behind behind) (past ++ told) (record (done m (Hears item)) { came = rest })
       → ReadyAsTold heeds Open past m.state m.clock → ReadyAsTold heeds (Behind behind) (past ++ told) (after m.state (Hears item)) m.clock
 
   abbrev pub StartsReady : Type 0
@@ -139,18 +148,18 @@ module _ (grows : GrowsAlong) (brings : PayloadsBring) (taken : List Entry → C
         leaves Open past ((past ++ entry.Said words ∷ []) ++ entry.Refused refusal ∷ []) h clock
         (λ n. ap (λ (l : List Entry). so_far n l) (append_assoc past (entry.Said words ∷ []) (entry.Refused refusal ∷ [])) ∙ attempts_in_vain taken n past words refusal) tie
 
-    step_goes : (here next : Phase) (past : List Entry) (m : HostMachine) (one : Step) → May here m one next → HeedsAs heeds past m one → ReadyGround heeds here past m
+    step_goes : (here next : Phase) (past : List Entry) (m : HostMachine) (one : Step) → May here m one next → HeedsAs heeds past m one → ShowsAcked past m one → ReadyGround heeds here past m
         → ReadyGround heeds next (past ++ entries m one) (happens m one) → KnowsSince (ReadyAsTold heeds) here past m → KnowsSince (ReadyAsTold heeds) next (past ++ entries m one) (happens m one)
-    step_goes here next past m (Tells e) may as_told ground later known =
+    step_goes here next past m (Tells e) may as_told shown ground later known =
         leads_to (ReadyAsTold heeds) next here (past ++ e ∷ []) m (between_else here may.0) may.3
         (loose_goes here past (e ∷ []) m.state m.clock (others_loose e may.1, tt) (rest_of (ReadyAsTold heeds) here past m (between_else here may.0) known))
-    step_goes here next past m (Comes unit) may as_told ground later known =
+    step_goes here next past m (Comes unit) may as_told shown ground later known =
         leads_to (ReadyAsTold heeds) next here (past ++ entries m (Comes unit)) (happens m (Comes unit)) (between_else here may.0) may.2
         (loose_goes here past (entries m (Comes unit)) m.state m.clock (tt, tt) (rest_of (ReadyAsTold heeds) here past m (between_else here may.0) known))
-    step_goes here next past m (Misses text marks) may as_told ground later known =
+    step_goes here next past m (Misses text marks) may as_told shown ground later known =
         leads_to (ReadyAsTold heeds) next here (past ++ entries m (Misses text marks)) (happens m (Misses text marks)) (between_else here may.0) may.3
         (loose_goes here past (entries m (Misses text marks)) m.state m.clock (tt, missed_loose marks may.1) (rest_of (ReadyAsTold heeds) here past m (between_else here may.0) known))
-    step_goes here next past m (Says words line) may as_told ground later known =
+    step_goes here next past m (Says words line) may as_told shown ground later known =
         let tie = rest_of (ReadyAsTold heeds) Resting past m tt (as_known (ReadyAsTold heeds) here Resting past m may.0 known) in
         subst (λ (p : Phase). KnowsSince (ReadyAsTold heeds) p (past ++ entry.Said words ∷ []) (happens m (Says words line))) (sym may.3)
         (record {
@@ -163,20 +172,20 @@ module _ (grows : GrowsAlong) (brings : PayloadsBring) (taken : List Entry → C
           goes_on = λ other. said_goes past words m.state m.clock (ap is_restart may.2 ∙ other) tie;
           in_vain = λ refusal. vain_goes past words refusal m.state m.clock tie;
         })
-    step_goes here next past m (Says_nothing words) may as_told ground later known =
+    step_goes here next past m (Says_nothing words) may as_told shown ground later known =
         leads_to (ReadyAsTold heeds) next Resting (past ++ entry.Said words ∷ []) (happens m (Says_nothing words)) tt (may.3 ∙ may.0)
         (said_goes past words m.state m.clock (ap is_restart may.2) (rest_of (ReadyAsTold heeds) Resting past m tt (as_known (ReadyAsTold heeds) here Resting past m may.0 known)))
-    step_goes here next past m (Asks event) (line, here_is, is, may, numbered, to_is) as_told ground later known =
+    step_goes here next past m (Asks event) (line, here_is, is, may, numbered, to_is) as_told shown ground later known =
         leads_to (ReadyAsTold heeds) next Open (past ++ entries m (Asks event)) (happens m (Asks event)) tt to_is
         (asked_goes line past m event (asked_calm line m.state event is) (subst (λ (p : Phase). ReadyGround heeds p past m) here_is ground)
         (subst (λ (p : Phase). ReadyGround heeds p (past ++ entries m (Asks event)) (happens m (Asks event))) to_is later)
         ((as_known (ReadyAsTold heeds) here (Asked line) past m here_is known).goes_on (asked_no_restart line m.state event is)))
-    step_goes here next past m (Refuses refusal) (line, here_is, why, numbered, to_is) as_told ground later known =
+    step_goes here next past m (Refuses refusal) (line, here_is, why, numbered, to_is) as_told shown ground later known =
         leads_to (ReadyAsTold heeds) next Open (past ++ entry.Refused refusal ∷ []) (happens m (Refuses refusal)) tt to_is ((as_known (ReadyAsTold heeds) here (Asked line) past m here_is known).in_vain refusal)
-    step_goes here next past m (Shows node) may as_told ground later known =
+    step_goes here next past m (Shows node) may as_told shown ground later known =
         leads_to (ReadyAsTold heeds) next Open (past ++ shown_values m.state node ∷ []) (happens m (Shows node)) tt may.2
         (loose_goes Open past (shown_values m.state node ∷ []) m.state m.clock (tt, tt) ((as_known (ReadyAsTold heeds) here (Asked (lines.Store node)) past m may.0 known).goes_on refl))
-    step_goes here next past m (Restarts state) may as_told ground later known =
+    step_goes here next past m (Restarts state) may as_told shown ground later known =
         let at : BeforeWords (ReadyAsTold heeds) lines.Restart past m = as_known (ReadyAsTold heeds) here (Asked lines.Restart) past m may.0 known in
         let asked : ReadyGround heeds (Asked lines.Restart) past m = subst (λ (p : Phase). ReadyGround heeds p past m) may.0 ground in
         let opened : ReadyGround heeds Open past (happens m (Restarts state))
@@ -186,19 +195,19 @@ module _ (grows : GrowsAlong) (brings : PayloadsBring) (taken : List Entry → C
         (subst (λ (l : List Entry). Tie Open l state m.clock) (sym at.are)
         (starts at.before at.words m state may.1 (ap is_restart at.read) (subst (λ (l : List Entry). ReadyGround heeds (Asked lines.Restart) l m) at.are asked)
         (subst (λ (l : List Entry). ReadyGround heeds Open l (happens m (Restarts state))) at.are opened) at.tie)))
-    step_goes here next past m (Begins_tick left) may as_told ground later known =
+    step_goes here next past m (Begins_tick left) may as_told shown ground later known =
         leads_to (ReadyAsTold heeds) next Risen (past ++ []) (happens m (Begins_tick left)) tt may.2
         (subst (λ (l : List Entry). Tie Risen l m.state (m.clock + 1)) (sym (append-nil past)) (rest_of (ReadyAsTold heeds) Resting past m tt (as_known (ReadyAsTold heeds) here Resting past m may.0 known)))
-    step_goes here next past m Numbers may as_told ground later known =
+    step_goes here next past m Numbers may as_told shown ground later known =
         let other : IsElse here = numbered_else (ReadyAsTold heeds) here past m may.0 known in
         leads_to (ReadyAsTold heeds) next here (past ++ entry.Time m.clock ∷ []) (happens m Numbers) other may.1
         (leaves here past (past ++ entry.Time m.clock ∷ []) m.state m.clock (λ n. attempts_left taken n past (entry.Time m.clock ∷ []) (tt, tt)) (rest_of (ReadyAsTold heeds) here past m other known))
-    step_goes here next past m (Judges item rest behind told) may as_told ground later known =
+    step_goes here next past m (Judges item rest behind told) may as_told shown ground later known =
         leads_to (ReadyAsTold heeds) next (Behind behind) (past ++ told) (happens m (Judges item rest behind told)) tt may.2
-        (judges past m item rest behind told may.1 as_told (subst (λ (p : Phase). ReadyGround heeds p past m) may.0 ground)
+        (judges past m item rest behind told may.1 as_told shown (subst (λ (p : Phase). ReadyGround heeds p past m) may.0 ground)
         (subst (λ (p : Phase). ReadyGround heeds p (past ++ told) (happens m (Judges item rest behind told))) may.2 later)
         (rest_of (ReadyAsTold heeds) Open past m tt (as_known (ReadyAsTold heeds) here Open past m may.0 known)))
-    step_goes here next past m (Does event told) may as_told ground later known =
+    step_goes here next past m (Does event told) may as_told shown ground later known =
         let else_so = by_else here next m.state event may.0 in
         of_rest (ReadyAsTold heeds) next (past ++ told) (happens m (Does event told)) else_so.1
         (does_ready grows brings taken here next past told m event may ground later (rest_of (ReadyAsTold heeds) here past m else_so.0 known))
@@ -216,7 +225,26 @@ module _ (grows : GrowsAlong) (brings : PayloadsBring) (taken : List Entry → C
     turn_goes Sleeping next past m is known = leads_to (ReadyAsTold heeds) next Submitting past m tt is.1 known
     turn_goes Submitting next past m is known = leads_to (ReadyAsTold heeds) next Resting past m tt is.1 known
 
-    module _ (start : HostMachine) (first : ReadyAsTold heeds Resting [] start.state start.clock) where
+    module _ (start : HostMachine) (first : ReadyAsTold heeds Resting [] start.state start.clock)
+        (shows : (here : Phase) (told : List Entry) (m : HostMachine) → Run start here told m → (n : ℕ) → ShowsSessions heeds told m.state n) where
+      -- the run that has just acknowledged it
+      acked : (here next : Phase) (past : List Entry) (m : HostMachine) (one : Step) → May here m one next → Run start here past m → ShowsAcked past m one
+      acked here next past m (Judges (Good (Framed f)) rest behind told) may run =
+          let w : Entry = entry.Written Host (unit_text Ack) in
+          shows (Behind behind) (past ++ w ∷ []) (happens m (Judges (Good (Framed f)) rest behind (w ∷ [])))
+          (Stepped (Judges (Good (Framed f)) rest behind (w ∷ [])) (
+            may.0,
+            record {
+              takes = may.1.takes;
+              may = may.1.may;
+              followed = may.1.followed;
+              told_so = ([], [], refl, tt, refl);
+              numbered = λ awaits. absurd (let (marks, more, is, all, none) = may.1.told_so in let bad : w ∷ (marks ++ more) ≡ [] = sym is ∙ may.1.numbered awaits in cc);
+            },
+            refl,
+          ) refl refl run)
+      acked here next past m one may run = tt
+
       pub readies_along : {here : Phase} {told : List Entry} {m : HostMachine} → (run : Run start here told m) → AllSteps (HeedsAs heeds) run → AllAlong (ReadyGround heeds) run
           → AllAlong (KnowsSince (ReadyAsTold heeds)) run
       readies_along Begins as_told ground = first
@@ -229,5 +257,5 @@ module _ (grows : GrowsAlong) (brings : PayloadsBring) (taken : List Entry → C
             before,
             subst (λ (l : List Entry). KnowsSince (ReadyAsTold heeds) next l later) (sym all_is)
                 (subst (λ (k : HostMachine). KnowsSince (ReadyAsTold heeds) next (told ++ entries m one) k) (sym later_is)
-                (step_goes here next told m one may as_told.1 (known_last start (ReadyGround heeds) run ground.0) after (known_last start (KnowsSince (ReadyAsTold heeds)) run before))),
+                (step_goes here next told m one may as_told.1 (acked here next told m one may run) (known_last start (ReadyGround heeds) run ground.0) after (known_last start (KnowsSince (ReadyAsTold heeds)) run before))),
           )
