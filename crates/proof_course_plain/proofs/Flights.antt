@@ -268,7 +268,7 @@ frame_was_there kept node orders host air old log flights frames (suc number) fr
     kept log flights frames number frame a.fly (subst (λ (n : ℕ). remembered frames n ≡ Some frame) (let e : suc number ≡ number + 1 = omega arith in e) is) in
     let here = beside-get (Bears node orders host.commands) (flown_in log) old number frame a.flown stood in
     let near : (peer_of frames frame.node).begun - frame.begun ≤ 61 =
-    not_stale frame.payload ((peer_of frames frame.node).begun - frame.begun) ((peer_of frames frame.node).shown - frame.shown) (remembered_fresh frames (suc number) frame none is).1 in
+    not_stale frame.payload ((peer_of frames frame.node).begun - frame.begun) ((peer_of frames frame.node).nonces.shown - frame.shown) (remembered_fresh frames (suc number) frame none is).1 in
     let count : (peer_of frames node).begun ≡ begins_in node log = a.fly.history.begun node within in
     let same = a.begun in
     record {
@@ -282,7 +282,7 @@ frame_was_there kept node orders host air old log flights frames (suc number) fr
           omega (arith, close, count, same))
           (λ own class. let at : frame.node ≡ node = eqb-true frame.node node own in
           let segment : (peer_of frames frame.node).begun - frame.begun ≤ 13 =
-          segment_not_stale frame.payload ((peer_of frames frame.node).begun - frame.begun) ((peer_of frames frame.node).shown - frame.shown) class (remembered_fresh frames (suc number) frame none is).1 in
+          segment_not_stale frame.payload ((peer_of frames frame.node).begun - frame.begun) ((peer_of frames frame.node).nonces.shown - frame.shown) class (remembered_fresh frames (suc number) frame none is).1 in
           let close : (peer_of frames node).begun - frame.begun ≤ 13 = subst (λ (n : ℕ). (peer_of frames n).begun - frame.begun ≤ 13) at segment in
           omega (arith, close, count, same));
     }

@@ -324,10 +324,10 @@ module _ (past : Past) (node : ℕ) (c : Courses) (frame : Flown) (aloft : Aloft
 
 -- the counts of a frame's node are those of the courses; so one that is not stale is recent
 recent_frame : Counting → (past : Past) (node : ℕ) (c : Courses) (log : List Mark) (flights : List Flown) (frames : FramesState) (frame : Flown) (aloft : Aloft) → node < 233 → OnAir past node c log flights frames → frame.node ≡ node
-    → WentAt c frame aloft → stale_by frame.payload ((peer_of frames frame.node).begun - frame.begun) ((peer_of frames frame.node).shown - frame.shown) ≡ None → is_class frame.payload 0x98 ≡ true → IsRecent c aloft
+    → WentAt c frame aloft → stale_by frame.payload ((peer_of frames frame.node).begun - frame.begun) ((peer_of frames frame.node).nonces.shown - frame.shown) ≡ None → is_class frame.payload 0x98 ≡ true → IsRecent c aloft
 recent_frame counting past node c log flights frames frame aloft within a at went none class =
     let age : ℕ = (peer_of frames frame.node).begun - frame.begun in
-    let count : (peer_of frames frame.node).shown ≡ c.node.given + c.host.shown = ap (λ (n : ℕ). (peer_of frames n).shown) at ∙ (a.fly.history.shown node within ∙ a.shown.count) in
+    let count : (peer_of frames frame.node).nonces.shown ≡ c.node.given + c.host.shown = ap (λ (n : ℕ). (peer_of frames n).nonces.shown) at ∙ (a.fly.history.shown node within ∙ a.shown.count) in
     let by_counts : stale_by frame.payload age ((c.node.given + c.host.shown) - (aloft.given + aloft.shown)) ≡ None =
     subst (λ (n : ℕ). stale_by frame.payload age ((c.node.given + c.host.shown) - n) ≡ None) went.shown (subst (λ (n : ℕ). stale_by frame.payload age (n - frame.shown) ≡ None) count none) in
     let near = counting.fresh frame.payload age c.node.given c.host.shown aloft.given aloft.shown class went.by_node went.by_host by_counts in
@@ -346,7 +346,7 @@ frame_was_there counting kept past node c log flights frames (suc number) frame 
     kept log flights frames number frame a.fly (subst (λ (n : ℕ). remembered frames n ≡ Some frame) (let e : suc number ≡ number + 1 = omega arith in e) is) in
     let here = beside-get (Bears past node c) (flown_in log) a.old number frame a.flown stood in
     let unstale = (remembered_fresh frames (suc number) frame none is).1 in
-    let near : (peer_of frames frame.node).begun - frame.begun ≤ 61 = not_stale frame.payload ((peer_of frames frame.node).begun - frame.begun) ((peer_of frames frame.node).shown - frame.shown) unstale in
+    let near : (peer_of frames frame.node).begun - frame.begun ≤ 61 = not_stale frame.payload ((peer_of frames frame.node).begun - frame.begun) ((peer_of frames frame.node).nonces.shown - frame.shown) unstale in
     let count : (peer_of frames node).begun ≡ begins_in node log = a.fly.history.begun node within in
     let same = a.begun in
     record {
