@@ -6,11 +6,18 @@ use Rattle.zw_text.specs.declared.entry.Entry.{Entry}
 use Rattle.zw_text.specs.declared.entry.Entry.TheVariants.{Said}
 use Rattle.law_transcript.specs.Answers.{MayAnswer, MayCancel, refusals_by_host}
 use Rattle.law_transcript.specs.Lists.{EachAfter}
-use Rattle.law_transcript.specs.Payloads.{MayRequest}
+use Rattle.law_transcript.specs.Payloads.{FollowsBegin, MayRequest}
 use Rattle.law_transcript.specs.Sessions.{MayBegin}
 use Rattle.law_wire.specs.Serial.{ended}
+use Rattle.law_time.specs.Heeds.{Heeds}
+use Rattle.law_time.specs.Moments.{Allows}
+use Rattle.law_time.specs.Queue.{may_queue}
+use Rattle.law_time.specs.Choice.{may_follow, may_number, may_send}
+use Rattle.law_time.specs.Unanswered.{may_give_up}
+use Rattle.law_time.specs.Rests.{may_rest}
+use Rattle.law_time.specs.Prompt.{IsPrompt, IsPromptAfter}
 use Rattle.proof_host.proofs.Over.{each-right as each_from}
-use Rattle.proof_asking.specs.proof_requests.law_host.Heard.{listing_heard}
+use Rattle.proof_asking.specs.proof_requests.law_host.Heard.{heeds_alone, listing_heard}
 use Rattle.proof_asking.specs.proof_requests.law_host.HostLegal.{ShowsValues}
 use Rattle.proof_replay.specs.Laws.{HostsKeepLaws, KeepsFrom}
 
@@ -18,6 +25,17 @@ use Rattle.proof_replay.specs.Laws.{HostsKeepLaws, KeepsFrom}
 ended_from : (Law : List Entry → Entry → Type 0) (whole : Bool) (before heard : List Entry) → EachAfter Law [] (ended whole (before ++ heard)) → EachAfter Law before (ended whole heard)
 ended_from Law true before heard all = each_from Law [] before (heard ++ Said [] ∷ []) (subst (λ (l : List Entry). EachAfter Law [] l) (append_assoc before heard (Said [] ∷ [])) all)
 ended_from Law false before heard all = each_from Law [] before heard all
+
+prompt_after : (heeds : Heeds) (whole : Bool) (before heard : List Entry) → IsPrompt whole heeds (before ++ heard) → IsPromptAfter before whole heeds heard
+prompt_after heeds whole before heard all = record {
+  fits = each_from (Allows (may_queue heeds)) [] before heard all.fits;
+  turn = each_from (Allows (may_send heeds)) [] before heard all.turn;
+  one_by_one = each_from (Allows may_follow) [] before heard all.one_by_one;
+  numbers = each_from (Allows may_number) [] before heard all.numbers;
+  begins = ended_from FollowsBegin whole before heard all.begins;
+  gives_up = record { between = each_from (Allows (may_give_up heeds)) [] before heard all.gives_up.between; in_the_end = all.gives_up.in_the_end };
+  rests = record { between = each_from (Allows (may_rest heeds)) [] before heard all.rests.between; in_the_end = all.rests.in_the_end };
+}
 
 pub keeps_from : (keys : Keys) (before : List Entry) (whole : Bool) (heard : List Entry) (records : Option (List (List ℕ))) → HostsKeepLaws keys whole (before ++ heard) records
     → KeepsFrom keys before whole heard records
@@ -33,5 +51,6 @@ keeps_from keys before whole heard records laws = record {
   stores = laws.said.stores;
   values = ended_from (ShowsValues listing_heard) whole before heard laws.said.values;
   sends = λ key same. each_from (MayRequest listing_heard key) [] before heard (laws.sends key same);
+  prompt = (laws.prompt.0, prompt_after (heeds_alone laws.prompt.0) whole before heard laws.prompt.1);
   records_kept = laws.said.records_kept;
 }

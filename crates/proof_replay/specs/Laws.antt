@@ -10,15 +10,14 @@ use Rattle.host_keep.specs.Keeping.{OptAdds}
 use Rattle.law_transcript.specs.Answers.{AnswersAfter, MayCancel, refusals_by_host}
 use Rattle.law_transcript.specs.Lists.{EachAfter}
 use Rattle.law_transcript.specs.Once.{CarriesOnce}
-use Rattle.law_transcript.specs.Payloads.{BeginsWithUnit, MayRequest, SendsWhatIsDue}
+use Rattle.law_transcript.specs.Payloads.{MayRequest, SendsWhatIsDue}
 use Rattle.law_transcript.specs.Records.{KeepsRecords}
 use Rattle.law_transcript.specs.Sessions.{MayBegin}
 use Rattle.law_transcript.specs.Stores.{StoresConfirmed}
 use Rattle.proof_asking.specs.proof_requests.law_host.Heard.{heeds_alone, listing_heard}
 use Rattle.proof_asking.specs.proof_requests.law_host.HostLegal.{ShowsValues}
 use Rattle.law_transcript.specs.Units.{Carried}
-use Rattle.law_time.specs.Queue.{FitsQueue}
-use Rattle.law_time.specs.Choice.{NumbersCallbacks, SendsOneByOne}
+use Rattle.law_time.specs.Prompt.{IsPrompt, IsPromptAfter}
 use Rattle.law_time.specs.Errands.{SaysHowDone}
 use Rattle.law_wire.specs.Links.{KeepsLink}
 use Rattle.law_wire.specs.Serial.{ended}
@@ -40,14 +39,15 @@ use Rattle.proof_ends.specs.proof_notes.Full.{NotesInFull}
 use Rattle.proof_ends.specs.Ends.{NotesOfEnds}
 use Rattle.proof_ends.specs.proof_nonces.Giving.{CountsNonces}
 use Rattle.proof_ends.specs.proof_nonces.Sealing.{SealsOnce}
-use Rattle.proof_ends.specs.proof_rests.Undone.{LeavesNothing}
 use Rattle.proof_ends.specs.proof_notes.Unkept.{UnkeptWhereAsked}
-use Rattle.proof_queue.specs.Turn.{GoesByQueue}
 use Rattle.proof_replay.specs.Heard.{AreReplayed, AreSaid, Replayed, heard_of, told_of}
 
--- By some messages of each payload, those that the host took up, 64 requests wait where it is said, and each request that is new goes by what waits.
-abbrev pub QueuesByMessages : List Entry → Type 0
-QueuesByMessages heard = (taken : List Entry → Carried → List Told) × FitsQueue (heeds_alone taken) heard × GoesByQueue (heeds_alone taken) heard
+-- By some messages of each payload, those that the host took up, it does what it is asked for as soon as it can, each thing in its turn; and so after what stood before.
+abbrev pub IsPromptByMessages : Bool → List Entry → Type 0
+IsPromptByMessages whole heard = (taken : List Entry → Carried → List Told) × IsPrompt whole (heeds_alone taken) heard
+
+abbrev pub IsPromptFrom : List Entry → Bool → List Entry → Type 0
+IsPromptFrom before whole heard = (taken : List Entry → Carried → List Told) × IsPromptAfter before whole (heeds_alone taken) heard
 
 -- One field a law. Orders, sessions and outcomes keep their laws.
 -- Each line has its answer; what is taken back, carried, stored and shown is so, and the records, where they are told, say what is shown.
@@ -59,10 +59,8 @@ QueuesByMessages heard = (taken : List Entry → Carried → List Told) × FitsQ
 -- The answers to questions stand where the first response to the last request was judged, and wherever it was.
 -- An interview is said to have succeeded or failed where its request ended so, and wherever a frame ended it; and so it is said how a Set or Get that a line asked for ended.
 -- What the end of a request, or a command that is given up, has noted stands together, once and in order, and nowhere else.
--- A request that is new is sent, and a session begins, only where the last request is over; and each message has the callback id after that of the last one.
--- Directly after a session that begins stands the unit that asks to send to its node.
--- Before each line and tick before which its last request is over no abort is owed, and what lines asked for since it started has ended.
--- Its queue of requests is full just where it is said, and requests go by it.
+-- It is prompt: its queue is full just where it is said; requests are sent in their turn, one after another, and numbered; a session begins with its unit; a command is given up after three
+-- attempts; and where it rests nothing is left undone.
 -- The number of a tick is above those before it, and lines have asked for so many ticks.
 -- Each payload that it asks its chip to send is a message of the last session of its node, by what the node listed, a nonce or a question for one, lets the node sleep, or was
 -- asked for by a line; where its keys are those of a network key, by what nodes told openly or sealed with that key.
@@ -82,11 +80,7 @@ pub record HostsKeepLaws (keys : Keys) (whole : Bool) (heard : List Entry) (reco
   pub interviews : EndsInterviews heard
   pub says_done : (key : List ℕ) → keys ≡ keys_of key → SaysHowDone listing_heard heard
   pub ends : NotesOfEnds whole heard
-  pub one_by_one : SendsOneByOne heard
-  pub numbered : NumbersCallbacks heard
-  pub begins : BeginsWithUnit (ended whole heard)
-  pub rests : LeavesNothing whole heard
-  pub queues : QueuesByMessages heard
+  pub prompt : IsPromptByMessages whole heard
   pub ticks : EachAfter MayCount [] heard
   pub sends : (key : List ℕ) → keys ≡ keys_of key → SendsWhatIsDue listing_heard key heard
   pub seals_once : SealsOnce keys heard
@@ -104,6 +98,7 @@ pub record KeepsFrom (keys : Keys) (before : List Entry) (whole : Bool) (heard :
   pub stores : StoresConfirmed whole listing_heard (before ++ heard)
   pub values : EachAfter (ShowsValues listing_heard) before (ended whole heard)
   pub sends : (key : List ℕ) → keys ≡ keys_of key → EachAfter (MayRequest listing_heard key) before heard
+  pub prompt : IsPromptFrom before whole heard
   pub records_kept : whole ≡ true → IfSome records (KeepsRecords (before ++ heard))
 
 -- A careful run of a host alone that began without records tells this, and ends at rest with no tick to come; none of its lines is for others; and the keeper holds what it held and the records

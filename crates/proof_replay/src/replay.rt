@@ -25,13 +25,12 @@ use proof_asking::known::{hosts_do_as_is_said, hosts_note_what_was_told};
 use proof_asking::requests::alone::traffic::hosts_obey_the_line;
 use proof_asking::requests::alone::{hosts_keep_their_tables, hosts_tell_time};
 use proof_asking::requests::{hosts_answer_questions, hosts_end_interviews};
-use proof_asking::{hosts_ask_one_by_one, hosts_say_how_done, hosts_send_what_is_due};
+use proof_asking::{hosts_say_how_done, hosts_send_what_is_due};
 use proof_ends::hosts_note_ends;
 use proof_ends::nonces::{hosts_count_nonces, hosts_seal_once};
 use proof_ends::notes::attempts::{hosts_fall_asleep_as_told, hosts_hold_as_asked};
 use proof_ends::notes::{hosts_note_in_full, hosts_say_what_is_not_kept};
-use proof_ends::rests::hosts_leave_nothing;
-use proof_queue::hosts_fit_their_queue;
+use proof_choice::hosts_are_prompt;
 
 /// Of any lines that are run whole, over any bytes and any keeper, what the host of `replay` heard is told by a run of a host alone that began without
 /// records and ends at rest. No line reads the records, so those of that run are added to what the keeper had.
@@ -63,12 +62,10 @@ pub fn hosts_keep_laws()
     hosts_answer_questions();
     hosts_end_interviews();
     hosts_say_how_done();
-    hosts_ask_one_by_one();
     hosts_note_ends();
-    hosts_leave_nothing();
     hosts_seal_once();
     hosts_count_nonces();
-    hosts_fit_their_queue();
+    hosts_are_prompt();
 }
 
 /// So the host of `replay` keeps them over what it heard of any texts that were run whole, each of which is read as its line by its words too, whatever its
