@@ -22,3 +22,4 @@ mod ReadyWalk
 mod ReadyJudged
 mod ReadyStarts
 mod Unended
+mod ReadyFrames

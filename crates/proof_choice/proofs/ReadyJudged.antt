@@ -48,11 +48,11 @@ taken_as a nonce seen counts =
     by false false is = absurd (let bad : ◌≡◌ {A = Option ℕ} None (Some seen) = is in cc)
 
 -- a text that waits does so alone, in an attempt that runs
-record WaitsAlone (s : NodeState) : Type 0 where
-  runs : s.series ≡ Running
-  no_text : s.text ≡ None
+pub record WaitsAlone (s : NodeState) : Type 0 where
+  pub runs : s.series ≡ Running
+  pub no_text : s.text ≡ None
 
-waits_alone : (s : NodeState) → NodeFacts s → (plain : List ℕ) → s.pending ≡ Some plain → WaitsAlone s
+pub waits_alone : (s : NodeState) → NodeFacts s → (plain : List ℕ) → s.pending ≡ Some plain → WaitsAlone s
 waits_alone s facts plain is = by s.series refl facts.series
   where
     by : (x : Series) → s.series ≡ x → SeriesFacts x s.book s.attempt_wait s.again_wait s.next_segment s.segments s.text s.pending → WaitsAlone s
