@@ -23,3 +23,4 @@ mod ReadyJudged
 mod ReadyStarts
 mod Unended
 mod ReadyFrames
+mod ReadyAlong
