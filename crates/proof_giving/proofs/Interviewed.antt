@@ -68,13 +68,13 @@ ending_unsigned (Interview_unkept n other) update is = tt
 ending_unsigned event update is = absurd is
 
 -- it ends a request that is of no attempt
-record EndsOther (s : RequestsState) (update : Update) : Type 0 where
-  u : UnderWay
-  under : s.under_way ≡ Some u
-  other : (n : ℕ) → is_for n u.purpose ≡ false
+pub record EndsOther (s : RequestsState) (update : Update) : Type 0 where
+  pub u : UnderWay
+  pub under : s.under_way ≡ Some u
+  pub other : (n : ℕ) → is_for n u.purpose ≡ false
   none : (requests_after s (Updates update)).under_way ≡ None
 
-ends_other : (s : RequestsState) (update : Update) → IsSome (interviewed_by s update) → EndsOther s update
+pub ends_other : (s : RequestsState) (update : Update) → IsSome (interviewed_by s update) → EndsOther s update
 ends_other s update some = by s.under_way refl update some
   where
     nothing : {A : Type 0} → false ≡ true → A

@@ -25,6 +25,10 @@ mod Interviewed
 mod Walked
 mod Counted
 mod Rested
+mod GivesUp
+mod Given
+mod Prompt
+mod Promptly
 mod Carries
 pub mod Acked
 pub mod Quiet

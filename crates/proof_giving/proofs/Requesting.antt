@@ -100,7 +100,7 @@ event_stays s (Updates update) told none = next_stays s (next_at s (Updates upda
 event_stays s Ticks told none = next_stays s (next_at s Ticks) s.under_way refl none
 event_stays s event told none = absurd told
 
-requests_are : (h : HostState) (event : RequestsEvent) (moment : Moment) → (after h (Requests_do event moment)).requests ≡ requests_after h.requests event
+pub requests_are : (h : HostState) (event : RequestsEvent) (moment : Moment) → (after h (Requests_do event moment)).requests ≡ requests_after h.requests event
 requests_are h event moment = ap (λ (p : Side × RequestsState). p.1) (end_if_asks (requests_do h event) (end_at h.requests event) moment)
 
 -- ---- which ends are good

@@ -91,7 +91,7 @@ rests_without heeds past m g known =
 
 -- ---- while the number of a tick is to be entered
 
-abbrev IsRest : Phase → Type 0
+abbrev pub IsRest : Phase → Type 0
 IsRest Resting = Unit {0}
 IsRest here = ⊥
 

@@ -85,13 +85,13 @@ use Rattle.proof_giving.proofs.Told.{attempts_again, attempts_left}
 -- ---- a request that no frame has ended
 
 -- what was under way has not ended by a frame
-unended : (past : List Entry) (line_now now : ℕ) (came : List LineUnit) (d : Doing) (u : UnderWay) → d.under_way ≡ Some u → TieAsked past line_now now came d → first_ending (standing_of (asked past)) ≡ []
+pub unended : (past : List Entry) (line_now now : ℕ) (came : List LineUnit) (d : Doing) (u : UnderWay) → d.under_way ≡ Some u → TieAsked past line_now now came d → first_ending (standing_of (asked past)) ≡ []
 unended past line_now now came d u is (inl nothing) = absurd (let none = nothing.none in let bad : ◌≡◌ {A = Option UnderWay} None (Some u) = sym none ∙ is in cc)
 unended past line_now now came d u is (inr (was, asks)) =
     let under = subst (λ (o : Option UnderWay). TieUnderWay (standing_of (asked past)) line_now now (acknowledged past) d.turn d.id d.leaving o) is asks.under_way in under.0.unended
 
 -- and once it ends, with entries that its rules do not look at, it has ended badly
-badly_unframed : (past told : List Entry) (line_now now : ℕ) (came : List LineUnit) (d : Doing) → AllByRecursion IsQuiet told → is_data (asked past).frame ≡ true → is_abort_frame (asked past).frame ≡ false
+pub badly_unframed : (past told : List Entry) (line_now now : ℕ) (came : List LineUnit) (d : Doing) → AllByRecursion IsQuiet told → is_data (asked past).frame ≡ true → is_abort_frame (asked past).frame ≡ false
     → first_ending (standing_of (asked past)) ≡ [] → TieAsked (past ++ told) line_now now came d → d.under_way ≡ None → (inner : Bool) → ends_badly (asked (past ++ told)) inner line_now ≡ true
 badly_unframed past told line_now now came d quiet framed other first tie none inner =
     let on = quiet_on past told quiet in

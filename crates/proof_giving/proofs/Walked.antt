@@ -105,13 +105,13 @@ use Rattle.proof_giving.proofs.Ticked.{TicksWith, line_ticks_so, node_ticks_so, 
 
 -- ---- the ground
 
-ground : {heeds : Heeds} (here : Phase) (past : List Entry) (m : HostMachine) → Grounds heeds here past m → RequestsGround here past m
+pub ground : {heeds : Heeds} (here : Phase) (past : List Entry) (m : HostMachine) → Grounds heeds here past m → RequestsGround here past m
 ground here past m g = g.sleep.0.0.0.1.0
 
 asked_so : {heeds : Heeds} (here : Phase) (past : List Entry) (m : HostMachine) → Grounds heeds here past m → KnowsAsked here past m
 asked_so here past m g = g.sleep.0.0.0.1.1
 
-in_tick : {heeds : Heeds} (here : Phase) (past : List Entry) (m : HostMachine) → Grounds heeds here past m → KnowsSince InTick here past m
+pub in_tick : {heeds : Heeds} (here : Phase) (past : List Entry) (m : HostMachine) → Grounds heeds here past m → KnowsSince InTick here past m
 in_tick here past m g = g.sleep.0.0.0.0.0.0.0.0.1
 
 tables : {heeds : Heeds} (here : Phase) (past : List Entry) (m : HostMachine) → Grounds heeds here past m → Facts past m.state
@@ -220,7 +220,7 @@ all_node_ticks : (nodes : List ℕ) → AllByRecursion IsNodeTick (map Node_tick
 all_node_ticks [] = tt
 all_node_ticks (n ∷ nodes) = (tt, all_node_ticks nodes)
 
-chip_told : (event : RequestsEvent) → IsOfChip event → IsTold event
+pub chip_told : (event : RequestsEvent) → IsOfChip event → IsTold event
 chip_told IsSent is = tt
 chip_told Fails is = tt
 chip_told (Responds response) is = tt

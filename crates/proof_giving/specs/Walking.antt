@@ -4,14 +4,17 @@ use Rattle.std.specs.Prelude.{◌≡◌, ℕ, ◌≤◌, ◌-◌, ◌==◌, ◌|
 use Rattle.std.specs.List.{AllByRecursion}
 use Rattle.zw_text.specs.declared.line.Line.{Line}
 use Rattle.zw_text.specs.declared.entry.Entry.{Entry}
-use Rattle.zw_text.specs.declared.entry.Entry.TheVariants.{Said}
+use Rattle.zw_text.specs.declared.entry.Ended.TheVariants.{Unanswered}
+use Rattle.zw_text.specs.declared.entry.Entry.TheVariants.{Out, Said, Time}
 use Rattle.zw_text.specs.Transcript.{line_of}
 use Rattle.host_heard.specs.declared.told.Told.{Told}
 use Rattle.law_transcript.specs.Units.{Carried}
 use Rattle.law_time.specs.Attempts.{ends_badly}
 use Rattle.law_time.specs.Heeds.{Heeds}
 use Rattle.law_time.specs.Judged.{is_data}
+use Rattle.law_time.specs.Moments.{now_at}
 use Rattle.law_time.specs.Requests.{asked}
+use Rattle.law_time.specs.Unanswered.{is_to_give_up, none_to_give_up}
 use Rattle.host_requests.specs.Events.{RequestsEvent, end_at}
 use Rattle.host_requests.specs.declared.end.How.{How}
 use Rattle.host_requests.specs.declared.task.Purpose.TheVariants.{Attempt}
@@ -122,3 +125,12 @@ pub record Grounds (heeds : Heeds) (here : Phase) (past : List Entry) (m : HostM
 abbrev pub RestsAt : (taken : List Entry → Carried → List Told) (start : HostMachine) (told : List Entry) (now : ℕ) → Type 0
 RestsAt taken start told now =
     (m : HostMachine) × (run : Run start Resting told m) × Careful run × AllSteps (HeedsSo (heeds_alone taken)) run × AllSteps (HeedsAs (heeds_alone taken)) run × (now ≡ m.clock)
+
+-- ---- giving up
+
+-- a command counts as unanswered only where it is to be given up; and none is where a line is said or the number of a tick stands
+abbrev pub gives_up_well : Heeds → List Entry → Entry → Bool
+gives_up_well heeds past (Out command Unanswered) = is_to_give_up heeds past command
+gives_up_well heeds past (Said words) = none_to_give_up heeds past (now_at past (Said words))
+gives_up_well heeds past (Time tick) = none_to_give_up heeds past (now_at past (Time tick))
+gives_up_well heeds past entry = true

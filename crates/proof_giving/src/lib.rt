@@ -9,14 +9,15 @@
 //! and a tick of a node, end attempts (`attempts_end_with_requests`, `attempts_end_as_told`); a frame that is acknowledged gives signs
 //! (`attempts_go_with_frames`); other entries and time leave them (`attempts_stay_by_entries`), and a session that begins, or a host that starts, begins
 //! them anew (`attempts_begin_with_sessions`). Where the host rests no command is to be given up (`attempts_leave_none_to_give_up`). So it is along careful
-//! runs (`hosts_count_attempts`, `hosts_rest_with_none_to_give_up`).
-//! The definitions are in `specs/`: `Told` (the attempts of one node), `Tie`, and `Stays` (sessions and orders that stay). `proofs/Told` and `Over` have
-//! how they grow, `Begun` which payloads go on with an attempt, `Asking` requests that are submitted, `Badly` whether one has ended badly by how it
-//! stands, `Stays` that it stays so, `EndsSo` and `Finished` its end, `NodesGo` and `HostGoes` what nodes do, `Segments`, `Orders` and `Inner` that a
-//! segment is told to be followed by others as before, `Along`, `Acked` and `Quiet` the other steps, and `AtRest` what follows at rest. Of a host alone,
-//! at each phase of a run (`specs/Walking`): `Framed` has an item that is judged, `Requesting` the request that hears of it, `Ticked` each part of a
-//! tick, `Interviewed`, `Staying` and `Mild` the other events, and `Asked` what a line asks; `Walked` has the walk, `Counted` what it makes of a run, and
-//! `Rested` what follows at rests.
+//! runs (`hosts_count_attempts`, `hosts_rest_with_none_to_give_up`), and a command counts as unanswered just where it is to be given up
+//! (`hosts_give_up_as_told`, `hosts_give_up_after_three`).
+//! The definitions are in `specs/`: `Told` (the attempts of one node), `Tie`, `Stays` (sessions and orders that stay) and `Walking` (at each phase).
+//! `proofs/Told` and `Over` have how they grow, `Begun` which payloads go on with an attempt, `Asking` requests that are submitted, `Badly` whether one
+//! has ended badly by how it stands, `Stays` that it stays so, `EndsSo` and `Finished` its end, `NodesGo` and `HostGoes` what nodes do, `Segments`,
+//! `Orders` and `Inner` that a segment is told to be followed by others as before, `Along`, `Acked` and `Quiet` the other steps, and `AtRest` what
+//! follows at rest. Of a host alone, at each phase of a run: `Framed` has an item that is judged, `Requesting` the request that hears of it, `Ticked`
+//! each part of a tick, `Interviewed`, `Staying` and `Mild` the other events, and `Asked` what a line asks; `Walked` has the walk, `Counted` what it
+//! makes of a run, and `Rested` what follows at rests; `GivesUp` and `Given` where commands are given up, `Prompt` and `Promptly` that they are directly.
 #![tactic(auto)]
 
 mod attempts;
@@ -39,4 +40,7 @@ pub use requests::{
     attempts_go_with_requests,
 };
 pub use rest::attempts_leave_none_to_give_up;
-pub use runs::{hosts_count_attempts, hosts_rest_with_none_to_give_up, ticks_begin_at_rest};
+pub use runs::{
+    hosts_count_attempts, hosts_give_up_after_three, hosts_give_up_as_told,
+    hosts_rest_with_none_to_give_up, ticks_begin_at_rest,
+};
