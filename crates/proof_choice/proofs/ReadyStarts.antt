@@ -12,7 +12,7 @@ use Rattle.host_keep.specs.Kept.{Kept, kept_of, node_of as kept_of_node}
 use Rattle.host_keep.specs.Legal.{Give}
 use Rattle.host_node.specs.State.{NodeState}
 use Rattle.host_model.specs.State.{HostState, node_of}
-use Rattle.proof_world.specs.Restarts.{AreHeld, IsHeld}
+use Rattle.proof_queue.specs.proof_world.Restarts.{AreHeld, IsHeld}
 use Rattle.proof_queue.specs.proof_attempts.proof_requests.law_host.Heard.{heeds_alone}
 use Rattle.proof_queue.specs.proof_attempts.proof_requests.proof_alone.State.{HostMachine}
 use Rattle.proof_queue.proofs.Counting.{each_starts}

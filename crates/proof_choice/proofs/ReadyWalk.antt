@@ -24,7 +24,7 @@ use Rattle.host_model.specs.After.{after}
 use Rattle.host_model.specs.Did.{after_all}
 use Rattle.host_model.specs.Events.{HostEvent, Accepts, Cancels, Hears}
 use Rattle.host_model.specs.Outs.{answers}
-use Rattle.world_model.specs.Events.{OpensFrom, shown_values}
+use Rattle.proof_queue.specs.proof_attempts.proof_requests.proof_alone.world_model.Events.{OpensFrom, shown_values}
 use Rattle.proof_queue.specs.proof_attempts.proof_requests.law_host.Heard.{heeds_alone}
 use Rattle.proof_queue.specs.proof_attempts.proof_requests.proof_alone.State.{HostMachine, done}
 use Rattle.proof_queue.specs.proof_attempts.proof_requests.proof_alone.Steps.{IsAskedBy, Step, Tells, Comes, Misses, Says, Says_nothing, Asks, Refuses, Shows, Restarts, Begins_tick, Numbers, Judges, Does, entries, happens}
