@@ -1,7 +1,6 @@
 -- Messages are ready to be sealed as in the host along each run along which attempts are counted.
-use Rattle.std.proofs.Common.{◌≡◌, ◌⊎◌, ℕ, ◌+◌, ◌<◌, ◌≤◌, zero, suc, Bool, true, false, inl, inr, Option, Some, None, length, List, [], ◌∷◌, ◌++◌, refl, sym, ap, ◌∙◌, subst, append-nil, append_assoc, arith}
+use Rattle.std.proofs.Common.{◌≡◌, ℕ, ◌<◌, zero, suc, Bool, true, false, inl, None, length, List, [], ◌∷◌, ◌++◌, refl, sym, ap, ◌∙◌, subst, append-nil, append_assoc}
 use Rattle.std.specs.List.{AllByRecursion}
-use Rattle.std.proofs.lemmas.Bool.{both_ways}
 use Rattle.zw_base.proofs.Each.{all-append, all-weaker}
 use Rattle.s0_crypto.specs.declared.key_pair.Keys.{Keys}
 use Rattle.serial_frame.specs.Frame.{FrameParts}
@@ -9,7 +8,6 @@ use Rattle.serial_frame.specs.Items.{unit_text}
 use Rattle.serial_frame.specs.declared.item.Item.{Item}
 use Rattle.serial_frame.specs.declared.item.Item.TheVariants.{Good, Refused as refused_item}
 use Rattle.serial_frame.specs.declared.item.Refusal.TheVariants.{Stray, BadLength, BadSum, BadKind, Aborted}
-use Rattle.serial_frame.specs.declared.unit.TheConstants.{NAK}
 use Rattle.serial_frame.specs.declared.unit.Unit.{Unit as LineUnit}
 use Rattle.serial_frame.specs.declared.unit.Unit.TheVariants.{Ack, Nak, Can, Framed}
 use Rattle.zw_words.specs.declared.side.Side.TheVariants.{Host}
@@ -28,7 +26,6 @@ use Rattle.host_model.specs.State.{HostState, first_host, first_nodes, node_of}
 use Rattle.host_model.specs.After.{after}
 use Rattle.host_model.specs.Did.{after_all}
 use Rattle.host_model.specs.Events.{HostEvent, Hears, Requests_do}
-use Rattle.host_model.specs.Outs.{answer_to}
 use Rattle.host_model.specs.Taking.{told_if}
 use Rattle.host_model.specs.declared.out.HostOut.TheVariants.{Write}
 use Rattle.proof_queue.specs.proof_attempts.proof_requests.law_host.Heard.{heeds_alone}

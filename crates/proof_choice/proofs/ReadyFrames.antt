@@ -1,18 +1,17 @@
 -- A frame that is judged leaves the messages that are ready to be sealed as in the host after what follows it.
-use Rattle.std.proofs.Common.{◌≡◌, ◌⊎◌, ℕ, ◌+◌, ◌<◌, ◌≤◌, ◌==◌, ◌&&◌, ◌||◌, nat_le, not, Bool, true, false, if◌then◌else◌, inl, inr, Option, Some, None, length, List, [], ◌∷◌, ◌++◌, refl, sym, ap, ap₂, ◌∙◌, subst, append-nil, append_assoc, arith}
+use Rattle.std.proofs.Common.{◌≡◌, ◌⊎◌, ℕ, ◌+◌, ◌<◌, ◌==◌, ◌&&◌, ◌||◌, nat_le, not, Bool, true, false, if◌then◌else◌, inl, inr, Option, Some, None, length, List, [], ◌∷◌, ◌++◌, refl, sym, ap, ap₂, ◌∙◌, subst, append-nil, append_assoc, arith}
 use Rattle.std.specs.Prelude.{Result, Ok, Err, is_none, is_some}
 use Rattle.std.specs.List.{AllByRecursion, flat_map, list_any}
-use Rattle.std.proofs.lemmas.Bool.{and_from, eq-eqb, eqb-true, lt-leb, or_left, or_parts, or_right}
-use Rattle.zw_base.proofs.Each.{all-append, all-weaker}
+use Rattle.std.proofs.lemmas.Bool.{and_from, eq-eqb, eqb-true, lt-leb, or_parts, or_right}
+use Rattle.zw_base.proofs.Each.{all-weaker}
 use Rattle.serial_frame.specs.Frame.{FrameParts, checksum, kind_code}
 use Rattle.serial_frame.specs.Items.{unit_text}
 use Rattle.serial_frame.specs.declared.frame.Kind.{Kind}
 use Rattle.serial_frame.specs.declared.frame.Kind.TheVariants as kind
-use Rattle.serial_frame.specs.declared.item.Item.{Item}
 use Rattle.serial_frame.specs.declared.item.Item.TheVariants.{Good}
 use Rattle.serial_frame.specs.declared.unit.TheConstants.{ACK}
 use Rattle.serial_frame.specs.declared.unit.Unit.{Unit as LineUnit}
-use Rattle.serial_frame.specs.declared.unit.Unit.TheVariants.{Ack, Framed}
+use Rattle.serial_frame.specs.declared.unit.Unit.TheVariants.{Framed}
 use Rattle.zw_words.specs.declared.side.Side.TheVariants.{Host}
 use Rattle.zw_text.specs.declared.entry.Entry.{Entry}
 use Rattle.zw_text.specs.declared.entry.Entry.TheVariants as entry
@@ -26,22 +25,21 @@ use Rattle.chip_functions.specs.declared.notice.Update.{Update}
 use Rattle.chip_functions.specs.declared.notice.Update.TheVariants.{Received, RequestFailed}
 use Rattle.chip_functions.specs.declared.response.Response.{Response}
 use Rattle.law_transcript.specs.Units.{Carried, bringing_in, bringing_of, is_frame, notice_in, read_well}
-use Rattle.law_time.specs.Attempts.{Attempts, attempt_is_over, ends_badly, is_bad, is_given_up_later, is_late, is_of_inner, is_sealed, is_sign, nonce_told, waits_for_nonce, with_nonces, with_nonces_here, with_sign}
+use Rattle.law_time.specs.Attempts.{Attempts, attempt_is_over, ends_badly, is_bad, is_given_up_later, is_late, is_of_inner, is_sealed, is_sign, nonce_told, waits_for_nonce, with_nonces, with_sign}
 use Rattle.law_time.specs.Ends.{ending, giving_up, silence}
 use Rattle.law_time.specs.Heeds.{Heeds, taken_here}
 use Rattle.law_time.specs.Judged.{acknowledged, brought_here, judged_here}
 use Rattle.law_time.specs.Moments.{clock}
 use Rattle.law_time.specs.Queue.{requests}
-use Rattle.law_time.specs.Requests.{Asked, Failing, Judging, are_none, asked, failing}
+use Rattle.law_time.specs.Requests.{Asked, Judging, are_none, asked, failing}
 use Rattle.law_time.specs.Sessions.{last_command, session_of}
 use Rattle.host_orders.specs.declared.carriage.Form.{Form}
 use Rattle.host_orders.specs.declared.carriage.Form.TheVariants.{Sealed}
 use Rattle.host_requests.specs.declared.under_way.UnderWay.{UnderWay}
 use Rattle.supervision.specs.Host.{command_at as command_of_session, open_session}
-use Rattle.host_node.specs.Facts.{NodeFacts, SeriesFacts}
+use Rattle.host_node.specs.Facts.{NodeFacts}
 use Rattle.host_node.specs.State.{NodeState}
-use Rattle.host_node.specs.declared.series.Series.{Series}
-use Rattle.host_node.specs.declared.series.Series.TheVariants.{Idle, Due, Running}
+use Rattle.host_node.specs.declared.series.Series.TheVariants.{Running}
 use Rattle.host_model.specs.State.{Command, HostState, command_at, node_of}
 use Rattle.host_model.specs.After.{after}
 use Rattle.host_model.specs.Did.{after_all}
@@ -55,8 +53,7 @@ use Rattle.host_model.specs.Facts.{HostFacts}
 use Rattle.proof_queue.specs.proof_attempts.proof_requests.law_host.Heard.{heeds_alone}
 use Rattle.proof_queue.specs.proof_attempts.proof_requests.Asking.{TieAsked, TieUnderWay, doing_of}
 use Rattle.proof_queue.specs.proof_attempts.proof_requests.Standing.{standing_of}
-use Rattle.proof_queue.specs.proof_attempts.proof_requests.proof_alone.State.{HostMachine, done}
-use Rattle.proof_queue.specs.proof_attempts.proof_requests.proof_alone.Steps.{AreTold, IsOfUnit}
+use Rattle.proof_queue.specs.proof_attempts.proof_requests.proof_alone.Steps.{IsOfUnit}
 use Rattle.proof_queue.proofs.AttemptsGo.{running_not_over}
 use Rattle.proof_queue.specs.Heeding.{heeded_frame, heeded_notice, heeded_payload}
 use Rattle.proof_queue.specs.proof_attempts.proof_requests.proof_waking.Judged.{TieFrames}
@@ -230,9 +227,10 @@ module _ (inner_same : InnerSame) (keeps : SessionsKept) (taken : List Entry →
           (subst (λ (k : ℕ). NoncesSo (node_of heard k) (node_of (after_all heard behind) k) (flat_map nonce_told (heeded_payload heard source payload (heard_at payload) behind is))) is_n
           (payload_nonces source heard payload (heard_at payload) behind (subst (λ (k : ℕ). k < length heard.nodes) (sym is_n) within) is))
       by false other =
-          inl
-          (told_so ∙ ap (λ (b : Bool). flat_map nonce_told (if b then taken acked (record { node = source; payload = payload }) else [])) other,
-          others_stay source n heard behind other within (all_follow source heard payload (heard_at payload) behind is))
+          inl (
+            told_so ∙ ap (λ (b : Bool). flat_map nonce_told (if b then taken acked (record { node = source; payload = payload }) else [])) other,
+            others_stay source n heard behind other within (all_follow source heard payload (heard_at payload) behind is),
+          )
 
   module _ (kind_is : f.kind ≡ kind.Request) where
     read_is : (read : Result Notice BodyFault) → notice_of f.func f.body ≡ read → flat_map bringing_of (notices_of f.kind f.func f.body) ≡ flat_map bringing_of (read_well read)

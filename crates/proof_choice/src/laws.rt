@@ -17,10 +17,11 @@ ghost use Rattle.proof_choice.specs.Turning.{AllAlong, KnowsAll};
 ghost use Rattle.proof_choice.specs.Waits.{AskingGround};
 
 use crate::known::{hosts_block_as_told, hosts_give_as_carried};
-use host_model::attempts_have_what_they_give;
 use host_keep::texts_give_one_thing;
+use host_model::attempts_have_what_they_give;
 use proof_giving::{
-    attempts_grow_by_entries, attempts_leave_none_to_give_up, attempts_stay_with_the_request, hosts_count_attempts,
+    attempts_grow_by_entries, attempts_leave_none_to_give_up, attempts_stay_with_the_request,
+    hosts_count_attempts,
 };
 use proof_queue::hosts_queue_as_told;
 use proof_rests::attempts::requests::hosts_ask_as_told;

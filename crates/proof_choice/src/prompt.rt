@@ -24,8 +24,9 @@ use proof_queue::{hosts_go_by_messages, hosts_queue_as_told};
 /// sent in their turn, a command is given up after three attempts, and at a rest nothing is left undone. That requests are sent one after another and
 /// numbered, and that a session begins with its message, is asked for: it is proved of any run (`hosts_ask_one_by_one` of `proof_asking`).
 pub fn hosts_are_prompt()
-    ensures { (keys : Keys) (whole : Bool) (here : Phase) (told : List Entry) (m : HostMachine) → RunCarefully (first_alone keys (Some [])) here told m →
-        (whole ≡ true → (here ≡ Resting) × (m.left ≡ 0)) → AreForHost told → SendsOneByOne told → NumbersCallbacks told → BeginsWithUnit (ended whole told) →
+    ensures { (keys : Keys) (whole : Bool) (here : Phase) (told : List Entry) (m : HostMachine) →
+        RunCarefully (first_alone keys (Some [])) here told m → (whole ≡ true → (here ≡ Resting) × (m.left ≡ 0)) → AreForHost told →
+        SendsOneByOne told → NumbersCallbacks told → BeginsWithUnit (ended whole told) →
         (taken : List Entry → Carried → List Told) × IsPrompt whole (heeds_alone taken) told }
 {
     hosts_go_by_messages();

@@ -1,13 +1,10 @@
 -- All of it by the messages that are chosen along the run.
-use Rattle.std.proofs.Common.{◌≡◌, ℕ, Bool, true, false, List, [], refl, subst}
+use Rattle.std.proofs.Common.{◌≡◌, Bool, true, false, List, [], refl}
 use Rattle.std.specs.Prelude.{Some}
 use Rattle.s0_crypto.specs.declared.key_pair.Keys.{Keys}
 use Rattle.zw_text.specs.declared.entry.Entry.{Entry}
 use Rattle.host_heard.specs.declared.told.Told.{Told}
-use Rattle.law_transcript.specs.Payloads.{BeginsWithUnit}
 use Rattle.law_transcript.specs.Units.{Carried}
-use Rattle.law_time.specs.Choice.{NumbersCallbacks, SendsOneByOne}
-use Rattle.law_time.specs.Prompt.{IsPrompt}
 use Rattle.law_time.specs.Rests.{RestsWell}
 use Rattle.law_time.specs.Unanswered.{GivesUpAfterThree}
 use Rattle.proof_queue.specs.proof_attempts.proof_requests.law_host.Heard.{heeds_alone}
