@@ -22,3 +22,5 @@ mod ReadyWalk
 mod ReadyJudged
 mod ReadyStarts
 mod Unended
+mod ReadyFrames
+mod ReadyAlong

@@ -1,12 +1,11 @@
 -- What a nonce that is taken after a payload makes of a message that is to be sealed, where the attempt waits for it by the transcript.
-use Rattle.std.proofs.Common.{◌≡◌, ◌⊎◌, ℕ, ◌+◌, ◌-◌, ◌%◌, ◌<◌, ◌≤◌, ◌==◌, ◌&&◌, nat_lt, not, Bool, true, false, if◌then◌else◌, inl, inr, Option, Some, None, length, List, [], ◌∷◌, ◌++◌, refl, sym, ap, ap₂, ◌∙◌, subst, append-nil}
-use Rattle.std.specs.Prelude.{Result, Ok, Err, is_some, slice_index}
-use Rattle.std.specs.List.{AllByRecursion, flat_map}
+use Rattle.std.proofs.Common.{◌≡◌, ℕ, ◌+◌, ◌-◌, ◌%◌, ◌<◌, ◌==◌, ◌&&◌, nat_lt, not, Bool, true, false, if◌then◌else◌, inl, inr, Option, Some, None, length, List, [], ◌∷◌, refl, sym, ap, ap₂, ◌∙◌, subst}
+use Rattle.std.specs.Prelude.{is_some, slice_index}
+use Rattle.std.specs.List.{AllByRecursion}
 use Rattle.std.proofs.lemmas.Bool.{cases_lt, eq-eqb, le-ltb, lt-ltb, ne_eqb}
 use Rattle.s0_session.specs.Sending.{seen_after, taken_from}
-use Rattle.law_time.specs.Attempts.{Attempts, is_last_nonce, is_next_nonce, with_nonce, with_nonces}
+use Rattle.law_time.specs.Attempts.{Attempts, is_next_nonce, with_nonce, with_nonces}
 use Rattle.law_time.specs.Requests.{are_none}
-use Rattle.host_heard.specs.declared.payload.Heard.{Heard}
 use Rattle.host_node.specs.Facts.{NodeFacts, SeriesFacts}
 use Rattle.host_node.specs.State.{NodeState}
 use Rattle.host_node.specs.Steps.{after_nonce}
@@ -16,14 +15,12 @@ use Rattle.host_model.specs.State.{HostState, node_of}
 use Rattle.host_model.specs.After.{after}
 use Rattle.host_model.specs.Did.{after_all}
 use Rattle.host_model.specs.Events.{HostEvent, Starts, Gives_text, Takes_nonce}
-use Rattle.host_model.specs.Taking.{PayloadEvents}
 use Rattle.proof_queue.proofs.Doings.{node_after}
 use Rattle.proof_queue.proofs.Kept.{IsFollower}
-use Rattle.proof_giving.proofs.Heeded.{all_follow}
 use Rattle.proof_choice.specs.Ready.{ReadySo}
 use Rattle.proof_choice.proofs.Nonces.{NoncesSo, one_stays, places_stay}
 use Rattle.proof_choice.proofs.Readies.{stays_ready}
-use Rattle.proof_choice.proofs.Staying.{LeavesTexts, Stays, no_some, none_of, stays_same, then_stays}
+use Rattle.proof_choice.proofs.Staying.{Stays, no_some, none_of, stays_same, then_stays}
 use Rattle.std.proofs.Common.{arith}
 
 -- ---- one nonce
@@ -48,11 +45,11 @@ taken_as a nonce seen counts =
     by false false is = absurd (let bad : ◌≡◌ {A = Option ℕ} None (Some seen) = is in cc)
 
 -- a text that waits does so alone, in an attempt that runs
-record WaitsAlone (s : NodeState) : Type 0 where
-  runs : s.series ≡ Running
-  no_text : s.text ≡ None
+pub record WaitsAlone (s : NodeState) : Type 0 where
+  pub runs : s.series ≡ Running
+  pub no_text : s.text ≡ None
 
-waits_alone : (s : NodeState) → NodeFacts s → (plain : List ℕ) → s.pending ≡ Some plain → WaitsAlone s
+pub waits_alone : (s : NodeState) → NodeFacts s → (plain : List ℕ) → s.pending ≡ Some plain → WaitsAlone s
 waits_alone s facts plain is = by s.series refl facts.series
   where
     by : (x : Series) → s.series ≡ x → SeriesFacts x s.book s.attempt_wait s.again_wait s.next_segment s.segments s.text s.pending → WaitsAlone s

@@ -1,20 +1,15 @@
 -- A host that starts has counted as many nonces of each node as the one before it, and nothing is left to be sealed.
-use Rattle.std.proofs.Common.{◌≡◌, ℕ, ◌≤◌, ◌&&◌, Bool, true, false, if◌then◌else◌, Option, Some, None, List, [], ◌∷◌, ◌++◌, refl, sym, ap, ◌∙◌, subst}
+use Rattle.std.proofs.Common.{◌≡◌, ℕ, true, false, Option, Some, None, List, refl, sym, ap, ◌∙◌, subst}
 use Rattle.std.specs.Prelude.{IsSome}
 use Rattle.zw_text.specs.declared.entry.Entry.{Entry}
-use Rattle.zw_text.specs.declared.entry.Entry.TheVariants as entry
-use Rattle.zw_text.specs.Transcript.{line_of}
 use Rattle.host_heard.specs.declared.told.Told.{Told}
-use Rattle.law_transcript.specs.Restarts.{is_restart}
 use Rattle.law_transcript.specs.Units.{Carried}
-use Rattle.law_time.specs.Attempts.{Attempts, anew}
+use Rattle.law_time.specs.Attempts.{Attempts}
 use Rattle.host_keep.specs.Kept.{Kept, kept_of, node_of as kept_of_node}
 use Rattle.host_keep.specs.Legal.{Give}
-use Rattle.host_node.specs.State.{NodeState}
 use Rattle.host_model.specs.State.{HostState, node_of}
-use Rattle.proof_world.specs.Restarts.{AreHeld, IsHeld}
+use Rattle.proof_queue.specs.proof_world.Restarts.{AreHeld, IsHeld}
 use Rattle.proof_queue.specs.proof_attempts.proof_requests.law_host.Heard.{heeds_alone}
-use Rattle.proof_queue.specs.proof_attempts.proof_requests.proof_alone.State.{HostMachine}
 use Rattle.proof_queue.proofs.Counting.{each_starts}
 use Rattle.proof_queue.proofs.Queued.{PayloadsBring}
 use Rattle.proof_giving.specs.Told.{attempts_so_far}

@@ -73,10 +73,10 @@ use Rattle.proof_choice.proofs.Staying.{LeavesTexts, no_some, stays_same}
 
 -- ---- the ground
 
-ground_of : {heeds : Heeds} (here : Phase) (past : List Entry) (m : HostMachine) → Grounds heeds here past m → RequestsGround here past m
+pub ground_of : {heeds : Heeds} (here : Phase) (past : List Entry) (m : HostMachine) → Grounds heeds here past m → RequestsGround here past m
 ground_of here past m g = g.sleep.0.0.0.1.0
 
-asked_of : {heeds : Heeds} (here : Phase) (past : List Entry) (m : HostMachine) → Grounds heeds here past m → KnowsAsked here past m
+pub asked_of : {heeds : Heeds} (here : Phase) (past : List Entry) (m : HostMachine) → Grounds heeds here past m → KnowsAsked here past m
 asked_of here past m g = g.sleep.0.0.0.1.1
 
 pub facts_of : {heeds : Heeds} (here : Phase) (past : List Entry) (m : HostMachine) → Grounds heeds here past m → HostFacts m.state

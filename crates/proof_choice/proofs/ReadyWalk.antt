@@ -24,7 +24,7 @@ use Rattle.host_model.specs.After.{after}
 use Rattle.host_model.specs.Did.{after_all}
 use Rattle.host_model.specs.Events.{HostEvent, Accepts, Cancels, Hears}
 use Rattle.host_model.specs.Outs.{answers}
-use Rattle.world_model.specs.Events.{OpensFrom, shown_values}
+use Rattle.proof_queue.specs.proof_attempts.proof_requests.proof_alone.world_model.Events.{OpensFrom, shown_values}
 use Rattle.proof_queue.specs.proof_attempts.proof_requests.law_host.Heard.{heeds_alone}
 use Rattle.proof_queue.specs.proof_attempts.proof_requests.proof_alone.State.{HostMachine, done}
 use Rattle.proof_queue.specs.proof_attempts.proof_requests.proof_alone.Steps.{IsAskedBy, Step, Tells, Comes, Misses, Says, Says_nothing, Asks, Refuses, Shows, Restarts, Begins_tick, Numbers, Judges, Does, entries, happens}
@@ -36,7 +36,7 @@ use Rattle.proof_queue.specs.proof_attempts.Since.{BeforeWords, IsElse, IsLoose,
 use Rattle.proof_queue.proofs.Lasting.{as_known, between_else, by_else, leads_to, missed_loose, numbered_else, of_rest, others_loose, rest_of}
 use Rattle.proof_queue.proofs.Queued.{PayloadsBring}
 use Rattle.proof_queue.specs.Heeding.{AllSteps, HeedsAs}
-use Rattle.proof_giving.specs.Stays.{ShowsSessions}
+use Rattle.proof_giving.specs.Walking.{Grounds}
 use Rattle.proof_giving.specs.Told.{GoesAlong, LeavesAttempts, attempts_so_far}
 use Rattle.proof_giving.proofs.Told.{attempts_in_vain, attempts_left, attempts_said}
 use Rattle.proof_choice.specs.Ready.{ReadySo}
@@ -68,9 +68,10 @@ module _ (grows : GrowsAlong) (brings : PayloadsBring) (taken : List Entry → C
   abbrev so_far : ℕ → List Entry → Attempts
   so_far n past = attempts_so_far heeds n past
 
-  -- where a frame is acknowledged the transcript shows the sessions of each node
+  -- what is known where a frame was just acknowledged
   abbrev pub ShowsAcked : List Entry → HostMachine → Step → Type 0
-  ShowsAcked past m (Judges (Good (Framed f)) rest behind told) = (n : ℕ) → ShowsSessions heeds (past ++ entry.Written Host (unit_text Ack) ∷ []) (after m.state (Hears (Good (Framed f)))) n
+  ShowsAcked past m (Judges (Good (Framed f)) rest behind told) =
+      Grounds heeds (Behind behind) (past ++ entry.Written Host (unit_text Ack) ∷ []) (happens m (Judges (Good (Framed f)) rest behind (entry.Written Host (unit_text Ack) ∷ [])))
   ShowsAcked past m one = Unit {0}
 
   -- a frame is judged, and the host starts
@@ -226,7 +227,7 @@ module _ (grows : GrowsAlong) (brings : PayloadsBring) (taken : List Entry → C
     turn_goes Submitting next past m is known = leads_to (ReadyAsTold heeds) next Resting past m tt is.1 known
 
     module _ (start : HostMachine) (first : ReadyAsTold heeds Resting [] start.state start.clock)
-        (shows : (here : Phase) (told : List Entry) (m : HostMachine) → Run start here told m → (n : ℕ) → ShowsSessions heeds told m.state n) where
+        (shows : (here : Phase) (told : List Entry) (m : HostMachine) → Run start here told m → Grounds heeds here told m) where
       -- the run that has just acknowledged it
       acked : (here next : Phase) (past : List Entry) (m : HostMachine) (one : Step) → May here m one next → Run start here past m → ShowsAcked past m one
       acked here next past m (Judges (Good (Framed f)) rest behind told) may run =

@@ -53,7 +53,7 @@ use Rattle.host_model.specs.Restoring.{ending, restored}
 use Rattle.host_model.specs.declared.out.HostOut.TheVariants.{Note, Write}
 use Rattle.host_model.proofs.Submitted.{next_is}
 use Rattle.proof_rests.specs.proof_nonces.proof_work.proof_walk.ByLine.{IsAsked}
-use Rattle.world_model.specs.Events.{OpensFrom}
+use Rattle.proof_queue.specs.proof_attempts.proof_requests.proof_alone.world_model.Events.{OpensFrom}
 use Rattle.proof_queue.specs.proof_attempts.proof_requests.law_host.Heard.{heeds_alone}
 use Rattle.proof_queue.specs.proof_attempts.proof_requests.Asking.{doing_of}
 use Rattle.proof_queue.specs.proof_attempts.proof_requests.Walking.{Ground as RequestsGround, IsRead, IsTied, ReadsAs}

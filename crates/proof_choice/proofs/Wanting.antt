@@ -68,6 +68,13 @@ module _ (start : HostMachine) (heeds : Heeds) where
   counted here told m counts = tt
 
   module _ (counts : CountsAt) where
+    pub tied_along : {here : Phase} {told : List Entry} {m : HostMachine} → (run : Run start here told m) → Careful run → AllSteps (HeedsSo heeds) run → AllSteps (HeedsAs heeds) run
+        → AllAlong (KnowsAttempts heeds) run
+    tied_along Begins careful sure as_told = counts Resting [] start Begins careful sure as_told
+    tied_along {here = next} {told = told} {m = m} (Turned turns run) careful sure as_told = (tied_along run careful.0 sure as_told, counts next told m (Turned turns run) careful sure as_told)
+    tied_along {here = next} {told = all} {m = later} (Stepped step may all_is later_is run) careful sure as_told =
+        (tied_along run careful.0 sure.0 as_told.0, counts next all later (Stepped step may all_is later_is run) careful sure as_told)
+
     pub attempts_along : {here : Phase} {told : List Entry} {m : HostMachine} → (run : Run start here told m) → Careful run → AllSteps (HeedsSo heeds) run → AllSteps (HeedsAs heeds) run
         → AllAlong (KnowsCounts heeds) run
     attempts_along Begins careful sure as_told = counted Resting [] start (counts Resting [] start Begins careful sure as_told)

@@ -13,14 +13,15 @@ ghost use Rattle.proof_queue.specs.proof_attempts.proof_requests.proof_alone.Pha
 ghost use Rattle.proof_queue.specs.proof_attempts.proof_requests.proof_alone.Runs.{Run, both_know};
 ghost use Rattle.proof_queue.specs.proof_attempts.proof_requests.proof_alone.Careful.{Careful};
 ghost use Rattle.proof_queue.specs.Heeding.{AllSteps, HeedsAs, HeedsSo};
-ghost use Rattle.proof_choice.specs.Counting.{KnowsReady};
 ghost use Rattle.proof_choice.specs.Turning.{AllAlong, KnowsAll};
 ghost use Rattle.proof_choice.specs.Waits.{AskingGround};
 
 use crate::known::{hosts_block_as_told, hosts_give_as_carried};
+use host_keep::texts_give_one_thing;
 use host_model::attempts_have_what_they_give;
 use proof_giving::{
-    attempts_grow_by_entries, attempts_leave_none_to_give_up, hosts_count_attempts,
+    attempts_grow_by_entries, attempts_leave_none_to_give_up, attempts_stay_with_the_request,
+    hosts_count_attempts,
 };
 use proof_queue::hosts_queue_as_told;
 use proof_rests::attempts::requests::hosts_ask_as_told;
@@ -34,13 +35,12 @@ use proof_rests::notes::known::{
     hosts_keep_what_is_said, hosts_know_what_nodes_list, hosts_know_what_was_told,
 };
 
-/// In any careful run of a host alone, over a keeper that tells its records and has none at first, by messages that are heeded as the host took them, along
-/// which a message is ready to be sealed by the transcript as in the host: where it submits, and where it rests, all that it goes by is as its transcript
-/// tells.
+/// In any careful run of a host alone, over a keeper that tells its records and has none at first, by messages that are heeded as the host took them: where
+/// it submits, and where it rests, all that it goes by is as its transcript tells.
 pub fn hosts_know_what_they_choose()
     ensures { (keys : Keys) (taken : List Entry → Carried → List Told) (here : Phase) (told : List Entry) (m : HostMachine) →
         (run : Run (first_alone keys (Some [])) here told m) → Careful run → AllSteps (HeedsSo (heeds_alone taken)) run →
-        AllSteps (HeedsAs (heeds_alone taken)) run → AllAlong (KnowsReady (heeds_alone taken)) run →
+        AllSteps (HeedsAs (heeds_alone taken)) run →
         AllAlong (both_know (AskingGround (heeds_alone taken)) (KnowsAll (heeds_alone taken))) run }
 {
     hosts_queue_as_told();
@@ -48,6 +48,9 @@ pub fn hosts_know_what_they_choose()
     hosts_give_as_carried();
     attempts_leave_none_to_give_up();
     hosts_count_attempts();
+    attempts_grow_by_entries();
+    attempts_stay_with_the_request();
+    texts_give_one_thing();
     attempts_have_what_they_give();
     hosts_ask_as_told();
     hosts_tell_of_sleep();
@@ -64,7 +67,7 @@ pub fn hosts_know_what_they_choose()
 pub fn hosts_send_in_turn()
     ensures { (keys : Keys) (taken : List Entry → Carried → List Told) (here : Phase) (told : List Entry) (m : HostMachine) →
         (run : Run (first_alone keys (Some [])) here told m) → Careful run → AllSteps (HeedsSo (heeds_alone taken)) run →
-        AllSteps (HeedsAs (heeds_alone taken)) run → AllAlong (KnowsReady (heeds_alone taken)) run →
+        AllSteps (HeedsAs (heeds_alone taken)) run →
         SendsInTurn (heeds_alone taken) told }
 {
     hosts_know_what_they_choose();
@@ -79,11 +82,11 @@ pub fn hosts_send_in_turn()
 pub fn hosts_rest_well()
     ensures told { (keys : Keys) (taken : List Entry → Carried → List Told) (here : Phase) (told : List Entry) (m : HostMachine) →
         (run : Run (first_alone keys (Some [])) here told m) → Careful run → AllSteps (HeedsSo (heeds_alone taken)) run →
-        AllSteps (HeedsAs (heeds_alone taken)) run → AllAlong (KnowsReady (heeds_alone taken)) run →
+        AllSteps (HeedsAs (heeds_alone taken)) run →
         RestsWell false (heeds_alone taken) told }
     ensures whole { (keys : Keys) (taken : List Entry → Carried → List Told) (told : List Entry) (m : HostMachine) →
         (run : Run (first_alone keys (Some [])) Resting told m) → m.left ≡ 0 → Careful run → AllSteps (HeedsSo (heeds_alone taken)) run →
-        AllSteps (HeedsAs (heeds_alone taken)) run → AllAlong (KnowsReady (heeds_alone taken)) run →
+        AllSteps (HeedsAs (heeds_alone taken)) run →
         RestsWell true (heeds_alone taken) told }
 {
     hosts_know_what_they_choose();

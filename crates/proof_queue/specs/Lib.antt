@@ -4,3 +4,4 @@ pub mod Turn
 pub mod Sleeping
 pub use Rattle.proof_attempts.specs as proof_attempts
 pub use Rattle.proof_sending.specs as proof_sending
+pub use Rattle.proof_world.specs as proof_world

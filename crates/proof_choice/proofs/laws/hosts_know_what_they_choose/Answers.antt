@@ -20,7 +20,7 @@ use Rattle.proof_queue.proofs.Lasting.{since_walk}
 use Rattle.proof_queue.proofs.Queued.{PayloadsBring}
 use Rattle.proof_queue.proofs.Running.{run_keeps}
 use Rattle.proof_rests.specs.proof_nonces.proof_known.Known.{KnowsTold, KnowsWhole}
-use Rattle.proof_queue.specs.Heeding.{AllSteps, HeedsSo}
+use Rattle.proof_queue.specs.Heeding.{AllSteps, HeedsAs, HeedsSo}
 use Rattle.proof_queue.proofs.Seeing.{Sights, sights_along}
 use Rattle.proof_queue.proofs.Segments.{Shows}
 use Rattle.proof_choice.specs.Counting.{KnowsCounts, KnowsReady}
@@ -30,7 +30,12 @@ use Rattle.proof_choice.specs.Waits.{AskingGround, KnowsWants}
 use Rattle.proof_choice.proofs.Along.{both_along, every_along, law_along, so_along, walks_along}
 use Rattle.proof_choice.proofs.Owners.{OwnLaw, owners_walk}
 use Rattle.proof_choice.proofs.ServedTie.{first_served, served_lasts}
-use Rattle.proof_choice.proofs.Wanting.{attempts_along, wants_along}
+use Rattle.proof_choice.proofs.Wanting.{attempts_along, tied_along, wants_along}
+use Rattle.proof_choice.proofs.ReadyAlong.{first_ready, judges_ready, known_ready}
+use Rattle.proof_choice.proofs.ReadyStarts.{starts_ready}
+use Rattle.proof_choice.proofs.ReadyWalk.{readies_along}
+use Rattle.proof_choice.specs.Readying.{ReadyAsTold, ReadyGround}
+use Rattle.proof_giving.specs.Walking.{Grounds as Known, KnowsAttempts}
 use Rattle.proof_choice.proofs.Whole.{Grounds, knows_all}
 use Rattle.proof_choice.proofs.laws.hosts_know_what_they_choose.Goals as goal
 
@@ -94,8 +99,24 @@ module _ (c : goal.After-hosts_show_open_sessions) (keys : Keys) where
         (both_along start Grounds More run (every_along start Grounds grounds run)
         (both_along start (both_know (KnowsCounts heeds) (KnowsReady heeds)) (KnowsSince (ServedAsTold heeds)) run (both_along start (KnowsCounts heeds) (KnowsReady heeds) run counts ready) (served run asks)))
 
+    -- messages that are ready
+    readies : {here : Phase} {told : List Entry} {m : HostMachine} → (run : Run start here told m) → Careful run → AllSteps (HeedsSo heeds) run → AllSteps (HeedsAs heeds) run → AllAlong (KnowsReady heeds) run
+    readies run careful sure as_told =
+        let grows = c.attempts_grow_by_entries.ensures.along in
+        let stays = c.attempts_stay_with_the_request.ensures in
+        let grounds_so = c.hosts_count_attempts.ensures.grounds keys taken in
+        let ground : AllAlong (ReadyGround heeds) run
+        = both_along start (both_know (Known heeds) (KnowsAttempts heeds)) (KnowsWants heeds) run
+        (both_along start (Known heeds) (KnowsAttempts heeds) run (every_along start (Known heeds) grounds_so run)
+        (tied_along start heeds (c.hosts_count_attempts.ensures.known keys taken) run careful sure as_told))
+        (wants_along start taken (c.hosts_queue_as_told.ensures.submits keys taken) (c.hosts_queue_as_told.ensures.rests keys taken) run careful sure) in
+        so_along start (KnowsSince (ReadyAsTold heeds)) (KnowsReady heeds) (known_ready heeds) run
+        (readies_along grows brings taken (judges_ready stays.inner stays.keeps grows brings taken) (starts_ready c.texts_give_one_thing.ensures.one grows brings taken) start (first_ready heeds keys) grounds_so run
+        as_told ground)
+
 pub returns : goal.returns
-returns c = λ keys taken here told m run careful sure as_told ready.
+returns c = λ keys taken here told m run careful sure as_told.
     let asks = asking c keys taken run careful sure in
     both_along (first_alone keys (Some [])) (AskingGround (heeds_alone taken)) (KnowsAll (heeds_alone taken)) run asks
-    (all c keys taken run asks (attempts_along (first_alone keys (Some [])) (heeds_alone taken) (c.hosts_count_attempts.ensures.known keys taken) run careful sure as_told) ready)
+    (all c keys taken run asks (attempts_along (first_alone keys (Some [])) (heeds_alone taken) (c.hosts_count_attempts.ensures.known keys taken) run careful sure as_told)
+    (readies c keys taken run careful sure as_told))

@@ -19,7 +19,6 @@ use Rattle.proof_queue.specs.Heeding.{AllSteps, HeedsAs, HeedsSo}
 use Rattle.proof_rests.specs.Known.{KnowsAll as KnowsDone, WasSo}
 use Rattle.proof_rests.specs.Undone.{may_begin}
 use Rattle.proof_rests.proofs.AtRests.{before_line, rests_walk}
-use Rattle.proof_choice.specs.Counting.{KnowsReady}
 use Rattle.proof_choice.specs.Resting.{RestingGround, rests_with_none}
 use Rattle.proof_choice.specs.Turning.{AllAlong, KnowsAll}
 use Rattle.proof_choice.specs.Waits.{AskingGround}
@@ -37,12 +36,11 @@ module _ (c : goal.After-hosts_leave_nothing) (keys : Keys) (taken : List Entry 
   abbrev Known : Knowledge
   Known = both_know (AskingGround heeds) (KnowsAll heeds)
 
-  module _ (here : Phase) (told : List Entry) (m : HostMachine) (run : Run start here told m) (careful : Careful run) (sure : AllSteps (HeedsSo heeds) run) (as_told : AllSteps (HeedsAs heeds) run)
-      (ready : AllAlong (KnowsReady heeds) run) where
+  module _ (here : Phase) (told : List Entry) (m : HostMachine) (run : Run start here told m) (careful : Careful run) (sure : AllSteps (HeedsSo heeds) run) (as_told : AllSteps (HeedsAs heeds) run) where
     ground : AllAlong (RestingGround heeds) run
     ground =
         so_along start (both_know KnowsDone Known) (RestingGround heeds) (λ here told m all. (all.0, (all.1.0.1, all.1.1))) run
-        (both_along start KnowsDone Known run (every_along start KnowsDone (c.hosts_leave_nothing.ensures.known keys) run) (c.hosts_know_what_they_choose.ensures keys taken here told m run careful sure as_told ready))
+        (both_along start KnowsDone Known run (every_along start KnowsDone (c.hosts_leave_nothing.ensures.known keys) run) (c.hosts_know_what_they_choose.ensures keys taken here told m run careful sure as_told))
 
     holds_so : (past : List Entry) (m : HostMachine) → RestingGround heeds Resting past m → is_rest past m.clock ≡ true → rests_with_none heeds past m.clock ≡ true
     holds_so = let laws = c.attempts_grow_by_entries.ensures in holds laws.node laws.each laws.requests taken c.tasks_end_in_order.ensures.none
@@ -57,14 +55,14 @@ module _ (c : goal.After-hosts_leave_nothing) (keys : Keys) (taken : List Entry 
         (λ awaits. absurd (let bad : false ≡ true = awaits in cc)) run ground).0
 
 pub returns-clause-told : goal.returns-clause-told
-returns-clause-told c = λ keys taken here told m run careful sure as_told ready.
-    record { between = between c keys taken here told m run careful sure as_told ready; in_the_end = λ whole. absurd (let bad : false ≡ true = whole in cc) }
+returns-clause-told c = λ keys taken here told m run careful sure as_told.
+    record { between = between c keys taken here told m run careful sure as_told; in_the_end = λ whole. absurd (let bad : false ≡ true = whole in cc) }
 
 pub returns-clause-whole : goal.returns-clause-whole
-returns-clause-whole c = λ keys taken told m run left careful sure as_told ready. record {
-  between = between c keys taken Resting told m run careful sure as_told ready;
+returns-clause-whole c = λ keys taken told m run left careful sure as_told. record {
+  between = between c keys taken Resting told m run careful sure as_told;
   in_the_end = λ whole.
-      before_line (rests_with_none (heeds_alone taken)) (RestingGround (heeds_alone taken)) (clocks_so c keys taken Resting told m run careful sure as_told ready)
-      (holds_so c keys taken Resting told m run careful sure as_told ready) told [] m left
-      (known_last (first_alone keys (Some [])) (RestingGround (heeds_alone taken)) run (ground c keys taken Resting told m run careful sure as_told ready));
+      before_line (rests_with_none (heeds_alone taken)) (RestingGround (heeds_alone taken)) (clocks_so c keys taken Resting told m run careful sure as_told)
+      (holds_so c keys taken Resting told m run careful sure as_told) told [] m left
+      (known_last (first_alone keys (Some [])) (RestingGround (heeds_alone taken)) run (ground c keys taken Resting told m run careful sure as_told));
 }

@@ -19,11 +19,11 @@ brings : goal.After-attempts_grow_by_entries → PayloadsBring
 brings c = let laws = c.attempts_have_what_they_give.ensures in record { starts = laws.first_payload; segments = laws.segment_payload; texts = laws.text_payload }
 
 pub returns : goal.returns
-returns c = λ keys taken here told m run careful sure as_told ready.
+returns c = λ keys taken here told m run careful sure as_told.
     let start = first_alone keys (Some []) in
     let heeds = heeds_alone taken in
     let laws = c.attempts_grow_by_entries.ensures in
-    let known = c.hosts_know_what_they_choose.ensures keys taken here told m run careful sure as_told ready in
+    let known = c.hosts_know_what_they_choose.ensures keys taken here told m run careful sure as_told in
     let ground = both_along start KnowsWork (both_know (AskingGround heeds) (KnowsAll heeds)) run (every_along start KnowsWork (c.hosts_know_their_work.ensures keys) run) known in
     all_send laws.requests taken [] told (c.hosts_queue_as_told.ensures.goes keys taken here told m run careful sure)
     (law_along start (ChoosingGround heeds) (Allows (may_choose heeds)) (choosing_walk laws.node laws.each laws.requests taken (brings c)) run
