@@ -25,7 +25,7 @@ use proof_asking::known::{hosts_do_as_is_said, hosts_note_what_was_told};
 use proof_asking::requests::alone::traffic::hosts_obey_the_line;
 use proof_asking::requests::alone::{hosts_keep_their_tables, hosts_tell_time};
 use proof_asking::requests::{hosts_answer_questions, hosts_end_interviews};
-use proof_asking::{hosts_say_how_done, hosts_send_what_is_due};
+use proof_asking::{hosts_ask_one_by_one, hosts_say_how_done, hosts_send_what_is_due};
 use proof_ends::hosts_note_ends;
 use proof_ends::nonces::{hosts_count_nonces, hosts_seal_once};
 use proof_ends::notes::attempts::{hosts_fall_asleep_as_told, hosts_hold_as_asked};
@@ -65,6 +65,7 @@ pub fn hosts_keep_laws()
     hosts_note_ends();
     hosts_seal_once();
     hosts_count_nonces();
+    hosts_ask_one_by_one();
     hosts_are_prompt();
 }
 

@@ -6,6 +6,8 @@ use Rattle.zw_text.specs.declared.entry.Entry.{Entry}
 use Rattle.proof_asking.specs.proof_requests.proof_alone.State.{HostMachine, first_alone}
 use Rattle.proof_asking.specs.proof_requests.proof_alone.Phases.{Phase, Resting}
 use Rattle.proof_asking.specs.proof_requests.proof_alone.Runs.{Run, Told, ToldWhole}
+use Rattle.law_transcript.specs.Payloads.{BeginsWithUnit}
+use Rattle.law_wire.specs.Serial.{ended}
 use Rattle.proof_ends.specs.proof_notes.Full.{NotesInFull}
 use Rattle.proof_ends.specs.Ends.{NotesOfEnds}
 use Rattle.law_time.specs.Waking.{FallsAsleep}
@@ -43,7 +45,11 @@ returns c = λ keys whole here heard m careful rests fine link. let run : Run (f
   says_done = λ key same. c.hosts_say_how_done.ensures key heard (subst (λ (k : Keys). Told (first_alone k (Some [])) heard) same (here, m, run));
   ends =
       by_rest (λ (b : Bool) (l : List Entry). NotesOfEnds b l) (first_alone keys (Some [])) (c.hosts_note_ends.ensures.whole keys) (c.hosts_note_ends.ensures.told keys) whole here heard m run rests;
-  prompt = c.hosts_are_prompt.ensures keys whole here heard m careful rests fine;
+  prompt =
+      c.hosts_are_prompt.ensures keys whole here heard m careful rests fine (c.hosts_ask_one_by_one.ensures.told keys heard (here, m, run)).0
+      (c.hosts_ask_one_by_one.ensures.told keys heard (here, m, run)).1
+      (by_whole (λ (b : Bool) (l : List Entry). BeginsWithUnit (ended b l)) (first_alone keys (Some [])) (c.hosts_ask_one_by_one.ensures.whole keys)
+      (λ (l : List Entry) told. (c.hosts_ask_one_by_one.ensures.told keys l told).2) whole here heard m run rests);
   ticks = c.hosts_tell_time.ensures.counts keys (Some []) heard (here, m, run);
   sends = λ key same. c.hosts_send_what_is_due.ensures.told key heard (subst (λ (k : Keys). Told (first_alone k (Some [])) heard) same (here, m, run));
   seals_once = c.hosts_seal_once.ensures.told keys heard (here, m, run);
