@@ -5,3 +5,4 @@ pub mod Outward
 pub mod FirstAttempts
 pub mod Turns
 pub mod Workers
+pub use Rattle.proof_calm.specs as proof_calm

@@ -57,3 +57,4 @@ pub use Rattle.proof_requests.proofs.Interviews
 pub use Rattle.proof_requests.proofs.EndsLate
 pub use Rattle.proof_requests.proofs.EndsTold
 pub use Rattle.proof_requests.proofs.InOrder
+pub use Rattle.proof_requests.proofs.UnderWay

@@ -40,23 +40,23 @@ use Rattle.host_model.specs.Ticking.{ticking_nodes}
 use Rattle.host_model.specs.declared.out.HostOut.{HostOut}
 use Rattle.host_model.specs.declared.out.HostOut.TheVariants.{Note}
 use Rattle.host_model.proofs.Submitted.{SleepersAre, SubmittedAre, next_is, no_more_is}
-use Rattle.proof_rests.specs.proof_nonces.proof_work.proof_walk.ByLine.{IsAsked}
-use Rattle.proof_queue.proofs.HostOuts.{SharedAre, outs_are}
-use Rattle.proof_queue.specs.proof_attempts.proof_requests.proof_alone.State.{HostMachine}
-use Rattle.proof_queue.specs.proof_attempts.proof_requests.proof_alone.Steps.{AreTold}
-use Rattle.proof_queue.specs.proof_attempts.proof_requests.proof_alone.Phases.{Phase, Resting, Asked, Risen, Ticking, Open, Behind, Sleeping, Submitting, GoesBy, IsNumbered, Turns}
-use Rattle.proof_queue.specs.proof_attempts.proof_requests.proof_alone.Time.{TieClock}
-use Rattle.proof_queue.specs.proof_attempts.proof_requests.proof_waking.Judged.{IsOfRequest, KnowsJudged}
-use Rattle.proof_queue.specs.proof_attempts.Since.{InTick, IsLoose, IsOfItem, Lasts, TicksAt, is_to_tick, node_clock}
-use Rattle.proof_queue.proofs.proof_alone_Apart.{AreOfLine}
-use Rattle.proof_queue.proofs.proof_waking_Apart.{IsWordless, said_in_vain, said_on, wordless_more}
-use Rattle.proof_queue.proofs.Counting.{answers_wordless, each_starts, loose_wordless, told_wordless}
-use Rattle.proof_queue.proofs.Doings.{Doing, did, does_at, end_does, failing_does, held_does, node_after, part_does, purpose_does, task_does}
-use Rattle.proof_queue.proofs.Holding.{clock_now}
-use Rattle.proof_queue.proofs.InOrder.{is_asked}
-use Rattle.proof_queue.proofs.Lasting.{by_else, rest_of}
-use Rattle.proof_queue.proofs.Telling.{told_so}
-use Rattle.proof_queue.proofs.Ticking.{waits_tick}
+use Rattle.proof_ends.specs.proof_rests.proof_nonces.proof_work.proof_walk.ByLine.{IsAsked}
+use Rattle.proof_giving.proofs.HostOuts.{SharedAre, outs_are}
+use Rattle.proof_giving.specs.proof_queue.proof_attempts.proof_requests.proof_alone.State.{HostMachine}
+use Rattle.proof_giving.specs.proof_queue.proof_attempts.proof_requests.proof_alone.Steps.{AreTold}
+use Rattle.proof_giving.specs.proof_queue.proof_attempts.proof_requests.proof_alone.Phases.{Phase, Resting, Asked, Risen, Ticking, Open, Behind, Sleeping, Submitting, GoesBy, IsNumbered, Turns}
+use Rattle.proof_giving.specs.proof_queue.proof_attempts.proof_requests.proof_alone.Time.{TieClock}
+use Rattle.proof_giving.specs.proof_queue.proof_attempts.proof_requests.proof_waking.Judged.{IsOfRequest, KnowsJudged}
+use Rattle.proof_giving.specs.proof_queue.proof_attempts.Since.{InTick, IsLoose, IsOfItem, Lasts, TicksAt, is_to_tick, node_clock}
+use Rattle.proof_giving.proofs.proof_alone_Apart.{AreOfLine}
+use Rattle.proof_giving.proofs.proof_waking_Apart.{IsWordless, said_in_vain, said_on, wordless_more}
+use Rattle.proof_giving.proofs.Counting.{answers_wordless, each_starts, loose_wordless, told_wordless}
+use Rattle.proof_giving.proofs.Doings.{Doing, did, does_at, end_does, failing_does, held_does, node_after, part_does, purpose_does, task_does}
+use Rattle.proof_giving.proofs.Holding.{clock_now}
+use Rattle.proof_giving.proofs.InOrder.{is_asked}
+use Rattle.proof_giving.proofs.Lasting.{by_else, rest_of}
+use Rattle.proof_giving.proofs.Telling.{told_so}
+use Rattle.proof_giving.proofs.Ticking.{waits_tick}
 use Rattle.proof_choice.specs.Blocked.{BlockedSo, BlockingGround, BlocksAsTold}
 use Rattle.proof_choice.proofs.Failures.{IsKept, blocked_anew, blocked_begin, blocked_behind, blocked_later, blocked_more}
 

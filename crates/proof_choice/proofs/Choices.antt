@@ -24,10 +24,10 @@ use Rattle.host_model.specs.Events.{Begins}
 use Rattle.host_model.specs.Facts.{HostFacts}
 use Rattle.host_model.specs.May.{IsServed, May as MayHost}
 use Rattle.host_model.proofs.Pumps.{next_works}
-use Rattle.proof_queue.specs.proof_attempts.proof_requests.law_host.Heard.{heeds_alone}
-use Rattle.proof_queue.proofs.Queued.{served_is_node}
-use Rattle.proof_queue.proofs.Books.{last_is}
-use Rattle.proof_queue.proofs.Orders.{is_among}
+use Rattle.proof_giving.specs.proof_queue.proof_attempts.proof_requests.law_host.Heard.{heeds_alone}
+use Rattle.proof_giving.proofs.Queued.{served_is_node}
+use Rattle.proof_giving.proofs.Books.{last_is}
+use Rattle.proof_giving.proofs.proof_queue_Orders.{is_among}
 use Rattle.proof_giving.specs.Told.{attempts_so_far}
 use Rattle.proof_choice.specs.Choosing.{begins_well}
 use Rattle.proof_choice.specs.Nodes.{NodeKnown}

@@ -38,25 +38,25 @@ use Rattle.host_model.specs.Outs.{answer_to, answers, outs}
 use Rattle.host_model.specs.Pumping.{IsNext}
 use Rattle.host_model.specs.declared.out.HostOut.TheVariants.{Note, Write}
 use Rattle.host_model.proofs.Submitted.{SleepersAre, next_is, no_more_is}
-use Rattle.proof_queue.proofs.HostOuts.{SharedAre, outs_are}
-use Rattle.proof_queue.specs.proof_attempts.proof_requests.law_host.Heard.{heeds_alone}
-use Rattle.proof_queue.specs.proof_attempts.proof_requests.Asking.{doing_of}
-use Rattle.proof_queue.specs.proof_attempts.proof_requests.Walking.{Ground as RequestsGround, IsRead, IsTied, ReadsAs}
-use Rattle.proof_queue.specs.proof_attempts.proof_requests.proof_alone.State.{HostMachine}
-use Rattle.proof_queue.specs.proof_attempts.proof_requests.proof_alone.Steps.{AreTold, DidNotCome, IsOfOthers, IsOfUnit, Step, Tells, Comes, Misses, Says, Says_nothing, Asks, Refuses, Shows, Restarts, Begins_tick, Numbers, Judges, Does, entries}
-use Rattle.proof_queue.specs.proof_attempts.proof_requests.proof_alone.Phases.{Phase, Ticking, Behind, Sleeping, Submitting, IsNumbered, May}
-use Rattle.proof_queue.specs.proof_attempts.proof_requests.proof_alone.Runs.{WalkOver}
-use Rattle.proof_queue.specs.proof_attempts.Since.{InTick, IsOfItem, TicksAt}
-use Rattle.proof_queue.proofs.Lasting.{by_else, rest_of}
-use Rattle.proof_queue.proofs.Queued.{PayloadsBring, served_is_node}
-use Rattle.proof_queue.proofs.Stepping.{IsSubmission, event_is_read, submissions, time_told}
-use Rattle.proof_queue.proofs.Telling.{told_so}
-use Rattle.proof_queue.proofs.proof_attempts_Walking.{is_fresh, written_told}
-use Rattle.proof_queue.proofs.Wrote.{Wrote, writes}
-use Rattle.proof_queue.proofs.Wrote.Wrote.{Quietly, Again, Anew}
-use Rattle.proof_queue.proofs.proof_alone_Apart.{AreOfLine}
-use Rattle.proof_queue.proofs.proof_requests_Telling.{IsQuiet}
-use Rattle.proof_queue.specs.Waiting.{want_of_task}
+use Rattle.proof_giving.proofs.HostOuts.{SharedAre, outs_are}
+use Rattle.proof_giving.specs.proof_queue.proof_attempts.proof_requests.law_host.Heard.{heeds_alone}
+use Rattle.proof_giving.specs.proof_queue.proof_attempts.proof_requests.Asking.{doing_of}
+use Rattle.proof_giving.specs.proof_queue.proof_attempts.proof_requests.Walking.{Ground as RequestsGround, IsRead, IsTied, ReadsAs}
+use Rattle.proof_giving.specs.proof_queue.proof_attempts.proof_requests.proof_alone.State.{HostMachine}
+use Rattle.proof_giving.specs.proof_queue.proof_attempts.proof_requests.proof_alone.Steps.{AreTold, DidNotCome, IsOfOthers, IsOfUnit, Step, Tells, Comes, Misses, Says, Says_nothing, Asks, Refuses, Shows, Restarts, Begins_tick, Numbers, Judges, Does, entries}
+use Rattle.proof_giving.specs.proof_queue.proof_attempts.proof_requests.proof_alone.Phases.{Phase, Ticking, Behind, Sleeping, Submitting, IsNumbered, May}
+use Rattle.proof_giving.specs.proof_queue.proof_attempts.proof_requests.proof_alone.Runs.{WalkOver}
+use Rattle.proof_giving.specs.proof_queue.proof_attempts.Since.{InTick, IsOfItem, TicksAt}
+use Rattle.proof_giving.proofs.Lasting.{by_else, rest_of}
+use Rattle.proof_giving.proofs.Queued.{PayloadsBring, served_is_node}
+use Rattle.proof_giving.proofs.Stepping.{IsSubmission, event_is_read, submissions, time_told}
+use Rattle.proof_giving.proofs.Telling.{told_so}
+use Rattle.proof_giving.proofs.proof_attempts_Walking.{is_fresh, written_told}
+use Rattle.proof_giving.proofs.Wrote.{Wrote, writes}
+use Rattle.proof_giving.proofs.Wrote.Wrote.{Quietly, Again, Anew}
+use Rattle.proof_giving.proofs.proof_alone_Apart.{AreOfLine}
+use Rattle.proof_giving.proofs.proof_requests_Telling.{IsQuiet}
+use Rattle.proof_giving.specs.proof_queue.Waiting.{want_of_task}
 use Rattle.proof_giving.specs.Told.{attempts_so_far}
 use Rattle.proof_choice.specs.Choosing.{begins_well, may_choose}
 use Rattle.proof_choice.specs.Nodes.{NodeKnown}

@@ -13,8 +13,8 @@ use Rattle.law_time.specs.Judged.{after_step, is_following, last_of}
 use Rattle.law_time.specs.Moments.{clock}
 use Rattle.law_time.specs.Requests.{are_none}
 use Rattle.host_node.specs.State.{NodeState}
-use Rattle.proof_queue.proofs.Opening.{last_is}
-use Rattle.proof_queue.proofs.proof_waking_Apart.{said_anew}
+use Rattle.proof_giving.proofs.Opening.{last_is}
+use Rattle.proof_giving.proofs.proof_waking_Apart.{said_anew}
 use Rattle.proof_choice.specs.Blocked.{BlockedSo}
 
 shown_joined : (shows : List Entry → Entry → List ℕ) (start past told : List Entry) → shown_after shows start (past ++ told) ≡ shown_after shows start past ++ shown_after shows (start ++ past) told

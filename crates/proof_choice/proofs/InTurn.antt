@@ -16,9 +16,9 @@ use Rattle.law_time.specs.Heeds.{Heeds}
 use Rattle.law_time.specs.Moments.{Allows, clock}
 use Rattle.law_time.specs.Queue.{Requests, is_first, queue_before, requests, waits_before}
 use Rattle.law_time.specs.Requests.{Asked, are_none, asked, is_new}
-use Rattle.proof_queue.specs.proof_attempts.proof_requests.law_host.Heard.{heeds_alone}
-use Rattle.proof_queue.specs.Turn.{is_first_waiting, may_ask, may_go}
-use Rattle.proof_queue.proofs.Books.{last_is}
+use Rattle.proof_giving.specs.proof_queue.proof_attempts.proof_requests.law_host.Heard.{heeds_alone}
+use Rattle.proof_giving.specs.proof_queue.Turn.{is_first_waiting, may_ask, may_go}
+use Rattle.proof_giving.proofs.Books.{last_is}
 use Rattle.proof_choice.specs.Choosing.{may_choose}
 
 -- one that is new

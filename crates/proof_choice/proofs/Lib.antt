@@ -24,3 +24,5 @@ mod ReadyStarts
 mod Unended
 mod ReadyFrames
 mod ReadyAlong
+pub use Rattle.proof_ends.proofs.Times
+pub use Rattle.proof_ends.proofs.HostNotes

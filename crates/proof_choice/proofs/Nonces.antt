@@ -31,8 +31,8 @@ use Rattle.host_model.specs.Did.{after_all}
 use Rattle.host_model.specs.Events.{HostEvent, Starts, Gives_text, Unreads, Is_unkept, Reports_old, Works, Finishes, Offers, Gives, Spends, Spends_unread, Takes_nonce, Notifies, Resends, Hears_value, Has_no_room}
 use Rattle.host_model.specs.Taking.{AreTaken, FinalEvents, IsKeptOr, IsOpened, IsTaken, NonceGetEvents, NonceReportEvents, PayloadEvents, ReportEvents, SealedEvents, is_secure, named_by, resent, value_event, value_events, wanted_segment}
 use Rattle.law_time.specs.Attempts.{nonce_told}
-use Rattle.proof_queue.proofs.Doings.{Doing, did, does_all, node_after, nodes_are}
-use Rattle.proof_queue.specs.Heeding.{heeded_of, heeded_opened, heeded_payload, heeded_sealed, taken_up}
+use Rattle.proof_giving.proofs.Doings.{Doing, did, does_all, node_after, nodes_are}
+use Rattle.proof_giving.specs.proof_queue.Heeding.{heeded_of, heeded_opened, heeded_payload, heeded_sealed, taken_up}
 use Rattle.proof_choice.proofs.Staying.{LeavesTexts, Stays, all_stay, event_goes, stays_same, then_stays}
 
 -- ---- a sealed text

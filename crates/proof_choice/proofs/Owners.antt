@@ -27,15 +27,15 @@ use Rattle.host_model.proofs.Events.{session_owned}
 use Rattle.host_model.proofs.Tests.{open_command_is, unrefused_is, unrefused_so}
 use Rattle.proof_host.specs.Facts.{Facts}
 use Rattle.proof_host.specs.Tables.{nodes_by}
-use Rattle.proof_queue.proofs.HostNotes.{NoteOuts, all_outs_note}
-use Rattle.proof_rests.specs.proof_nonces.proof_work.proof_walk.Outside.{IsHostNote}
-use Rattle.proof_queue.specs.proof_attempts.proof_requests.proof_alone.State.{HostMachine}
-use Rattle.proof_queue.specs.proof_attempts.proof_requests.proof_alone.Steps.{AreTold, IsOfOthers, Step, Tells, Comes, Misses, Says, Says_nothing, Asks, Refuses, Shows, Restarts, Begins_tick, Numbers, Judges, Does, entries}
-use Rattle.proof_queue.specs.proof_attempts.proof_requests.proof_alone.Phases.{Phase, Asked, May}
-use Rattle.proof_queue.specs.proof_attempts.proof_requests.proof_alone.Runs.{WalkOver}
-use Rattle.proof_queue.proofs.proof_alone_Apart.{AreOfLine, missed_are, told_are}
-use Rattle.proof_rests.specs.proof_nonces.proof_known.Known.{KnowsTold}
-use Rattle.proof_queue.proofs.Orders.{is_among}
+use Rattle.proof_giving.proofs.HostNotes.{NoteOuts, all_outs_note}
+use Rattle.proof_ends.specs.proof_rests.proof_nonces.proof_work.proof_walk.Outside.{IsHostNote}
+use Rattle.proof_giving.specs.proof_queue.proof_attempts.proof_requests.proof_alone.State.{HostMachine}
+use Rattle.proof_giving.specs.proof_queue.proof_attempts.proof_requests.proof_alone.Steps.{AreTold, IsOfOthers, Step, Tells, Comes, Misses, Says, Says_nothing, Asks, Refuses, Shows, Restarts, Begins_tick, Numbers, Judges, Does, entries}
+use Rattle.proof_giving.specs.proof_queue.proof_attempts.proof_requests.proof_alone.Phases.{Phase, Asked, May}
+use Rattle.proof_giving.specs.proof_queue.proof_attempts.proof_requests.proof_alone.Runs.{WalkOver}
+use Rattle.proof_giving.proofs.proof_alone_Apart.{AreOfLine, missed_are, told_are}
+use Rattle.proof_ends.specs.proof_rests.proof_nonces.proof_known.Known.{KnowsTold}
+use Rattle.proof_giving.proofs.proof_queue_Orders.{is_among}
 use Rattle.proof_choice.proofs.Parts.{opened_of}
 
 -- ---- the lines before the last one

@@ -37,11 +37,11 @@ use Rattle.host_model.proofs.Events.{session_owned}
 use Rattle.host_model.proofs.Pumps.{found_is}
 use Rattle.host_model.proofs.Tests.{open_command_is}
 use Rattle.proof_host.specs.Tables.{taken_by}
-use Rattle.proof_rests.specs.proof_nonces.proof_work.Rests.{NodeRests}
-use Rattle.proof_queue.specs.proof_attempts.Attempts.{IsSign, is_over_by}
-use Rattle.proof_queue.specs.proof_attempts.proof_requests.law_host.Heard.{heeds_alone, listing_heard}
-use Rattle.proof_queue.proofs.AttemptsGo.{next_first, next_further, running_goes}
-use Rattle.proof_queue.proofs.Segments.{open_is_last, session_last}
+use Rattle.proof_ends.specs.proof_rests.proof_nonces.proof_work.Rests.{NodeRests}
+use Rattle.proof_giving.specs.proof_queue.proof_attempts.Attempts.{IsSign, is_over_by}
+use Rattle.proof_giving.specs.proof_queue.proof_attempts.proof_requests.law_host.Heard.{heeds_alone, listing_heard}
+use Rattle.proof_giving.proofs.AttemptsGo.{next_first, next_further, running_goes}
+use Rattle.proof_giving.proofs.proof_queue_Segments.{open_is_last, session_last}
 use Rattle.proof_giving.specs.Stays.{ShowsSessions}
 use Rattle.proof_giving.specs.Tie.{SentAs, is_badly_over}
 use Rattle.proof_giving.specs.Told.{attempts_so_far}

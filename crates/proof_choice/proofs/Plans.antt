@@ -26,11 +26,11 @@ use Rattle.host_model.specs.Sessions.{message_for, start_by}
 use Rattle.host_model.proofs.Events.{session_owned}
 use Rattle.proof_host.specs.Tables.{taken_by}
 use Rattle.proof_host.proofs.Commands.{taken_set}
-use Rattle.proof_queue.specs.proof_attempts.proof_requests.proof_alone.Phases.{Resting}
-use Rattle.proof_queue.specs.proof_attempts.Since.{Lasts}
-use Rattle.proof_queue.specs.proof_attempts.Waking.{KnowsWork}
-use Rattle.proof_queue.proofs.Counting.{each_starts}
-use Rattle.proof_queue.proofs.Doings.{did, node_after}
+use Rattle.proof_giving.specs.proof_queue.proof_attempts.proof_requests.proof_alone.Phases.{Resting}
+use Rattle.proof_giving.specs.proof_queue.proof_attempts.Since.{Lasts}
+use Rattle.proof_giving.specs.proof_queue.proof_attempts.Waking.{KnowsWork}
+use Rattle.proof_giving.proofs.Counting.{each_starts}
+use Rattle.proof_giving.proofs.Doings.{did, node_after}
 use Rattle.proof_giving.specs.Stays.{KeepsSessions, NoSession}
 use Rattle.proof_choice.specs.Plans.{GivesAs, PlanSo, PlansAreSo}
 use Rattle.proof_choice.proofs.Staying.{LeavesTexts, Stays, all_stay, due_not, event_goes, idle_not, no_some, none_of, stays_same}

@@ -5,7 +5,7 @@ use Rattle.host_node.specs.Facts.{NodeFacts, SeriesFacts}
 use Rattle.host_node.specs.declared.series.Series.{Series}
 use Rattle.host_node.specs.declared.series.Series.TheVariants.{Idle, Due, Running}
 use Rattle.host_node.specs.State.{NodeState}
-use Rattle.proof_queue.specs.proof_attempts.Attempts.{AreAttempts, begun_of}
+use Rattle.proof_giving.specs.proof_queue.proof_attempts.Attempts.{AreAttempts, begun_of}
 use Rattle.proof_choice.specs.Ready.{ReadySo}
 use Rattle.proof_choice.proofs.Staying.{Stays, no_some, none_of}
 

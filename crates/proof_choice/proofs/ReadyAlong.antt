@@ -28,16 +28,16 @@ use Rattle.host_model.specs.Did.{after_all}
 use Rattle.host_model.specs.Events.{HostEvent, Hears, Requests_do}
 use Rattle.host_model.specs.Taking.{told_if}
 use Rattle.host_model.specs.declared.out.HostOut.TheVariants.{Write}
-use Rattle.proof_queue.specs.proof_attempts.proof_requests.law_host.Heard.{heeds_alone}
-use Rattle.proof_queue.specs.proof_attempts.proof_requests.Asking.{TieAsked, doing_of}
-use Rattle.proof_queue.specs.proof_attempts.proof_requests.proof_alone.State.{HostMachine, done}
-use Rattle.proof_queue.specs.proof_attempts.proof_requests.proof_alone.Steps.{AreTold, IsOfUnit, Judges, happens}
-use Rattle.proof_queue.specs.proof_attempts.proof_requests.proof_alone.Phases.{Phase, Resting, Open, Behind, Submitting, IsJudgedNow}
-use Rattle.proof_queue.specs.proof_attempts.proof_requests.proof_waking.Judged.{TieFrames}
-use Rattle.proof_queue.specs.proof_attempts.Since.{KnowsSince}
-use Rattle.proof_queue.specs.Heeding.{HeedsAs}
-use Rattle.proof_queue.proofs.Queued.{PayloadsBring}
-use Rattle.proof_queue.proofs.Stepping.{time_told}
+use Rattle.proof_giving.specs.proof_queue.proof_attempts.proof_requests.law_host.Heard.{heeds_alone}
+use Rattle.proof_giving.specs.proof_queue.proof_attempts.proof_requests.Asking.{TieAsked, doing_of}
+use Rattle.proof_giving.specs.proof_queue.proof_attempts.proof_requests.proof_alone.State.{HostMachine, done}
+use Rattle.proof_giving.specs.proof_queue.proof_attempts.proof_requests.proof_alone.Steps.{AreTold, IsOfUnit, Judges, happens}
+use Rattle.proof_giving.specs.proof_queue.proof_attempts.proof_requests.proof_alone.Phases.{Phase, Resting, Open, Behind, Submitting, IsJudgedNow}
+use Rattle.proof_giving.specs.proof_queue.proof_attempts.proof_requests.proof_waking.Judged.{TieFrames}
+use Rattle.proof_giving.specs.proof_queue.proof_attempts.Since.{KnowsSince}
+use Rattle.proof_giving.specs.proof_queue.Heeding.{HeedsAs}
+use Rattle.proof_giving.proofs.Queued.{PayloadsBring}
+use Rattle.proof_giving.proofs.Stepping.{time_told}
 use Rattle.proof_giving.specs.Told.{LeavesAttempts, attempts_so_far}
 use Rattle.proof_giving.proofs.Asking.{mark_leaves}
 use Rattle.proof_giving.proofs.Told.{attempts_again, attempts_left}

@@ -50,16 +50,16 @@ use Rattle.host_node.specs.declared.attempt.Moment.TheVariants.{BetweenTicks}
 use Rattle.host_heard.specs.Telling.{heard_at}
 use Rattle.host_orders.specs.Wrapping.{form_of}
 use Rattle.host_model.specs.Facts.{HostFacts}
-use Rattle.proof_queue.specs.proof_attempts.proof_requests.law_host.Heard.{heeds_alone}
-use Rattle.proof_queue.specs.proof_attempts.proof_requests.Asking.{TieAsked, TieUnderWay, doing_of}
-use Rattle.proof_queue.specs.proof_attempts.proof_requests.Standing.{standing_of}
-use Rattle.proof_queue.specs.proof_attempts.proof_requests.proof_alone.Steps.{IsOfUnit}
-use Rattle.proof_queue.proofs.AttemptsGo.{running_not_over}
-use Rattle.proof_queue.specs.Heeding.{heeded_frame, heeded_notice, heeded_payload}
-use Rattle.proof_queue.specs.proof_attempts.proof_requests.proof_waking.Judged.{TieFrames}
-use Rattle.proof_queue.proofs.Books.{last_is}
-use Rattle.proof_queue.proofs.proof_requests_EndsHere.{frame_here}
-use Rattle.proof_queue.proofs.proof_requests_Telling.{acknowledged_more}
+use Rattle.proof_giving.specs.proof_queue.proof_attempts.proof_requests.law_host.Heard.{heeds_alone}
+use Rattle.proof_giving.specs.proof_queue.proof_attempts.proof_requests.Asking.{TieAsked, TieUnderWay, doing_of}
+use Rattle.proof_giving.specs.proof_queue.proof_attempts.proof_requests.Standing.{standing_of}
+use Rattle.proof_giving.specs.proof_queue.proof_attempts.proof_requests.proof_alone.Steps.{IsOfUnit}
+use Rattle.proof_giving.proofs.AttemptsGo.{running_not_over}
+use Rattle.proof_giving.specs.proof_queue.Heeding.{heeded_frame, heeded_notice, heeded_payload}
+use Rattle.proof_giving.specs.proof_queue.proof_attempts.proof_requests.proof_waking.Judged.{TieFrames}
+use Rattle.proof_giving.proofs.Books.{last_is}
+use Rattle.proof_giving.proofs.proof_requests_EndsHere.{frame_here}
+use Rattle.proof_giving.proofs.proof_requests_Telling.{acknowledged_more}
 use Rattle.proof_giving.specs.Stays.{KeepsSessions, ShowsSessions}
 use Rattle.proof_giving.specs.Tie.{AttemptsSo, IsSealing, has_text, is_badly_over}
 use Rattle.proof_giving.specs.Told.{LeavesAttempts, attempts_so_far}

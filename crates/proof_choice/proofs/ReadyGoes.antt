@@ -20,16 +20,16 @@ use Rattle.host_model.specs.State.{HostState, node_of}
 use Rattle.host_model.specs.After.{after}
 use Rattle.host_model.specs.Events.{HostEvent, Starts, Gives_text, Takes_nonce}
 use Rattle.host_model.specs.May.{May as MayHost}
-use Rattle.proof_queue.specs.proof_attempts.Attempts.{AreAttempts}
-use Rattle.proof_queue.specs.proof_attempts.proof_requests.law_host.Heard.{heeds_alone}
-use Rattle.proof_queue.proofs.Doings.{node_after}
-use Rattle.proof_queue.proofs.Wrote.{Wrote}
-use Rattle.proof_queue.proofs.Wrote.Wrote.{Quietly, Again, Anew}
-use Rattle.proof_queue.proofs.proof_requests_Telling.{IsQuiet}
-use Rattle.proof_queue.specs.proof_attempts.proof_requests.proof_alone.Steps.{AreTold}
-use Rattle.proof_queue.specs.proof_attempts.proof_requests.proof_alone.Phases.{Phase, Submitting}
+use Rattle.proof_giving.specs.proof_queue.proof_attempts.Attempts.{AreAttempts}
+use Rattle.proof_giving.specs.proof_queue.proof_attempts.proof_requests.law_host.Heard.{heeds_alone}
+use Rattle.proof_giving.proofs.Doings.{node_after}
+use Rattle.proof_giving.proofs.Wrote.{Wrote}
+use Rattle.proof_giving.proofs.Wrote.Wrote.{Quietly, Again, Anew}
+use Rattle.proof_giving.proofs.proof_requests_Telling.{IsQuiet}
+use Rattle.proof_giving.specs.proof_queue.proof_attempts.proof_requests.proof_alone.Steps.{AreTold}
+use Rattle.proof_giving.specs.proof_queue.proof_attempts.proof_requests.proof_alone.Phases.{Phase, Submitting}
 use Rattle.host_model.specs.Outs.{outs}
-use Rattle.proof_queue.proofs.Books.{last_is}
+use Rattle.proof_giving.proofs.Books.{last_is}
 use Rattle.proof_giving.specs.Tie.{NodeSo, anew_step}
 use Rattle.proof_giving.specs.Told.{GoesAlong, attempts_so_far}
 use Rattle.proof_giving.proofs.Told.{attempts_again}

@@ -15,8 +15,8 @@ use Rattle.host_model.specs.State.{HostState, node_of}
 use Rattle.host_model.specs.After.{after}
 use Rattle.host_model.specs.Did.{after_all}
 use Rattle.host_model.specs.Events.{HostEvent, Starts, Gives_text, Takes_nonce}
-use Rattle.proof_queue.proofs.Doings.{node_after}
-use Rattle.proof_queue.proofs.Kept.{IsFollower}
+use Rattle.proof_giving.proofs.Doings.{node_after}
+use Rattle.proof_giving.proofs.Kept.{IsFollower}
 use Rattle.proof_choice.specs.Ready.{ReadySo}
 use Rattle.proof_choice.proofs.Nonces.{NoncesSo, one_stays, places_stay}
 use Rattle.proof_choice.proofs.Readies.{stays_ready}

@@ -8,10 +8,10 @@ use Rattle.law_time.specs.Attempts.{Attempts}
 use Rattle.host_keep.specs.Kept.{Kept, kept_of, node_of as kept_of_node}
 use Rattle.host_keep.specs.Legal.{Give}
 use Rattle.host_model.specs.State.{HostState, node_of}
-use Rattle.proof_queue.specs.proof_world.Restarts.{AreHeld, IsHeld}
-use Rattle.proof_queue.specs.proof_attempts.proof_requests.law_host.Heard.{heeds_alone}
-use Rattle.proof_queue.proofs.Counting.{each_starts}
-use Rattle.proof_queue.proofs.Queued.{PayloadsBring}
+use Rattle.proof_giving.specs.proof_queue.proof_world.Restarts.{AreHeld, IsHeld}
+use Rattle.proof_giving.specs.proof_queue.proof_attempts.proof_requests.law_host.Heard.{heeds_alone}
+use Rattle.proof_giving.proofs.Counting.{each_starts}
+use Rattle.proof_giving.proofs.Queued.{PayloadsBring}
 use Rattle.proof_giving.specs.Told.{attempts_so_far}
 use Rattle.proof_giving.proofs.Told.{attempts_start}
 use Rattle.proof_choice.specs.Ready.{ReadySo}

@@ -39,22 +39,22 @@ use Rattle.host_model.specs.Outs.{outs}
 use Rattle.host_model.specs.Pumping.{IsNext}
 use Rattle.host_model.specs.declared.out.HostOut.TheVariants.{Note, Write}
 use Rattle.host_model.proofs.Submitted.{SleepersAre, next_is, no_more_is}
-use Rattle.proof_queue.specs.proof_attempts.proof_requests.law_host.Heard.{heeds_alone}
-use Rattle.proof_queue.specs.proof_attempts.proof_requests.Asking.{doing_of}
-use Rattle.proof_queue.specs.proof_attempts.proof_requests.Walking.{Ground as RequestsGround, IsRead, IsTied, KnowsAsked, ReadsAs}
-use Rattle.proof_queue.specs.proof_attempts.proof_requests.proof_alone.State.{HostMachine, done}
-use Rattle.proof_queue.specs.proof_attempts.proof_requests.proof_alone.Steps.{AreTold, IsOfUnit, Does}
-use Rattle.proof_queue.specs.proof_attempts.proof_requests.proof_alone.Phases.{Phase, Ticking, Behind, Sleeping, Submitting, IsNumbered, May}
-use Rattle.proof_queue.specs.proof_attempts.Attempts.{AreAttempts, begun_of}
-use Rattle.proof_queue.specs.proof_attempts.Since.{InTick, TicksAt}
-use Rattle.proof_queue.proofs.Doings.{node_after}
-use Rattle.proof_queue.proofs.Lasting.{by_else, rest_of}
-use Rattle.proof_queue.proofs.Queued.{PayloadsBring}
-use Rattle.proof_queue.proofs.Stepping.{IsSubmission, event_is_read, submissions, time_told}
-use Rattle.proof_queue.proofs.proof_attempts_Walking.{is_fresh, written_told}
-use Rattle.proof_queue.proofs.Wrote.{Wrote, writes}
-use Rattle.proof_queue.specs.Waiting.{want_of_task}
-use Rattle.proof_queue.proofs.Books.{last_is}
+use Rattle.proof_giving.specs.proof_queue.proof_attempts.proof_requests.law_host.Heard.{heeds_alone}
+use Rattle.proof_giving.specs.proof_queue.proof_attempts.proof_requests.Asking.{doing_of}
+use Rattle.proof_giving.specs.proof_queue.proof_attempts.proof_requests.Walking.{Ground as RequestsGround, IsRead, IsTied, KnowsAsked, ReadsAs}
+use Rattle.proof_giving.specs.proof_queue.proof_attempts.proof_requests.proof_alone.State.{HostMachine, done}
+use Rattle.proof_giving.specs.proof_queue.proof_attempts.proof_requests.proof_alone.Steps.{AreTold, IsOfUnit, Does}
+use Rattle.proof_giving.specs.proof_queue.proof_attempts.proof_requests.proof_alone.Phases.{Phase, Ticking, Behind, Sleeping, Submitting, IsNumbered, May}
+use Rattle.proof_giving.specs.proof_queue.proof_attempts.Attempts.{AreAttempts, begun_of}
+use Rattle.proof_giving.specs.proof_queue.proof_attempts.Since.{InTick, TicksAt}
+use Rattle.proof_giving.proofs.Doings.{node_after}
+use Rattle.proof_giving.proofs.Lasting.{by_else, rest_of}
+use Rattle.proof_giving.proofs.Queued.{PayloadsBring}
+use Rattle.proof_giving.proofs.Stepping.{IsSubmission, event_is_read, submissions, time_told}
+use Rattle.proof_giving.proofs.proof_attempts_Walking.{is_fresh, written_told}
+use Rattle.proof_giving.proofs.Wrote.{Wrote, writes}
+use Rattle.proof_giving.specs.proof_queue.Waiting.{want_of_task}
+use Rattle.proof_giving.proofs.Books.{last_is}
 use Rattle.proof_giving.specs.Tie.{AttemptsSo, NodeSo, WantsFit, is_badly_over, is_for, signed}
 use Rattle.proof_giving.specs.Told.{LeavesAttempts, attempts_so_far}
 use Rattle.proof_giving.specs.Walking.{EndsAsTold, Grounds, KnowsAttempts, gives_sign}

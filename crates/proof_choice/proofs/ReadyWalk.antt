@@ -24,18 +24,18 @@ use Rattle.host_model.specs.After.{after}
 use Rattle.host_model.specs.Did.{after_all}
 use Rattle.host_model.specs.Events.{HostEvent, Accepts, Cancels, Hears}
 use Rattle.host_model.specs.Outs.{answers}
-use Rattle.proof_queue.specs.proof_attempts.proof_requests.proof_alone.world_model.Events.{OpensFrom, shown_values}
-use Rattle.proof_queue.specs.proof_attempts.proof_requests.law_host.Heard.{heeds_alone}
-use Rattle.proof_queue.specs.proof_attempts.proof_requests.proof_alone.State.{HostMachine, done}
-use Rattle.proof_queue.specs.proof_attempts.proof_requests.proof_alone.Steps.{IsAskedBy, Step, Tells, Comes, Misses, Says, Says_nothing, Asks, Refuses, Shows, Restarts, Begins_tick, Numbers, Judges, Does, entries, happens}
-use Rattle.proof_queue.specs.proof_attempts.proof_requests.proof_alone.Phases.{Phase, Resting, Asked, Risen, Ticking, Open, Behind, Sleeping, Submitting, IsJudgedNow, May, Turns}
-use Rattle.proof_queue.specs.proof_attempts.proof_requests.proof_alone.Runs.{Run}
-use Rattle.proof_queue.specs.proof_attempts.proof_requests.proof_alone.Runs.Run.{Begins, Turned, Stepped}
-use Rattle.proof_queue.proofs.proof_waking_Judging.{nothing_on}
-use Rattle.proof_queue.specs.proof_attempts.Since.{BeforeWords, IsElse, IsLoose, KnowsSince}
-use Rattle.proof_queue.proofs.Lasting.{as_known, between_else, by_else, leads_to, missed_loose, numbered_else, of_rest, others_loose, rest_of}
-use Rattle.proof_queue.proofs.Queued.{PayloadsBring}
-use Rattle.proof_queue.specs.Heeding.{AllSteps, HeedsAs}
+use Rattle.proof_giving.specs.proof_queue.proof_attempts.proof_requests.proof_alone.world_model.Events.{OpensFrom, shown_values}
+use Rattle.proof_giving.specs.proof_queue.proof_attempts.proof_requests.law_host.Heard.{heeds_alone}
+use Rattle.proof_giving.specs.proof_queue.proof_attempts.proof_requests.proof_alone.State.{HostMachine, done}
+use Rattle.proof_giving.specs.proof_queue.proof_attempts.proof_requests.proof_alone.Steps.{IsAskedBy, Step, Tells, Comes, Misses, Says, Says_nothing, Asks, Refuses, Shows, Restarts, Begins_tick, Numbers, Judges, Does, entries, happens}
+use Rattle.proof_giving.specs.proof_queue.proof_attempts.proof_requests.proof_alone.Phases.{Phase, Resting, Asked, Risen, Ticking, Open, Behind, Sleeping, Submitting, IsJudgedNow, May, Turns}
+use Rattle.proof_giving.specs.proof_queue.proof_attempts.proof_requests.proof_alone.Runs.{Run}
+use Rattle.proof_giving.specs.proof_queue.proof_attempts.proof_requests.proof_alone.Runs.Run.{Begins, Turned, Stepped}
+use Rattle.proof_giving.proofs.proof_waking_Judging.{nothing_on}
+use Rattle.proof_giving.specs.proof_queue.proof_attempts.Since.{BeforeWords, IsElse, IsLoose, KnowsSince}
+use Rattle.proof_giving.proofs.Lasting.{as_known, between_else, by_else, leads_to, missed_loose, numbered_else, of_rest, others_loose, rest_of}
+use Rattle.proof_giving.proofs.Queued.{PayloadsBring}
+use Rattle.proof_giving.specs.proof_queue.Heeding.{AllSteps, HeedsAs}
 use Rattle.proof_giving.specs.Walking.{Grounds}
 use Rattle.proof_giving.specs.Told.{GoesAlong, LeavesAttempts, attempts_so_far}
 use Rattle.proof_giving.proofs.Told.{attempts_in_vain, attempts_left, attempts_said}

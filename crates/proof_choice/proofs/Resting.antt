@@ -18,17 +18,17 @@ use Rattle.law_time.specs.Queue.{requests, with_due}
 use Rattle.law_time.specs.Requests.{Asked, are_none, asked}
 use Rattle.law_time.specs.Rests.{has_come, is_rest, may_rest, none_overdue, none_waits, owes_nothing}
 use Rattle.host_model.specs.Facts.{HostFacts}
-use Rattle.proof_rests.specs.proof_nonces.proof_work.Rests.{Rests}
-use Rattle.proof_queue.specs.proof_attempts.proof_requests.law_host.Heard.{heeds_alone}
-use Rattle.proof_queue.specs.proof_attempts.proof_requests.proof_alone.State.{HostMachine}
-use Rattle.proof_queue.specs.proof_attempts.proof_requests.proof_alone.Phases.{Resting}
-use Rattle.proof_queue.specs.proof_attempts.proof_requests.proof_alone.Time.{TieClock}
-use Rattle.proof_queue.proofs.Books.{last_is}
-use Rattle.proof_queue.specs.Waiting.{queue_of, want_of_task}
+use Rattle.proof_ends.specs.proof_rests.proof_nonces.proof_work.Rests.{Rests}
+use Rattle.proof_giving.specs.proof_queue.proof_attempts.proof_requests.law_host.Heard.{heeds_alone}
+use Rattle.proof_giving.specs.proof_queue.proof_attempts.proof_requests.proof_alone.State.{HostMachine}
+use Rattle.proof_giving.specs.proof_queue.proof_attempts.proof_requests.proof_alone.Phases.{Resting}
+use Rattle.proof_giving.specs.proof_queue.proof_attempts.proof_requests.proof_alone.Time.{TieClock}
+use Rattle.proof_giving.proofs.Books.{last_is}
+use Rattle.proof_giving.specs.proof_queue.Waiting.{queue_of, want_of_task}
 use Rattle.proof_giving.specs.Told.{attempts_so_far}
-use Rattle.proof_rests.specs.Undone.{is_done, may_begin}
-use Rattle.proof_rests.proofs.Done.{TasksNone, done_at_rest}
-use Rattle.proof_rests.proofs.Freeing.{frees}
+use Rattle.proof_ends.specs.proof_rests.Undone.{is_done, may_begin}
+use Rattle.proof_ends.proofs.Done.{TasksNone, done_at_rest}
+use Rattle.proof_ends.proofs.Freeing.{frees}
 use Rattle.proof_choice.specs.Resting.{RestingGround, leaves_none, rests_with_none}
 use Rattle.proof_choice.specs.Turning.{AllKnown, IsInRange}
 use Rattle.proof_choice.proofs.Choices.{serving_is}

@@ -15,10 +15,10 @@ use Rattle.law_time.specs.Attempts.{Serving, no_attempts, served_step, serving, 
 use Rattle.law_time.specs.Heeds.{Heeds}
 use Rattle.law_time.specs.Queue.{Requests, no_requests, queue_before, requests, requests_after, requests_from}
 use Rattle.law_time.specs.Requests.{Asked, are_none, asked, is_new}
-use Rattle.proof_queue.specs.proof_attempts.Series.{IsOfNoLine}
-use Rattle.proof_queue.specs.proof_attempts.proof_requests.law_host.Heard.{heeds_alone}
-use Rattle.proof_queue.proofs.Ahead.{ahead_from, ahead_joined}
-use Rattle.proof_queue.proofs.Books.{last_is, same_step}
+use Rattle.proof_giving.specs.proof_queue.proof_attempts.Series.{IsOfNoLine}
+use Rattle.proof_giving.specs.proof_queue.proof_attempts.proof_requests.law_host.Heard.{heeds_alone}
+use Rattle.proof_giving.proofs.Ahead.{ahead_from, ahead_joined}
+use Rattle.proof_giving.proofs.Books.{last_is, same_step}
 use Rattle.proof_choice.specs.Served.{served_from, served_so_far}
 
 served_of : (heeds : Heeds) (past : List Entry) (s : Serving) (told : List Entry) → (serving_from heeds past s told).served ≡ served_from heeds past s.requests s.served told

@@ -52,24 +52,24 @@ use Rattle.host_model.specs.Pumping.{IsNext}
 use Rattle.host_model.specs.Restoring.{ending, restored}
 use Rattle.host_model.specs.declared.out.HostOut.TheVariants.{Note, Write}
 use Rattle.host_model.proofs.Submitted.{next_is}
-use Rattle.proof_rests.specs.proof_nonces.proof_work.proof_walk.ByLine.{IsAsked}
-use Rattle.proof_queue.specs.proof_attempts.proof_requests.proof_alone.world_model.Events.{OpensFrom}
-use Rattle.proof_queue.specs.proof_attempts.proof_requests.law_host.Heard.{heeds_alone}
-use Rattle.proof_queue.specs.proof_attempts.proof_requests.Asking.{doing_of}
-use Rattle.proof_queue.specs.proof_attempts.proof_requests.Walking.{Ground as RequestsGround, IsRead, IsTied, ReadsAs}
-use Rattle.proof_queue.specs.proof_attempts.proof_requests.proof_alone.State.{HostMachine}
-use Rattle.proof_queue.specs.proof_attempts.proof_requests.proof_alone.Steps.{AreTold, Does, IsOfUnit}
-use Rattle.proof_queue.specs.proof_attempts.proof_requests.proof_alone.Phases.{Phase, Resting, Submitting, IsNumbered, May}
-use Rattle.proof_queue.specs.proof_attempts.Since.{IsLoose, Lasts}
-use Rattle.proof_queue.proofs.InOrder.{is_asked}
-use Rattle.proof_queue.proofs.Queued.{PayloadsBring}
-use Rattle.proof_queue.proofs.Requested.{Unsubmitted}
-use Rattle.proof_queue.proofs.Stepping.{IsSubmission, event_is_read, submissions, time_told}
-use Rattle.proof_queue.proofs.proof_attempts_Walking.{is_fresh, written_told}
-use Rattle.proof_queue.proofs.Wrote.{Wrote, writes}
-use Rattle.proof_queue.proofs.Wrote.Wrote.{Quietly, Again, Anew}
-use Rattle.proof_queue.proofs.proof_requests_Telling.{IsQuiet}
-use Rattle.proof_queue.specs.Waiting.{want_of_task}
+use Rattle.proof_ends.specs.proof_rests.proof_nonces.proof_work.proof_walk.ByLine.{IsAsked}
+use Rattle.proof_giving.specs.proof_queue.proof_attempts.proof_requests.proof_alone.world_model.Events.{OpensFrom}
+use Rattle.proof_giving.specs.proof_queue.proof_attempts.proof_requests.law_host.Heard.{heeds_alone}
+use Rattle.proof_giving.specs.proof_queue.proof_attempts.proof_requests.Asking.{doing_of}
+use Rattle.proof_giving.specs.proof_queue.proof_attempts.proof_requests.Walking.{Ground as RequestsGround, IsRead, IsTied, ReadsAs}
+use Rattle.proof_giving.specs.proof_queue.proof_attempts.proof_requests.proof_alone.State.{HostMachine}
+use Rattle.proof_giving.specs.proof_queue.proof_attempts.proof_requests.proof_alone.Steps.{AreTold, Does, IsOfUnit}
+use Rattle.proof_giving.specs.proof_queue.proof_attempts.proof_requests.proof_alone.Phases.{Phase, Resting, Submitting, IsNumbered, May}
+use Rattle.proof_giving.specs.proof_queue.proof_attempts.Since.{IsLoose, Lasts}
+use Rattle.proof_giving.proofs.InOrder.{is_asked}
+use Rattle.proof_giving.proofs.Queued.{PayloadsBring}
+use Rattle.proof_giving.proofs.Requested.{Unsubmitted}
+use Rattle.proof_giving.proofs.Stepping.{IsSubmission, event_is_read, submissions, time_told}
+use Rattle.proof_giving.proofs.proof_attempts_Walking.{is_fresh, written_told}
+use Rattle.proof_giving.proofs.Wrote.{Wrote, writes}
+use Rattle.proof_giving.proofs.Wrote.Wrote.{Quietly, Again, Anew}
+use Rattle.proof_giving.proofs.proof_requests_Telling.{IsQuiet}
+use Rattle.proof_giving.specs.proof_queue.Waiting.{want_of_task}
 use Rattle.proof_choice.specs.Served.{ServedAsTold, served_so_far}
 use Rattle.proof_choice.specs.Waits.{AskingGround, WaitsAnew}
 use Rattle.proof_choice.proofs.Served.{LeavesServed, served_again, served_in_vain, served_left, served_said, served_sent, served_start, served_waited}

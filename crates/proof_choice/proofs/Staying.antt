@@ -25,7 +25,7 @@ use Rattle.host_model.specs.State.{HostState}
 use Rattle.host_model.specs.After.{gives_up, is_held}
 use Rattle.host_model.specs.Ends.{PartEnd, Good, Passed_over, Bad, part_end}
 use Rattle.host_model.specs.Events.{HostEvent, Accepts, Cancels, Joins, Requests_do, Interviews, Works, Finishes, Takes_nonce, Notifies, Line_ticks, Node_ticks, Queues_no_more, Drops_no_more, Starts, Gives_text, Gives_segment, Begins, Begin_unkept}
-use Rattle.proof_queue.proofs.Doings.{Doing, did, does_at, end_does, failing_does, held_does, part_does, purpose_does, task_does}
+use Rattle.proof_giving.proofs.Doings.{Doing, did, does_at, end_does, failing_does, held_does, part_does, purpose_does, task_does}
 
 -- ---- nodes
 

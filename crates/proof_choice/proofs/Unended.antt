@@ -14,10 +14,10 @@ use Rattle.law_time.specs.Ends.{is_abort_frame, is_before_failing, waits_before_
 use Rattle.host_requests.specs.declared.under_way.Progress.{Progress}
 use Rattle.host_requests.specs.declared.under_way.Progress.TheVariants.{Submitted, Sent, Answered}
 use Rattle.host_requests.specs.declared.under_way.UnderWay.{UnderWay}
-use Rattle.proof_queue.specs.proof_attempts.proof_requests.Standing.{Standing, counted, ending_in, failing_in, giving_up_in, responses_in, sent_in, silence_in, wait_in}
-use Rattle.proof_queue.specs.proof_attempts.proof_requests.Asking.{AsProgress, IsUnderWay, TieLine, to_come}
-use Rattle.proof_queue.proofs.Line.{counted_copied, failing_few, failing_four, failing_sent, few_is, less_than_due}
-use Rattle.proof_requests.proofs.UnderWay.{line_held, over_all, progress_over}
+use Rattle.proof_giving.specs.proof_queue.proof_attempts.proof_requests.Standing.{Standing, counted, ending_in, failing_in, giving_up_in, responses_in, sent_in, silence_in, wait_in}
+use Rattle.proof_giving.specs.proof_queue.proof_attempts.proof_requests.Asking.{AsProgress, IsUnderWay, TieLine, to_come}
+use Rattle.proof_giving.proofs.Line.{counted_copied, failing_few, failing_four, failing_sent, few_is, less_than_due}
+use Rattle.proof_giving.proofs.UnderWay.{line_held, over_all, progress_over}
 
 -- it fails later, or at an answer after so many frames
 abbrev pub FailsPast : ℕ → ℕ → Failing → Type 0

@@ -10,15 +10,15 @@ use Rattle.law_time.specs.Heeds.{Heeds}
 use Rattle.law_time.specs.Judged.{is_acknowledgement}
 use Rattle.law_time.specs.Queue.{judges_first, requests, with_due}
 use Rattle.law_time.specs.Requests.{Asked, asked, is_new}
-use Rattle.proof_queue.specs.proof_attempts.proof_requests.law_host.Heard.{heeds_alone}
-use Rattle.proof_queue.specs.proof_attempts.proof_requests.proof_alone.State.{HostMachine}
-use Rattle.proof_queue.specs.proof_attempts.proof_requests.proof_alone.Phases.{Phase, Resting, Submitting}
-use Rattle.proof_queue.specs.proof_attempts.proof_requests.proof_alone.Careful.{Careful}
-use Rattle.proof_queue.specs.proof_attempts.proof_requests.proof_alone.Runs.{Run}
-use Rattle.proof_queue.specs.proof_attempts.proof_requests.proof_alone.Runs.Run.{Begins, Turned, Stepped}
-use Rattle.proof_queue.specs.Heeding.{AllSteps, HeedsAs, HeedsSo}
-use Rattle.proof_queue.specs.Waiting.{WaitsAtLooks, queue_of, want_of_task}
-use Rattle.proof_queue.proofs.Books.{last_is}
+use Rattle.proof_giving.specs.proof_queue.proof_attempts.proof_requests.law_host.Heard.{heeds_alone}
+use Rattle.proof_giving.specs.proof_queue.proof_attempts.proof_requests.proof_alone.State.{HostMachine}
+use Rattle.proof_giving.specs.proof_queue.proof_attempts.proof_requests.proof_alone.Phases.{Phase, Resting, Submitting}
+use Rattle.proof_giving.specs.proof_queue.proof_attempts.proof_requests.proof_alone.Careful.{Careful}
+use Rattle.proof_giving.specs.proof_queue.proof_attempts.proof_requests.proof_alone.Runs.{Run}
+use Rattle.proof_giving.specs.proof_queue.proof_attempts.proof_requests.proof_alone.Runs.Run.{Begins, Turned, Stepped}
+use Rattle.proof_giving.specs.proof_queue.Heeding.{AllSteps, HeedsAs, HeedsSo}
+use Rattle.proof_giving.specs.proof_queue.Waiting.{WaitsAtLooks, queue_of, want_of_task}
+use Rattle.proof_giving.proofs.Books.{last_is}
 use Rattle.proof_giving.specs.Walking.{KnowsAttempts}
 use Rattle.proof_choice.specs.Counting.{KnowsCounts}
 use Rattle.proof_choice.specs.Turning.{AllAlong}

@@ -13,18 +13,18 @@ use Rattle.law_time.specs.Requests.{asked}
 use Rattle.serial_frame.specs.declared.unit.Unit.{Unit as LineUnit}
 use Rattle.host_node.specs.Facts.{NodeFacts}
 use Rattle.host_model.specs.State.{HostState, node_of}
-use Rattle.proof_queue.specs.proof_attempts.proof_requests.law_host.Heard.{heeds_alone}
-use Rattle.proof_queue.specs.proof_attempts.proof_requests.Asking.{TieAsked, doing_of}
-use Rattle.proof_queue.specs.proof_attempts.proof_requests.Walking.{Ground as RequestsGround, KnowsAsked}
-use Rattle.proof_queue.specs.proof_attempts.proof_requests.proof_alone.State.{HostMachine}
-use Rattle.proof_queue.specs.proof_attempts.proof_requests.proof_alone.Steps.{AreFrames}
-use Rattle.proof_queue.specs.proof_attempts.proof_requests.proof_alone.Phases.{Phase, Resting, Submitting}
-use Rattle.proof_queue.specs.proof_attempts.proof_requests.proof_alone.Runs.{Knowledge, both_know}
-use Rattle.proof_queue.specs.proof_attempts.Attempts.{is_over_by}
-use Rattle.proof_queue.specs.proof_attempts.Since.{KnowsSince}
-use Rattle.proof_queue.proofs.Joined.{IsInRange as HasJoined}
-use Rattle.proof_queue.proofs.Seeing.{Sights}
-use Rattle.proof_queue.proofs.Segments.{Shows}
+use Rattle.proof_giving.specs.proof_queue.proof_attempts.proof_requests.law_host.Heard.{heeds_alone}
+use Rattle.proof_giving.specs.proof_queue.proof_attempts.proof_requests.Asking.{TieAsked, doing_of}
+use Rattle.proof_giving.specs.proof_queue.proof_attempts.proof_requests.Walking.{Ground as RequestsGround, KnowsAsked}
+use Rattle.proof_giving.specs.proof_queue.proof_attempts.proof_requests.proof_alone.State.{HostMachine}
+use Rattle.proof_giving.specs.proof_queue.proof_attempts.proof_requests.proof_alone.Steps.{AreFrames}
+use Rattle.proof_giving.specs.proof_queue.proof_attempts.proof_requests.proof_alone.Phases.{Phase, Resting, Submitting}
+use Rattle.proof_giving.specs.proof_queue.proof_attempts.proof_requests.proof_alone.Runs.{Knowledge, both_know}
+use Rattle.proof_giving.specs.proof_queue.proof_attempts.Attempts.{is_over_by}
+use Rattle.proof_giving.specs.proof_queue.proof_attempts.Since.{KnowsSince}
+use Rattle.proof_giving.proofs.Joined.{IsInRange as HasJoined}
+use Rattle.proof_giving.proofs.Seeing.{Sights}
+use Rattle.proof_giving.proofs.proof_queue_Segments.{Shows}
 use Rattle.proof_giving.specs.Stays.{ShowsSessions}
 use Rattle.proof_giving.specs.Tie.{AttemptsSo, is_badly_over}
 use Rattle.proof_giving.specs.Told.{attempts_so_far}

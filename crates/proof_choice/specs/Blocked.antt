@@ -10,10 +10,10 @@ use Rattle.law_time.specs.Judged.{last_of}
 use Rattle.law_time.specs.Requests.{are_none}
 use Rattle.host_node.specs.State.{NodeState}
 use Rattle.host_model.specs.State.{node_of}
-use Rattle.proof_queue.specs.proof_attempts.proof_requests.Walking.{Ground as RequestsGround}
-use Rattle.proof_queue.specs.proof_attempts.proof_requests.proof_alone.Runs.{Knowledge, both_know}
-use Rattle.proof_queue.specs.proof_attempts.Since.{TieOf, node_clock}
-use Rattle.proof_queue.specs.proof_attempts.Waking.{KnowsWork}
+use Rattle.proof_giving.specs.proof_queue.proof_attempts.proof_requests.Walking.{Ground as RequestsGround}
+use Rattle.proof_giving.specs.proof_queue.proof_attempts.proof_requests.proof_alone.Runs.{Knowledge, both_know}
+use Rattle.proof_giving.specs.proof_queue.proof_attempts.Since.{TieOf, node_clock}
+use Rattle.proof_giving.specs.proof_queue.proof_attempts.Waking.{KnowsWork}
 
 -- of a node at its own time: where it is blocked the keeper has failed for it since its last tick, and where it is not no session of it was not kept
 pub record BlockedSo (n : ℕ) (past : List Entry) (node : NodeState) (time : ℕ) : Type 0 where

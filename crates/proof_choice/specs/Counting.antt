@@ -2,8 +2,8 @@
 use Rattle.std.specs.Prelude.{◌≤◌, ℕ}
 use Rattle.law_time.specs.Heeds.{Heeds}
 use Rattle.host_model.specs.State.{node_of}
-use Rattle.proof_queue.specs.proof_attempts.proof_requests.proof_alone.Phases.{Resting, Submitting}
-use Rattle.proof_queue.specs.proof_attempts.proof_requests.proof_alone.Runs.{Knowledge}
+use Rattle.proof_giving.specs.proof_queue.proof_attempts.proof_requests.proof_alone.Phases.{Resting, Submitting}
+use Rattle.proof_giving.specs.proof_queue.proof_attempts.proof_requests.proof_alone.Runs.{Knowledge}
 use Rattle.proof_giving.specs.Tie.{AttemptsSo}
 use Rattle.proof_giving.specs.Told.{attempts_so_far}
 use Rattle.proof_choice.specs.Ready.{ReadySo}

@@ -9,3 +9,4 @@ pub mod Choosing
 pub mod Resting
 pub mod Counting
 pub mod Readying
+pub use Rattle.proof_ends.specs as proof_ends

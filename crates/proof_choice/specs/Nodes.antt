@@ -8,8 +8,8 @@ use Rattle.law_time.specs.Requests.{asked}
 use Rattle.law_time.specs.Sessions.{runs}
 use Rattle.host_node.specs.State.{is_idle}
 use Rattle.host_model.specs.State.{HostState, node_of}
-use Rattle.proof_queue.specs.proof_attempts.Attempts.{is_over_by}
-use Rattle.proof_queue.specs.proof_attempts.Series.{NodeAsTold}
+use Rattle.proof_giving.specs.proof_queue.proof_attempts.Attempts.{is_over_by}
+use Rattle.proof_giving.specs.proof_queue.proof_attempts.Series.{NodeAsTold}
 use Rattle.proof_giving.specs.Stays.{ShowsSessions}
 use Rattle.proof_giving.specs.Tie.{AttemptsSo, is_badly_over}
 use Rattle.proof_giving.specs.Told.{attempts_so_far}

@@ -7,7 +7,7 @@ use Rattle.host_orders.specs.declared.carriage.Form.TheVariants.{Plain, Cut, Sea
 use Rattle.host_node.specs.State.{NodeState}
 use Rattle.host_node.specs.declared.series.Series.TheVariants.{Running}
 use Rattle.host_model.specs.State.{Command, HostState, command_at, node_of}
-use Rattle.proof_queue.specs.proof_attempts.Since.{TieOf}
+use Rattle.proof_giving.specs.proof_queue.proof_attempts.Since.{TieOf}
 
 -- what is whole has no text, and what is cut has segments
 abbrev pub GivesAs : Form → NodeState → Type 0

@@ -5,9 +5,9 @@ use Rattle.law_time.specs.Heeds.{Heeds}
 use Rattle.host_node.specs.State.{NodeState}
 use Rattle.host_model.specs.Did.{after_all}
 use Rattle.host_model.specs.State.{node_of}
-use Rattle.proof_queue.specs.proof_attempts.proof_requests.proof_alone.Phases.{Behind}
-use Rattle.proof_queue.specs.proof_attempts.proof_requests.proof_alone.Runs.{Knowledge, both_know}
-use Rattle.proof_queue.specs.proof_attempts.Since.{TieOf}
+use Rattle.proof_giving.specs.proof_queue.proof_attempts.proof_requests.proof_alone.Phases.{Behind}
+use Rattle.proof_giving.specs.proof_queue.proof_attempts.proof_requests.proof_alone.Runs.{Knowledge, both_know}
+use Rattle.proof_giving.specs.proof_queue.proof_attempts.Since.{TieOf}
 use Rattle.proof_giving.specs.Told.{attempts_so_far}
 use Rattle.proof_giving.specs.Walking.{Grounds, KnowsAttempts}
 use Rattle.proof_choice.specs.Ready.{ReadySo}

@@ -5,7 +5,7 @@ use Rattle.law_transcript.specs.Nodes.{controller}
 use Rattle.law_time.specs.Attempts.{served_step}
 use Rattle.law_time.specs.Heeds.{Heeds}
 use Rattle.law_time.specs.Queue.{Requests, no_requests, requests_after}
-use Rattle.proof_queue.specs.proof_attempts.Since.{TieOf}
+use Rattle.proof_giving.specs.proof_queue.proof_attempts.Since.{TieOf}
 
 abbrev pub served_from : Heeds → List Entry → Requests → ℕ → List Entry → ℕ
 served_from heeds past requests served [] = served

@@ -7,11 +7,11 @@ use Rattle.zw_text.specs.Transcript.{joined}
 use Rattle.law_time.specs.Heeds.{Heeds}
 use Rattle.host_node.specs.State.{has_work}
 use Rattle.host_model.specs.State.{node_of}
-use Rattle.proof_queue.specs.proof_attempts.proof_requests.proof_alone.State.{HostMachine}
-use Rattle.proof_queue.specs.proof_attempts.proof_requests.proof_alone.Phases.{Phase, Resting, Submitting}
-use Rattle.proof_queue.specs.proof_attempts.proof_requests.proof_alone.Runs.{Knowledge, Run, both_know}
-use Rattle.proof_queue.specs.proof_attempts.proof_requests.proof_alone.Runs.Run.{Begins, Turned, Stepped}
-use Rattle.proof_queue.specs.proof_attempts.Waking.{KnowsWork}
+use Rattle.proof_giving.specs.proof_queue.proof_attempts.proof_requests.proof_alone.State.{HostMachine}
+use Rattle.proof_giving.specs.proof_queue.proof_attempts.proof_requests.proof_alone.Phases.{Phase, Resting, Submitting}
+use Rattle.proof_giving.specs.proof_queue.proof_attempts.proof_requests.proof_alone.Runs.{Knowledge, Run, both_know}
+use Rattle.proof_giving.specs.proof_queue.proof_attempts.proof_requests.proof_alone.Runs.Run.{Begins, Turned, Stepped}
+use Rattle.proof_giving.specs.proof_queue.proof_attempts.Waking.{KnowsWork}
 use Rattle.proof_choice.specs.Nodes.{NodeKnown}
 use Rattle.proof_choice.specs.Served.{served_so_far}
 use Rattle.proof_choice.specs.Waits.{AskingGround}

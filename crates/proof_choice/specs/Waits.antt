@@ -7,11 +7,11 @@ use Rattle.law_time.specs.Heeds.{Heeds}
 use Rattle.law_time.specs.Moments.{clock}
 use Rattle.law_time.specs.Queue.{queue_before, with_due}
 use Rattle.law_time.specs.Requests.{asked, is_new}
-use Rattle.proof_queue.specs.proof_attempts.proof_requests.Walking.{Ground as RequestsGround, KnowsAsked}
-use Rattle.proof_queue.specs.proof_attempts.proof_requests.proof_alone.Phases.{Resting, Submitting}
-use Rattle.proof_queue.specs.proof_attempts.proof_requests.proof_alone.Runs.{Knowledge, both_know}
-use Rattle.proof_queue.specs.Waiting.{queue_of, want_of_task}
-use Rattle.proof_queue.specs.proof_attempts.proof_requests.proof_alone.State.{HostMachine}
+use Rattle.proof_giving.specs.proof_queue.proof_attempts.proof_requests.Walking.{Ground as RequestsGround, KnowsAsked}
+use Rattle.proof_giving.specs.proof_queue.proof_attempts.proof_requests.proof_alone.Phases.{Resting, Submitting}
+use Rattle.proof_giving.specs.proof_queue.proof_attempts.proof_requests.proof_alone.Runs.{Knowledge, both_know}
+use Rattle.proof_giving.specs.proof_queue.Waiting.{queue_of, want_of_task}
+use Rattle.proof_giving.specs.proof_queue.proof_attempts.proof_requests.proof_alone.State.{HostMachine}
 
 -- before each request that is new, once the tick is told
 abbrev pub WaitsAnew : Heeds → List Entry → HostMachine → Type 0

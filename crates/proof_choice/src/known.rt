@@ -2,13 +2,13 @@
 
 ghost use Rattle.std.specs.Prelude.{List};
 ghost use Rattle.s0_crypto.specs.declared.key_pair.Keys.{Keys};
-ghost use Rattle.proof_queue.specs.proof_attempts.Since.{AlongRuns, KnowsSince};
+ghost use Rattle.proof_giving.specs.proof_queue.proof_attempts.Since.{AlongRuns, KnowsSince};
 ghost use Rattle.proof_choice.specs.Blocked.{BlocksAsTold};
 ghost use Rattle.proof_choice.specs.Plans.{PlansAreSo};
 
+use proof_ends::rests::attempts::hosts_know_their_work;
+use proof_ends::rests::attempts::requests::hosts_ask_as_told;
 use proof_giving::attempts_stay_with_the_request;
-use proof_rests::attempts::hosts_know_their_work;
-use proof_rests::attempts::requests::hosts_ask_as_told;
 
 /// In any run of a host alone, over a keeper that tells its records and has none at first: where a node is blocked the keeper has failed for it by the
 /// transcript since its last tick, and where it is not no session of it was not kept to begin in this tick.

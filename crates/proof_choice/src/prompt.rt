@@ -7,17 +7,17 @@ ghost use Rattle.host_heard.specs.declared.told.Told.{Told};
 ghost use Rattle.law_transcript.specs.Payloads.{BeginsWithUnit};
 ghost use Rattle.law_transcript.specs.Units.{Carried};
 ghost use Rattle.law_time.specs.Choice.{NumbersCallbacks, SendsOneByOne};
-ghost use Rattle.proof_queue.specs.proof_attempts.proof_requests.law_host.law_wire.Serial.{ended};
+ghost use Rattle.proof_giving.specs.proof_queue.proof_attempts.proof_requests.law_host.law_wire.Serial.{ended};
 ghost use Rattle.law_time.specs.Prompt.{IsPrompt};
-ghost use Rattle.proof_queue.specs.proof_attempts.proof_requests.law_host.Heard.{heeds_alone};
-ghost use Rattle.proof_queue.specs.proof_attempts.proof_requests.proof_alone.State.{HostMachine, first_alone};
-ghost use Rattle.proof_queue.specs.proof_attempts.proof_requests.proof_alone.Phases.{Phase, Resting};
-ghost use Rattle.proof_queue.specs.proof_attempts.proof_requests.proof_alone.Careful.{RunCarefully};
-ghost use Rattle.proof_rests.specs.proof_nonces.proof_known.Known.{AreForHost};
+ghost use Rattle.proof_giving.specs.proof_queue.proof_attempts.proof_requests.law_host.Heard.{heeds_alone};
+ghost use Rattle.proof_giving.specs.proof_queue.proof_attempts.proof_requests.proof_alone.State.{HostMachine, first_alone};
+ghost use Rattle.proof_giving.specs.proof_queue.proof_attempts.proof_requests.proof_alone.Phases.{Phase, Resting};
+ghost use Rattle.proof_giving.specs.proof_queue.proof_attempts.proof_requests.proof_alone.Careful.{RunCarefully};
+ghost use Rattle.proof_ends.specs.proof_rests.proof_nonces.proof_known.Known.{AreForHost};
 
 use crate::laws::{hosts_rest_well, hosts_send_in_turn};
 use proof_giving::hosts_give_up_after_three;
-use proof_queue::{hosts_go_by_messages, hosts_queue_as_told};
+use proof_giving::queue::{hosts_go_by_messages, hosts_queue_as_told};
 
 /// A host alone is prompt in any careful run, over a keeper that tells its records and has none at first, where no line is refused that is for others, and in
 /// the end too where the run ends at rest with no tick of its line to come: by the messages that it took up, its queue is full where it says so, requests are

@@ -8,3 +8,4 @@ pub mod Port
 pub mod Replay
 pub mod Include
 pub mod All
+pub use Rattle.run_all.specs as run_all

@@ -10,3 +10,6 @@ pub use Rattle.proof_rests.proofs.Interviews
 pub use Rattle.proof_rests.proofs.EndsTold
 pub use Rattle.proof_rests.proofs.Stepping
 pub use Rattle.proof_rests.proofs.KeptAwake
+pub use Rattle.proof_rests.proofs.Done
+pub use Rattle.proof_rests.proofs.Freeing
+pub use Rattle.proof_rests.proofs.AtRests

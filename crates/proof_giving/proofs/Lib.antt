@@ -33,3 +33,34 @@ mod Carries
 pub mod Acked
 pub mod Quiet
 mod Segments
+pub use Rattle.proof_queue.proofs.Doings
+pub use Rattle.proof_queue.proofs.Wrote
+pub use Rattle.proof_queue.proofs.proof_requests_Telling
+pub use Rattle.proof_queue.proofs.Books
+pub use Rattle.proof_queue.proofs.HostNotes
+pub use Rattle.proof_queue.proofs.proof_alone_Apart
+pub use Rattle.proof_queue.proofs.Orders as proof_queue_Orders
+pub use Rattle.proof_queue.proofs.Lasting
+pub use Rattle.proof_queue.proofs.Queued
+pub use Rattle.proof_queue.proofs.Stepping
+pub use Rattle.proof_queue.proofs.proof_attempts_Walking
+pub use Rattle.proof_queue.proofs.Counting
+pub use Rattle.proof_queue.proofs.InOrder
+pub use Rattle.proof_queue.proofs.Requested
+pub use Rattle.proof_queue.proofs.Joined
+pub use Rattle.proof_queue.proofs.Seeing
+pub use Rattle.proof_queue.proofs.Segments as proof_queue_Segments
+pub use Rattle.proof_queue.proofs.AttemptsGo
+pub use Rattle.proof_queue.proofs.proof_requests_EndsHere
+pub use Rattle.proof_queue.proofs.Kept
+pub use Rattle.proof_queue.proofs.Opening
+pub use Rattle.proof_queue.proofs.proof_waking_Apart
+pub use Rattle.proof_queue.proofs.Line
+pub use Rattle.proof_queue.proofs.Ahead
+pub use Rattle.proof_queue.proofs.HostOuts
+pub use Rattle.proof_queue.proofs.Holding
+pub use Rattle.proof_queue.proofs.Telling
+pub use Rattle.proof_queue.proofs.Ticking
+pub use Rattle.proof_queue.proofs.proof_waking_Judging
+pub use Rattle.proof_queue.proofs.Running
+pub use Rattle.proof_queue.proofs.UnderWay

@@ -72,7 +72,7 @@ use Rattle.proof_queue.proofs.Holding.{clock_now}
 use Rattle.proof_queue.proofs.HostOuts.{OutsAre, OwnIs, SharedAre, outs_are}
 use Rattle.proof_queue.proofs.Opening.{OpenLast, open_last}
 use Rattle.proof_queue.proofs.Stepping.{behind_notes, first_same, not_awaiting}
-use Rattle.proof_attempts.proofs.proof_waking_Parts.{IsNote as IsNoted}
+use Rattle.proof_queue.proofs.proof_waking_Parts.{IsNote as IsNoted}
 use Rattle.proof_giving.specs.Tie.{AttemptsAs, is_for}
 use Rattle.proof_giving.specs.Walking.{Grounds, KnowsAttempts, gives_sign}
 use Rattle.proof_giving.proofs.Along.{is_opened}

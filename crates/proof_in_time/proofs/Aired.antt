@@ -34,28 +34,28 @@ use Rattle.outside_model.specs.State.{OuterState, each, with_chip}
 use Rattle.outside_model.specs.Events.{Chip_takes, outcome, May as MayOutside}
 use Rattle.world_model.specs.Events.{happens, May}
 use Rattle.world_model.specs.State.{Machine}
-use Rattle.proof_calm.specs.proof_traffic.Flights.{Fly, flown_now}
-use Rattle.proof_calm.specs.proof_traffic.OnAir.{on_air}
-use Rattle.proof_calm.proofs.proof_traffic_Parts.{Airs}
-use Rattle.proof_calm.specs.Awaited.{Awaits}
-use Rattle.proof_calm.specs.Known.{AsksToSend}
-use Rattle.proof_calm.specs.Marks.{HasNoMarks}
-use Rattle.proof_calm.specs.Passes.{ChipMayTake, IsTakenBy, TakesEach, chip_taken}
-use Rattle.proof_calm.specs.Resting.{CanMove}
-use Rattle.proof_calm.specs.Routed.{Reaches}
-use Rattle.proof_calm.specs.Settling.{Line, Free, Asks, Heard, Heard_asks, Sent, Sent_asks, IsDone, Moves}
-use Rattle.proof_calm.specs.Tied.{At_chip, Called, HasRoom, IsPeopled, Nowhere, On_way, Tied, TieOf, ends_of, on_line, unheard}
-use Rattle.proof_calm.proofs.ChipAsked.{by_turn, is_by_turn, response}
-use Rattle.proof_calm.proofs.ChipNotices.{AreSaid, IsSaid, does_said, entered_leaves, written_said}
-use Rattle.proof_calm.proofs.ChipPart.{marks_of, taken, two_ways}
-use Rattle.proof_calm.proofs.ChipTurns.{one_way}
-use Rattle.proof_calm.proofs.Flights.{flights_are}
-use Rattle.proof_calm.proofs.Payloads.{asked_send}
-use Rattle.proof_calm.proofs.Reading.{fed_units}
-use Rattle.proof_calm.proofs.Requested.{part_tied}
-use Rattle.proof_calm.proofs.Routed.{frame_way, judged_of}
-use Rattle.proof_calm.proofs.Times.{does_chip}
-use Rattle.proof_calm.proofs.Unmarked.{does_none}
+use Rattle.proof_answered.specs.proof_calm.proof_traffic.Flights.{Fly, flown_now}
+use Rattle.proof_answered.specs.proof_calm.proof_traffic.OnAir.{on_air}
+use Rattle.proof_answered.proofs.proof_traffic_Parts.{Airs}
+use Rattle.proof_answered.specs.proof_calm.Awaited.{Awaits}
+use Rattle.proof_answered.specs.proof_calm.Known.{AsksToSend}
+use Rattle.proof_answered.specs.proof_calm.Marks.{HasNoMarks}
+use Rattle.proof_answered.specs.proof_calm.Passes.{ChipMayTake, IsTakenBy, TakesEach, chip_taken}
+use Rattle.proof_answered.specs.proof_calm.Resting.{CanMove}
+use Rattle.proof_answered.specs.proof_calm.Routed.{Reaches}
+use Rattle.proof_answered.specs.proof_calm.Settling.{Line, Free, Asks, Heard, Heard_asks, Sent, Sent_asks, IsDone, Moves}
+use Rattle.proof_answered.specs.proof_calm.Tied.{At_chip, Called, HasRoom, IsPeopled, Nowhere, On_way, Tied, TieOf, ends_of, on_line, unheard}
+use Rattle.proof_answered.proofs.ChipAsked.{by_turn, is_by_turn, response}
+use Rattle.proof_answered.proofs.ChipNotices.{AreSaid, IsSaid, does_said, entered_leaves, written_said}
+use Rattle.proof_answered.proofs.ChipPart.{marks_of, taken, two_ways}
+use Rattle.proof_answered.proofs.ChipTurns.{one_way}
+use Rattle.proof_answered.proofs.Flights.{flights_are}
+use Rattle.proof_answered.proofs.Payloads.{asked_send}
+use Rattle.proof_answered.proofs.Reading.{fed_units}
+use Rattle.proof_answered.proofs.Requested.{part_tied}
+use Rattle.proof_answered.proofs.Routed.{frame_way, judged_of}
+use Rattle.proof_answered.proofs.Times.{does_chip}
+use Rattle.proof_answered.proofs.Unmarked.{does_none}
 use Rattle.proof_in_time.specs.Coming.{AsksFor, IsOnAir, Stands}
 
 -- ---- what the chip puts out

@@ -33,15 +33,15 @@ use Rattle.host_model.proofs.Submitted.{next_is}
 use Rattle.outside_model.specs.Events.{OuterEvent, Begins_line, Begins_tick, Arrives, Device_ticks, Chip_ticks, Wakes_device, Shows, Cuts, outcome}
 use Rattle.world_model.specs.Events.{Event, Outside_does, Host_does, Decoder_ticks, Refuses, Shows_values, happens, May, shown_values}
 use Rattle.world_model.specs.State.{Machine}
-use Rattle.proof_calm.specs.proof_traffic.OnAir.{on_air}
-use Rattle.proof_calm.specs.proof_work.proof_walk.Phases.{Phase, Said_line, Begun, Doing, To_tick, Ticked, Arriving, Ticking_devices, Ticking_chip, Ticking_decoder, Ticking_host}
-use Rattle.proof_calm.proofs.proof_traffic_Parts.{Airs}
-use Rattle.proof_calm.specs.Awaited.{Awaits}
-use Rattle.proof_calm.specs.Live.{HasLive, IsLive}
-use Rattle.proof_calm.specs.Resting.{IsEffect, IsGiven, IsOfTick}
-use Rattle.proof_calm.specs.Tied.{unheard}
-use Rattle.proof_calm.proofs.Calm.{does_calm, enters_calm}
-use Rattle.proof_calm.proofs.ChipNotices.{entered_leaves}
+use Rattle.proof_answered.specs.proof_calm.proof_traffic.OnAir.{on_air}
+use Rattle.proof_answered.specs.proof_calm.proof_work.proof_walk.Phases.{Phase, Said_line, Begun, Doing, To_tick, Ticked, Arriving, Ticking_devices, Ticking_chip, Ticking_decoder, Ticking_host}
+use Rattle.proof_answered.proofs.proof_traffic_Parts.{Airs}
+use Rattle.proof_answered.specs.proof_calm.Awaited.{Awaits}
+use Rattle.proof_answered.specs.proof_calm.Live.{HasLive, IsLive}
+use Rattle.proof_answered.specs.proof_calm.Resting.{IsEffect, IsGiven, IsOfTick}
+use Rattle.proof_answered.specs.proof_calm.Tied.{unheard}
+use Rattle.proof_answered.proofs.Calm.{does_calm, enters_calm}
+use Rattle.proof_answered.proofs.ChipNotices.{entered_leaves}
 use Rattle.proof_answered.proofs.Listeners.{listener_hears}
 use Rattle.proof_answered.proofs.Outwards.{next_is_live}
 use Rattle.proof_messages.specs.Asking.{takes_openly}

@@ -15,13 +15,13 @@ use Rattle.host_model.specs.Ticking.{first_ticks, tick_events, ticking_nodes}
 use Rattle.outside_model.specs.Events.{Arrives}
 use Rattle.world_model.specs.Events.{Outside_does, happens}
 use Rattle.world_model.specs.State.{Machine}
-use Rattle.proof_calm.specs.proof_traffic.OnAir.{on_air}
-use Rattle.proof_calm.specs.proof_work.proof_walk.Phases.{Phase, Arriving}
-use Rattle.proof_calm.specs.Awaited.{Awaits}
-use Rattle.proof_calm.specs.Live.{IsLive}
-use Rattle.proof_calm.specs.Resting.{IsGiven}
-use Rattle.proof_calm.specs.Tied.{unheard}
-use Rattle.proof_calm.proofs.proof_traffic_Parts.{Airs}
+use Rattle.proof_answered.specs.proof_calm.proof_traffic.OnAir.{on_air}
+use Rattle.proof_answered.specs.proof_calm.proof_work.proof_walk.Phases.{Phase, Arriving}
+use Rattle.proof_answered.specs.proof_calm.Awaited.{Awaits}
+use Rattle.proof_answered.specs.proof_calm.Live.{IsLive}
+use Rattle.proof_answered.specs.proof_calm.Resting.{IsGiven}
+use Rattle.proof_answered.specs.proof_calm.Tied.{unheard}
+use Rattle.proof_answered.proofs.proof_traffic_Parts.{Airs}
 use Rattle.proof_in_time.specs.Coming.{AsksFor, Asked, Coming, Flies, Has, IsAsking, IsReport, IsRequest, Sent, Stands, TellsEnd, Told, brings, one_later, ticks_left, ticks_of}
 use Rattle.proof_in_time.proofs.Grown.{Adds, Arrived, stands_next, stands_on}
 use Rattle.proof_in_time.proofs.Landed.{arrives_has, report_comes}

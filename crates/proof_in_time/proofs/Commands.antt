@@ -35,8 +35,8 @@ use Rattle.proof_course_plain.specs.proof_host.Tables.{taken_at, taken_by}
 use Rattle.proof_course_plain.proofs.HostEvents.{open_is, owned}
 use Rattle.proof_spoken.proofs.Orders.{IsNoOrder, SameOrders, event_kept}
 use Rattle.proof_spoken.proofs.Plain.{silent_none}
-use Rattle.proof_calm.specs.Resting.{IsEffect, LineAt}
-use Rattle.proof_calm.specs.proof_work.proof_walk.Phases.{Phase, Said_line, Doing, To_tick, Arriving, Giving, Ticking_devices, Ticking_chip, Ticking_decoder, Ticking_host, Sleeping, Submitting, Moving, Moved, Goes}
+use Rattle.proof_answered.specs.proof_calm.Resting.{IsEffect, LineAt}
+use Rattle.proof_answered.specs.proof_calm.proof_work.proof_walk.Phases.{Phase, Said_line, Doing, To_tick, Arriving, Giving, Ticking_devices, Ticking_chip, Ticking_decoder, Ticking_host, Sleeping, Submitting, Moving, Moved, Goes}
 use Rattle.proof_in_time.specs.Coming.{GoWhole, GoesWhole, IsMessage, IsPlainOrder, IsPlainStart, IsPlainly, is_layered}
 
 -- ---- they are kept

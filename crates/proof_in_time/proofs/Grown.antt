@@ -23,17 +23,17 @@ use Rattle.outside_model.specs.State.{OuterState, Outcome, each}
 use Rattle.outside_model.specs.Events.{Arrives, Device_ticks, Chip_takes, Wakes_device, has_entered, mesh_of, outcome, happens as happens_outside, May as MayOutside}
 use Rattle.world_model.specs.Events.{Outside_does, happens, May}
 use Rattle.world_model.specs.State.{Machine}
-use Rattle.proof_calm.specs.proof_traffic.Flights.{Fly}
-use Rattle.proof_calm.specs.proof_traffic.OnAir.{fed_chip, on_air}
-use Rattle.proof_calm.specs.Awaited.{Awaits}
+use Rattle.proof_answered.specs.proof_calm.proof_traffic.Flights.{Fly}
+use Rattle.proof_answered.specs.proof_calm.proof_traffic.OnAir.{fed_chip, on_air}
+use Rattle.proof_answered.specs.proof_calm.Awaited.{Awaits}
 use Rattle.proof_answered.specs.Outward.{IsSentTo}
 use Rattle.proof_answered.proofs.Outwards.{judges_add, next_flight}
-use Rattle.proof_calm.proofs.ArrivedFrames.{Homes as ArrivedHomes, arrives_home}
-use Rattle.proof_calm.proofs.Arrivals.{Homes, answered_if_homes}
-use Rattle.proof_calm.proofs.Calm.{Calm}
-use Rattle.proof_calm.proofs.ChipNotices.{entered_leaves}
-use Rattle.proof_calm.proofs.Flights.{flights_are}
-use Rattle.proof_calm.proofs.proof_traffic_Parts.{Airs}
+use Rattle.proof_answered.proofs.ArrivedFrames.{Homes as ArrivedHomes, arrives_home}
+use Rattle.proof_answered.proofs.Arrivals.{Homes, answered_if_homes}
+use Rattle.proof_answered.proofs.Calm.{Calm}
+use Rattle.proof_answered.proofs.ChipNotices.{entered_leaves}
+use Rattle.proof_answered.proofs.Flights.{flights_are}
+use Rattle.proof_answered.proofs.proof_traffic_Parts.{Airs}
 use Rattle.proof_in_time.specs.Coming.{Stands}
 
 -- ---- frames that stand there

@@ -27,14 +27,14 @@ use Rattle.host_model.specs.Events.{HostEvent, Hears, Interviews, Line_ticks, No
 use Rattle.host_model.specs.State.{HostState, node_of}
 use Rattle.host_model.specs.Taking.{AreJudged, IsJudged, is_secure, told_if, told_requests}
 use Rattle.host_model.proofs.EventLists.{after_all-append}
-use Rattle.proof_calm.specs.Calls.{FrameFollows}
-use Rattle.proof_calm.specs.Passes.{IsPlain, frames_in}
-use Rattle.proof_calm.specs.Tied.{Answers, Brings, Informs, IsCalled, IsOf, LeavesIt, LeaveIt, Nowhere, On_way, At_chip, Called, Tied}
-use Rattle.proof_calm.proofs.Ending.{EndsNoInterview, IsToldOf, Nothing, Something, answers_are, calls_are, handler_payload, none_under_way, send_under_way, update_told}
-use Rattle.proof_calm.proofs.Followed.{FollowersAre, payload_all}
-use Rattle.proof_calm.proofs.Following.{kept}
-use Rattle.proof_calm.proofs.Judging.{TieBy, ends_by, one_more, unit_tied}
-use Rattle.proof_calm.proofs.Reading.{goods}
+use Rattle.proof_answered.specs.proof_calm.Calls.{FrameFollows}
+use Rattle.proof_answered.specs.proof_calm.Passes.{IsPlain, frames_in}
+use Rattle.proof_answered.specs.proof_calm.Tied.{Answers, Brings, Informs, IsCalled, IsOf, LeavesIt, LeaveIt, Nowhere, On_way, At_chip, Called, Tied}
+use Rattle.proof_answered.proofs.Ending.{EndsNoInterview, IsToldOf, Nothing, Something, answers_are, calls_are, handler_payload, none_under_way, send_under_way, update_told}
+use Rattle.proof_answered.proofs.Followed.{FollowersAre, payload_all}
+use Rattle.proof_answered.proofs.Following.{kept}
+use Rattle.proof_answered.proofs.Judging.{TieBy, ends_by, one_more, unit_tied}
+use Rattle.proof_answered.proofs.Reading.{goods}
 use Rattle.proof_in_time.specs.Coming.{Has, IsKept, TellsEnd, brings, is_layered}
 use Rattle.proof_in_time.specs.Reporting.{AwaitsReport, EndsSession, IsOver}
 use Rattle.proof_in_time.proofs.NodeWaits.{IsBeside, OnTable, beside_table}

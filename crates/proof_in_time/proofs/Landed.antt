@@ -37,18 +37,18 @@ use Rattle.outside_model.specs.State.{OuterState, Outside, Outcome, each, silent
 use Rattle.outside_model.specs.Events.{Arrives, mesh_of, outcome, happens as happens_outside}
 use Rattle.world_model.specs.Events.{Outside_does, happens}
 use Rattle.world_model.specs.State.{Machine}
-use Rattle.proof_calm.specs.proof_traffic.Flights.{Fly, flown_now}
-use Rattle.proof_calm.specs.proof_traffic.OnAir.{on_air}
-use Rattle.proof_calm.specs.Awaited.{Awaits}
-use Rattle.proof_calm.specs.Live.{IsLive}
-use Rattle.proof_calm.specs.Resting.{IsGiven}
-use Rattle.proof_calm.specs.Tied.{unheard}
-use Rattle.proof_calm.proofs.ChipNotices.{arrived_air}
-use Rattle.proof_calm.proofs.Flights.{flights_are}
-use Rattle.proof_calm.proofs.Pending.{IsServed, has_room, has_served, line_more, line_of}
-use Rattle.proof_calm.proofs.Results.{Calls, IsResult, end_goes}
-use Rattle.proof_calm.proofs.Times.{does_chip}
-use Rattle.proof_calm.proofs.proof_traffic_Parts.{Airs}
+use Rattle.proof_answered.specs.proof_calm.proof_traffic.Flights.{Fly, flown_now}
+use Rattle.proof_answered.specs.proof_calm.proof_traffic.OnAir.{on_air}
+use Rattle.proof_answered.specs.proof_calm.Awaited.{Awaits}
+use Rattle.proof_answered.specs.proof_calm.Live.{IsLive}
+use Rattle.proof_answered.specs.proof_calm.Resting.{IsGiven}
+use Rattle.proof_answered.specs.proof_calm.Tied.{unheard}
+use Rattle.proof_answered.proofs.ChipNotices.{arrived_air}
+use Rattle.proof_answered.proofs.Flights.{flights_are}
+use Rattle.proof_answered.proofs.Pending.{IsServed, has_room, has_served, line_more, line_of}
+use Rattle.proof_answered.proofs.Results.{Calls, IsResult, end_goes}
+use Rattle.proof_answered.proofs.Times.{does_chip}
+use Rattle.proof_answered.proofs.proof_traffic_Parts.{Airs}
 use Rattle.proof_answered.proofs.Unheard.{IsPiled, chip_is, given_says, of_port, on_port}
 use Rattle.proof_in_time.specs.Coming.{Has, IsReport, Stands, TellsEnd, brings}
 use Rattle.proof_in_time.proofs.Grown.{Arrived}

@@ -24,17 +24,17 @@ use Rattle.host_model.specs.State.{node_of}
 use Rattle.outside_model.specs.Events.{Chip_takes}
 use Rattle.world_model.specs.Events.{Event, Outside_does, Host_does, Host_takes, happens, entries, May}
 use Rattle.world_model.specs.State.{Machine}
-use Rattle.proof_calm.specs.proof_traffic.OnAir.{on_air}
-use Rattle.proof_calm.specs.proof_work.Phases.{AsksNothing}
-use Rattle.proof_calm.specs.proof_work.proof_walk.Phases.{Phase, Between, Said_line, Begun, Doing, To_tick, Ticked, Arriving, Giving, Ticking_devices, Ticking_chip, Ticking_decoder, Ticking_host, Sleeping, Submitting, Moving, Moved, Goes, Turns, after_pump, passes_after}
-use Rattle.proof_calm.specs.proof_work.proof_walk.Walk.{Walk, WalkWhere}
-use Rattle.proof_calm.proofs.proof_traffic_Parts.{Airs}
-use Rattle.proof_calm.specs.Awaited.{Awaits, AwaitsAt}
-use Rattle.proof_calm.specs.Calls.{answer_taken}
-use Rattle.proof_calm.specs.Resting.{LineAt, LineRests}
-use Rattle.proof_calm.specs.Routed.{IsRouted}
-use Rattle.proof_calm.specs.Tied.{Answers, At_chip, Brings, Called, Informs, IsOnWay, IsOf, IsPeopled, LeavesIt, LeaveIt, Nowhere, On_way, RoomAt, Tied, TieAt, TieOf, ends_of, on_line, unheard, unheard_by}
-use Rattle.proof_calm.proofs.Unmarked.{nothing_asked}
+use Rattle.proof_answered.specs.proof_calm.proof_traffic.OnAir.{on_air}
+use Rattle.proof_answered.specs.proof_calm.proof_work.Phases.{AsksNothing}
+use Rattle.proof_answered.specs.proof_calm.proof_work.proof_walk.Phases.{Phase, Between, Said_line, Begun, Doing, To_tick, Ticked, Arriving, Giving, Ticking_devices, Ticking_chip, Ticking_decoder, Ticking_host, Sleeping, Submitting, Moving, Moved, Goes, Turns, after_pump, passes_after}
+use Rattle.proof_answered.specs.proof_calm.proof_work.proof_walk.Walk.{Walk, WalkWhere}
+use Rattle.proof_answered.proofs.proof_traffic_Parts.{Airs}
+use Rattle.proof_answered.specs.proof_calm.Awaited.{Awaits, AwaitsAt}
+use Rattle.proof_answered.specs.proof_calm.Calls.{answer_taken}
+use Rattle.proof_answered.specs.proof_calm.Resting.{LineAt, LineRests}
+use Rattle.proof_answered.specs.proof_calm.Routed.{IsRouted}
+use Rattle.proof_answered.specs.proof_calm.Tied.{Answers, At_chip, Brings, Called, Informs, IsOnWay, IsOf, IsPeopled, LeavesIt, LeaveIt, Nowhere, On_way, RoomAt, Tied, TieAt, TieOf, ends_of, on_line, unheard, unheard_by}
+use Rattle.proof_answered.proofs.Unmarked.{nothing_asked}
 use Rattle.proof_answered.specs.FirstAttempts.{IsInTime, KnowFirst}
 use Rattle.proof_answered.specs.Outward.{AllListen, IsSentTo}
 use Rattle.proof_answered.specs.Workers.{IsWorkedFor, KnowStaff, KnowsWorkers}

@@ -25,22 +25,22 @@ use Rattle.host_model.proofs.Submitted.{next_is, no_more_is}
 use Rattle.outside_model.specs.Events.{Chip_takes}
 use Rattle.world_model.specs.Events.{Outside_does, Host_does, Host_takes, happens, May}
 use Rattle.world_model.specs.State.{Machine}
-use Rattle.proof_calm.specs.proof_traffic.OnAir.{on_air}
-use Rattle.proof_calm.specs.proof_work.proof_walk.Phases.{Phase, Sleeping, Submitting, Moving, Moved}
-use Rattle.proof_calm.proofs.proof_traffic_Parts.{Airs}
-use Rattle.proof_calm.specs.Awaited.{Awaits}
-use Rattle.proof_calm.specs.Passes.{ChipMayTake, IsPlain, OnLine, chip_taken, frames_in}
-use Rattle.proof_calm.specs.Resting.{CanMove}
-use Rattle.proof_calm.specs.Settling.{HasMoved, IsDone}
-use Rattle.proof_calm.specs.Tied.{HasRoom, TieOf, on_line, unheard}
-use Rattle.proof_calm.proofs.Calm.{takes_calm}
-use Rattle.proof_calm.proofs.Following.{kept}
-use Rattle.proof_calm.proofs.HostTurns.{host_turns}
-use Rattle.proof_calm.proofs.Idle.{host_idles}
-use Rattle.proof_calm.proofs.Judging.{TieBy}
-use Rattle.proof_calm.proofs.Peopled.{judged_are}
-use Rattle.proof_calm.proofs.Reading.{goods}
-use Rattle.proof_calm.proofs.Requested.{moved_frames}
+use Rattle.proof_answered.specs.proof_calm.proof_traffic.OnAir.{on_air}
+use Rattle.proof_answered.specs.proof_calm.proof_work.proof_walk.Phases.{Phase, Sleeping, Submitting, Moving, Moved}
+use Rattle.proof_answered.proofs.proof_traffic_Parts.{Airs}
+use Rattle.proof_answered.specs.proof_calm.Awaited.{Awaits}
+use Rattle.proof_answered.specs.proof_calm.Passes.{ChipMayTake, IsPlain, OnLine, chip_taken, frames_in}
+use Rattle.proof_answered.specs.proof_calm.Resting.{CanMove}
+use Rattle.proof_answered.specs.proof_calm.Settling.{HasMoved, IsDone}
+use Rattle.proof_answered.specs.proof_calm.Tied.{HasRoom, TieOf, on_line, unheard}
+use Rattle.proof_answered.proofs.Calm.{takes_calm}
+use Rattle.proof_answered.proofs.Following.{kept}
+use Rattle.proof_answered.proofs.HostTurns.{host_turns}
+use Rattle.proof_answered.proofs.Idle.{host_idles}
+use Rattle.proof_answered.proofs.Judging.{TieBy}
+use Rattle.proof_answered.proofs.Peopled.{judged_are}
+use Rattle.proof_answered.proofs.Reading.{goods}
+use Rattle.proof_answered.proofs.Requested.{moved_frames}
 use Rattle.proof_answered.specs.Outward.{IsSentTo}
 use Rattle.proof_answered.proofs.Unheard.{chip_part_says, unheard_idle, unheard_judged}
 use Rattle.proof_in_time.specs.Coming.{AsksFor, Coming, Has, IsKept, IsMessage, IsOnAir, IsPlainStart, IsRequest, Sent, Stands, TellsEnd, Told, WaitsFor, brings, one_later, ticks_left, is_layered}

@@ -32,9 +32,9 @@ use Rattle.host_model.specs.State.{Command, HostState, command_at, node_of}
 use Rattle.outside_model.specs.Events.{OuterEvent, Arrives}
 use Rattle.world_model.specs.Events.{Event, Outside_does, Host_does}
 use Rattle.world_model.specs.State.{Machine}
-use Rattle.proof_calm.specs.proof_traffic.OnAir.{on_air}
-use Rattle.proof_calm.specs.proof_work.proof_walk.Phases.{Phase, Arriving, Giving, Ticking_devices, Ticking_chip, Ticking_decoder, Ticking_host, Sleeping, Submitting, Moving, Moved}
-use Rattle.proof_calm.specs.Tied.{on_line, unheard}
+use Rattle.proof_answered.specs.proof_calm.proof_traffic.OnAir.{on_air}
+use Rattle.proof_answered.specs.proof_calm.proof_work.proof_walk.Phases.{Phase, Arriving, Giving, Ticking_devices, Ticking_chip, Ticking_decoder, Ticking_host, Sleeping, Submitting, Moving, Moved}
+use Rattle.proof_answered.specs.proof_calm.Tied.{on_line, unheard}
 use Rattle.proof_answered.specs.FirstAttempts.{AllFirst}
 use Rattle.proof_answered.specs.Workers.{IsWorkedFor, KnowStaff}
 use Rattle.proof_messages.specs.Asking.{takes_openly}

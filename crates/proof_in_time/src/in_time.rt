@@ -9,10 +9,10 @@ ghost use Rattle.world_model.specs.State.{Machine};
 ghost use Rattle.world_lines.specs.Spoken.{Spoken, after_all, transcript_of};
 ghost use Rattle.world_lines.specs.Done.{AreDone, events_of};
 ghost use Rattle.world_lines.specs.Whole.{AreWhole};
-ghost use Rattle.proof_calm.specs.proof_work.proof_walk.Phases.{Between, Phase};
-ghost use Rattle.proof_calm.specs.proof_work.proof_walk.Walk.{WalkWhere};
-ghost use Rattle.proof_calm.specs.proof_work.Phases.{AsksNothing};
-ghost use Rattle.proof_calm.specs.Tied.{IsTied};
+ghost use Rattle.proof_answered.specs.proof_calm.proof_work.proof_walk.Phases.{Between, Phase};
+ghost use Rattle.proof_answered.specs.proof_calm.proof_work.proof_walk.Walk.{WalkWhere};
+ghost use Rattle.proof_answered.specs.proof_calm.proof_work.Phases.{AsksNothing};
+ghost use Rattle.proof_answered.specs.proof_calm.Tied.{IsTied};
 ghost use Rattle.proof_answered.specs.Few.{AreFew};
 ghost use Rattle.proof_answered.specs.FirstAttempts.{AllFirst, IsInTime};
 ghost use Rattle.proof_answered.specs.Outward.{AllListen};
@@ -20,8 +20,8 @@ ghost use Rattle.proof_answered.specs.Workers.{KnowsWorkers, OnlySpeak};
 ghost use Rattle.proof_in_time.specs.Coming.{AllWaitFor, GoWhole, IsKeptFor, IsPlainly, KnowPlainly, KnowWaits};
 
 use crate::messages_are_answered;
+use proof_answered::calm::waking::traffic::frames_fly_in_order;
 use proof_answered::{attempts_stay_first, workers_alone_speak};
-use proof_calm::waking::traffic::frames_fly_in_order;
 
 /// Over a stretch of lines for nodes that listen and list neither Transport Service nor Security 0, in which the keeper does not fail, while an attempt of one
 /// of these runs its request is on its way to the chip, or its message is on the air, or the report of its device is, or the chip has that for the host: so the

@@ -75,3 +75,5 @@ pub use Rattle.proof_attempts.proofs.Queueing
 pub use Rattle.proof_attempts.proofs.HostNotes
 pub use Rattle.proof_attempts.proofs.InOrder
 pub use Rattle.proof_sending.proofs.Grounds as proof_sending_Grounds
+pub use Rattle.proof_attempts.proofs.proof_waking_Parts
+pub use Rattle.proof_attempts.proofs.UnderWay

@@ -5,3 +5,5 @@ pub mod Sleeping
 pub use Rattle.proof_attempts.specs as proof_attempts
 pub use Rattle.proof_sending.specs as proof_sending
 pub use Rattle.proof_world.specs as proof_world
+pub use Rattle.proof_known.specs as proof_known
+pub use Rattle.proof_attempts.specs.proof_requests as proof_requests

@@ -24,5 +24,8 @@ mod sleeping;
 
 pub use fits::{hosts_fit_their_queue, hosts_go_by_messages};
 pub use going::{rejected_going, worked_going};
+pub use proof_attempts as attempts;
+pub use proof_known as known;
+pub use proof_sending as sending;
 pub use queued::hosts_queue_as_told;
 pub use sleeping::hosts_let_sleep_as_told;

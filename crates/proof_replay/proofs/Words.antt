@@ -23,8 +23,8 @@ use Rattle.port_run.specs.Lines.{is_served}
 use Rattle.port_run.specs.Steps.{Place, Step, Asks, Takes, Rests, Ticks, Pumps, Ran, asked_by}
 use Rattle.port_run.specs.declared.asking.Answer.TheVariants.{Taken, Command, Refused}
 use Rattle.proof_asking.proofs.HostOuts.{OutIs}
-use Rattle.proof_ends.specs.proof_notes.proof_attempts.proof_walk.Outside.{IsHostNote}
-use Rattle.proof_ends.proofs.HostNotes.{NoteOuts, all_outs_note}
+use Rattle.proof_choice.specs.proof_ends.proof_notes.proof_attempts.proof_walk.Outside.{IsHostNote}
+use Rattle.proof_choice.proofs.HostNotes.{NoteOuts, all_outs_note}
 use Rattle.run_replay.specs.Lines.{IsReplayed}
 use Rattle.run_replay.specs.Machine.{Lone, Event, entries, entries_of, happens, timed}
 use Rattle.run_replay.specs.Machine as replay

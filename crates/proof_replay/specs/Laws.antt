@@ -28,18 +28,18 @@ use Rattle.law_time.specs.Waking.{FallsAsleep, WakesAsTold}
 use Rattle.run_lines.specs.Lines.{TextLine}
 use Rattle.run_replay.specs.Machine.{Lone}
 use Rattle.proof_host.specs.Laws.{HostLaws}
-use Rattle.proof_ends.specs.proof_notes.proof_attempts.proof_walk.Time.{MayCount}
+use Rattle.proof_choice.specs.proof_ends.proof_notes.proof_attempts.proof_walk.Time.{MayCount}
 use Rattle.proof_asking.specs.proof_requests.proof_alone.State.{HostMachine, first_alone}
 use Rattle.proof_asking.specs.proof_requests.proof_alone.Phases.{Resting}
 use Rattle.proof_asking.specs.proof_requests.proof_alone.Runs.{Run}
 use Rattle.proof_asking.specs.proof_requests.proof_alone.Careful.{Careful}
 use Rattle.proof_asking.specs.proof_known.Known.{AreForHost, KeepsWhatIsSaid}
 use Rattle.proof_asking.specs.proof_known.Noted.{NotesWhatOpens, NotesWhatWasTold}
-use Rattle.proof_ends.specs.proof_notes.Full.{NotesInFull}
-use Rattle.proof_ends.specs.Ends.{NotesOfEnds}
-use Rattle.proof_ends.specs.proof_nonces.Giving.{CountsNonces}
-use Rattle.proof_ends.specs.proof_nonces.Sealing.{SealsOnce}
-use Rattle.proof_ends.specs.proof_notes.Unkept.{UnkeptWhereAsked}
+use Rattle.proof_choice.specs.proof_ends.proof_notes.Full.{NotesInFull}
+use Rattle.proof_choice.specs.proof_ends.Ends.{NotesOfEnds}
+use Rattle.proof_choice.specs.proof_ends.proof_nonces.Giving.{CountsNonces}
+use Rattle.proof_choice.specs.proof_ends.proof_nonces.Sealing.{SealsOnce}
+use Rattle.proof_choice.specs.proof_ends.proof_notes.Unkept.{UnkeptWhereAsked}
 use Rattle.proof_replay.specs.Heard.{AreReplayed, AreSaid, Replayed, heard_of, told_of}
 
 -- By some messages of each payload, those that the host took up, it does what it is asked for as soon as it can, each thing in its turn; and so after what stood before.

@@ -26,10 +26,10 @@ use proof_asking::requests::alone::traffic::hosts_obey_the_line;
 use proof_asking::requests::alone::{hosts_keep_their_tables, hosts_tell_time};
 use proof_asking::requests::{hosts_answer_questions, hosts_end_interviews};
 use proof_asking::{hosts_ask_one_by_one, hosts_say_how_done, hosts_send_what_is_due};
-use proof_ends::hosts_note_ends;
-use proof_ends::nonces::{hosts_count_nonces, hosts_seal_once};
-use proof_ends::notes::attempts::{hosts_fall_asleep_as_told, hosts_hold_as_asked};
-use proof_ends::notes::{hosts_note_in_full, hosts_say_what_is_not_kept};
+use proof_choice::ends::hosts_note_ends;
+use proof_choice::ends::nonces::{hosts_count_nonces, hosts_seal_once};
+use proof_choice::ends::notes::attempts::{hosts_fall_asleep_as_told, hosts_hold_as_asked};
+use proof_choice::ends::notes::{hosts_note_in_full, hosts_say_what_is_not_kept};
 use proof_choice::hosts_are_prompt;
 
 /// Of any lines that are run whole, over any bytes and any keeper, what the host of `replay` heard is told by a run of a host alone that began without

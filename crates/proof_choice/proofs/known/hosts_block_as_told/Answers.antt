@@ -1,6 +1,6 @@
 -- The tie lasts along each run.
-use Rattle.proof_queue.specs.proof_attempts.Since.{KnowsSince}
-use Rattle.proof_queue.proofs.Lasting.{along, since_walk}
+use Rattle.proof_giving.specs.proof_queue.proof_attempts.Since.{KnowsSince}
+use Rattle.proof_giving.proofs.Lasting.{along, since_walk}
 use Rattle.proof_choice.specs.Blocked.{BlockingGround, BlocksAsTold}
 use Rattle.proof_choice.proofs.BlockedTie.{blocks_last, first_blocks}
 use Rattle.proof_choice.proofs.known.hosts_block_as_told.Goals as goal

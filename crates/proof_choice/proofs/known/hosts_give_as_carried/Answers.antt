@@ -1,7 +1,7 @@
 -- The tie lasts along each run.
-use Rattle.proof_queue.specs.proof_attempts.Since.{KnowsSince}
-use Rattle.proof_queue.specs.proof_attempts.Waking.{KnowsWork}
-use Rattle.proof_queue.proofs.Lasting.{along, since_walk}
+use Rattle.proof_giving.specs.proof_queue.proof_attempts.Since.{KnowsSince}
+use Rattle.proof_giving.specs.proof_queue.proof_attempts.Waking.{KnowsWork}
+use Rattle.proof_giving.proofs.Lasting.{along, since_walk}
 use Rattle.proof_choice.specs.Plans.{PlansAreSo}
 use Rattle.proof_choice.proofs.Plans.{first_plans, plans_last}
 use Rattle.proof_choice.proofs.known.hosts_give_as_carried.Goals as goal

@@ -9,20 +9,20 @@ use Rattle.law_time.specs.Heeds.{Heeds}
 use Rattle.law_time.specs.Moments.{Allows}
 use Rattle.law_time.specs.Waking.{may_wake}
 use Rattle.proof_host.specs.Facts.{Facts}
-use Rattle.proof_queue.specs.proof_attempts.proof_requests.law_host.Heard.{heeds_alone}
-use Rattle.proof_queue.specs.proof_attempts.proof_requests.Walking.{Ground as RequestsGround, KnowsAsked}
-use Rattle.proof_queue.specs.proof_attempts.proof_requests.proof_alone.State.{HostMachine, first_alone}
-use Rattle.proof_queue.specs.proof_attempts.proof_requests.proof_alone.Phases.{Phase}
-use Rattle.proof_queue.specs.proof_attempts.proof_requests.proof_alone.Careful.{Careful}
-use Rattle.proof_queue.specs.proof_attempts.proof_requests.proof_alone.Runs.{Knowledge, Run, both_know}
-use Rattle.proof_queue.specs.proof_attempts.Since.{KnowsSince}
-use Rattle.proof_queue.proofs.Lasting.{since_walk}
-use Rattle.proof_queue.proofs.Queued.{PayloadsBring}
-use Rattle.proof_queue.proofs.Running.{run_keeps}
-use Rattle.proof_rests.specs.proof_nonces.proof_known.Known.{KnowsTold, KnowsWhole}
-use Rattle.proof_queue.specs.Heeding.{AllSteps, HeedsAs, HeedsSo}
-use Rattle.proof_queue.proofs.Seeing.{Sights, sights_along}
-use Rattle.proof_queue.proofs.Segments.{Shows}
+use Rattle.proof_giving.specs.proof_queue.proof_attempts.proof_requests.law_host.Heard.{heeds_alone}
+use Rattle.proof_giving.specs.proof_queue.proof_attempts.proof_requests.Walking.{Ground as RequestsGround, KnowsAsked}
+use Rattle.proof_giving.specs.proof_queue.proof_attempts.proof_requests.proof_alone.State.{HostMachine, first_alone}
+use Rattle.proof_giving.specs.proof_queue.proof_attempts.proof_requests.proof_alone.Phases.{Phase}
+use Rattle.proof_giving.specs.proof_queue.proof_attempts.proof_requests.proof_alone.Careful.{Careful}
+use Rattle.proof_giving.specs.proof_queue.proof_attempts.proof_requests.proof_alone.Runs.{Knowledge, Run, both_know}
+use Rattle.proof_giving.specs.proof_queue.proof_attempts.Since.{KnowsSince}
+use Rattle.proof_giving.proofs.Lasting.{since_walk}
+use Rattle.proof_giving.proofs.Queued.{PayloadsBring}
+use Rattle.proof_giving.proofs.Running.{run_keeps}
+use Rattle.proof_ends.specs.proof_rests.proof_nonces.proof_known.Known.{KnowsTold, KnowsWhole}
+use Rattle.proof_giving.specs.proof_queue.Heeding.{AllSteps, HeedsAs, HeedsSo}
+use Rattle.proof_giving.proofs.Seeing.{Sights, sights_along}
+use Rattle.proof_giving.proofs.proof_queue_Segments.{Shows}
 use Rattle.proof_choice.specs.Counting.{KnowsCounts, KnowsReady}
 use Rattle.proof_choice.specs.Served.{ServedAsTold}
 use Rattle.proof_choice.specs.Turning.{AllAlong, KnowsAll}

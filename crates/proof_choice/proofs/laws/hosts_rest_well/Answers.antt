@@ -9,16 +9,16 @@ use Rattle.law_transcript.specs.Units.{Carried}
 use Rattle.law_time.specs.Heeds.{Heeds}
 use Rattle.law_time.specs.Moments.{Allows}
 use Rattle.law_time.specs.Rests.{is_rest, may_rest}
-use Rattle.proof_queue.specs.proof_attempts.proof_requests.law_host.Heard.{heeds_alone}
-use Rattle.proof_queue.specs.proof_attempts.proof_requests.proof_alone.State.{HostMachine, first_alone}
-use Rattle.proof_queue.specs.proof_attempts.proof_requests.proof_alone.Phases.{Phase, Resting}
-use Rattle.proof_queue.specs.proof_attempts.proof_requests.proof_alone.Careful.{Careful}
-use Rattle.proof_queue.specs.proof_attempts.proof_requests.proof_alone.Runs.{Knowledge, Run, both_know}
-use Rattle.proof_queue.specs.proof_attempts.proof_requests.proof_alone.Time.{TieClock}
-use Rattle.proof_queue.specs.Heeding.{AllSteps, HeedsAs, HeedsSo}
-use Rattle.proof_rests.specs.Known.{KnowsAll as KnowsDone, WasSo}
-use Rattle.proof_rests.specs.Undone.{may_begin}
-use Rattle.proof_rests.proofs.AtRests.{before_line, rests_walk}
+use Rattle.proof_giving.specs.proof_queue.proof_attempts.proof_requests.law_host.Heard.{heeds_alone}
+use Rattle.proof_giving.specs.proof_queue.proof_attempts.proof_requests.proof_alone.State.{HostMachine, first_alone}
+use Rattle.proof_giving.specs.proof_queue.proof_attempts.proof_requests.proof_alone.Phases.{Phase, Resting}
+use Rattle.proof_giving.specs.proof_queue.proof_attempts.proof_requests.proof_alone.Careful.{Careful}
+use Rattle.proof_giving.specs.proof_queue.proof_attempts.proof_requests.proof_alone.Runs.{Knowledge, Run, both_know}
+use Rattle.proof_giving.specs.proof_queue.proof_attempts.proof_requests.proof_alone.Time.{TieClock}
+use Rattle.proof_giving.specs.proof_queue.Heeding.{AllSteps, HeedsAs, HeedsSo}
+use Rattle.proof_ends.specs.proof_rests.Known.{KnowsAll as KnowsDone, WasSo}
+use Rattle.proof_ends.specs.proof_rests.Undone.{may_begin}
+use Rattle.proof_ends.proofs.AtRests.{before_line, rests_walk}
 use Rattle.proof_choice.specs.Resting.{RestingGround, rests_with_none}
 use Rattle.proof_choice.specs.Turning.{AllAlong, KnowsAll}
 use Rattle.proof_choice.specs.Waits.{AskingGround}

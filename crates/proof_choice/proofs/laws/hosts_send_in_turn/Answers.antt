@@ -2,11 +2,11 @@
 use Rattle.std.proofs.Common.{[]}
 use Rattle.std.specs.Prelude.{Some}
 use Rattle.law_time.specs.Moments.{Allows}
-use Rattle.proof_queue.specs.proof_attempts.proof_requests.law_host.Heard.{heeds_alone}
-use Rattle.proof_queue.specs.proof_attempts.proof_requests.proof_alone.State.{first_alone}
-use Rattle.proof_queue.specs.proof_attempts.proof_requests.proof_alone.Runs.{both_know}
-use Rattle.proof_queue.specs.proof_attempts.Waking.{KnowsWork}
-use Rattle.proof_queue.proofs.Queued.{PayloadsBring}
+use Rattle.proof_giving.specs.proof_queue.proof_attempts.proof_requests.law_host.Heard.{heeds_alone}
+use Rattle.proof_giving.specs.proof_queue.proof_attempts.proof_requests.proof_alone.State.{first_alone}
+use Rattle.proof_giving.specs.proof_queue.proof_attempts.proof_requests.proof_alone.Runs.{both_know}
+use Rattle.proof_giving.specs.proof_queue.proof_attempts.Waking.{KnowsWork}
+use Rattle.proof_giving.proofs.Queued.{PayloadsBring}
 use Rattle.proof_choice.specs.Choosing.{may_choose}
 use Rattle.proof_choice.specs.Turning.{ChoosingGround, KnowsAll}
 use Rattle.proof_choice.specs.Waits.{AskingGround}

@@ -7,12 +7,12 @@ use Rattle.host_heard.specs.declared.told.Told.{Told}
 use Rattle.law_transcript.specs.Units.{Carried}
 use Rattle.law_time.specs.Rests.{RestsWell}
 use Rattle.law_time.specs.Unanswered.{GivesUpAfterThree}
-use Rattle.proof_queue.specs.proof_attempts.proof_requests.law_host.Heard.{heeds_alone}
-use Rattle.proof_queue.specs.proof_attempts.proof_requests.proof_alone.State.{HostMachine, first_alone}
-use Rattle.proof_queue.specs.proof_attempts.proof_requests.proof_alone.Phases.{Phase, Resting}
-use Rattle.proof_queue.specs.proof_attempts.proof_requests.proof_alone.Careful.{Careful}
-use Rattle.proof_queue.specs.proof_attempts.proof_requests.proof_alone.Runs.{Run}
-use Rattle.proof_queue.specs.Heeding.{AllSteps, HeedsAs, HeedsSo}
+use Rattle.proof_giving.specs.proof_queue.proof_attempts.proof_requests.law_host.Heard.{heeds_alone}
+use Rattle.proof_giving.specs.proof_queue.proof_attempts.proof_requests.proof_alone.State.{HostMachine, first_alone}
+use Rattle.proof_giving.specs.proof_queue.proof_attempts.proof_requests.proof_alone.Phases.{Phase, Resting}
+use Rattle.proof_giving.specs.proof_queue.proof_attempts.proof_requests.proof_alone.Careful.{Careful}
+use Rattle.proof_giving.specs.proof_queue.proof_attempts.proof_requests.proof_alone.Runs.{Run}
+use Rattle.proof_giving.specs.proof_queue.Heeding.{AllSteps, HeedsAs, HeedsSo}
 use Rattle.proof_choice.proofs.prompt.hosts_are_prompt.Goals as goal
 
 module _ (c : goal.After-hosts_rest_well) (keys : Keys) (taken : List Entry → Carried → List Told) where

@@ -8,8 +8,8 @@ use Rattle.law_transcript.specs.Units.{Carried}
 use Rattle.law_time.specs.Moments.{Allows}
 use Rattle.law_time.specs.Waking.{may_wake}
 use Rattle.proof_host.specs.Facts.{Facts}
-use Rattle.proof_sending.proofs.Grounds.{carried_so}
-use Rattle.proof_known.specs.Known.{KnowsOrders}
+use Rattle.proof_queue.proofs.proof_sending_Grounds.{carried_so}
+use Rattle.proof_queue.specs.proof_known.Known.{KnowsOrders}
 use Rattle.proof_queue.specs.proof_attempts.proof_requests.law_host.Heard.{heeds_alone, listing_heard}
 use Rattle.proof_queue.specs.proof_attempts.proof_requests.proof_alone.State.{HostMachine, first_alone}
 use Rattle.proof_queue.specs.proof_attempts.proof_requests.proof_alone.Phases.{Phase}

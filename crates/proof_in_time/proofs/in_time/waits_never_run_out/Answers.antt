@@ -1,8 +1,8 @@
 -- One walk over lines for these nodes, beside the one that these alone speak.
 use Rattle.std.proofs.Common.{[]}
-use Rattle.proof_calm.proofs.Where.{where_whole}
-use Rattle.proof_calm.specs.proof_work.Phases.{AsksNothing}
-use Rattle.proof_calm.proofs.proof_traffic_Parts.{Airs}
+use Rattle.proof_answered.proofs.Where.{where_whole}
+use Rattle.proof_answered.specs.proof_calm.proof_work.Phases.{AsksNothing}
+use Rattle.proof_answered.proofs.proof_traffic_Parts.{Airs}
 use Rattle.proof_answered.proofs.HeardCalls.{rests_heard}
 use Rattle.proof_answered.proofs.Walking.{begins_known}
 use Rattle.proof_in_time.specs.Coming.{IsPlainly, KnowPlainly}

@@ -8,8 +8,8 @@ use Rattle.proof_asking.specs.proof_requests.proof_alone.Phases.{Phase, Resting}
 use Rattle.proof_asking.specs.proof_requests.proof_alone.Runs.{Run, Told, ToldWhole}
 use Rattle.law_transcript.specs.Payloads.{BeginsWithUnit}
 use Rattle.law_wire.specs.Serial.{ended}
-use Rattle.proof_ends.specs.proof_notes.Full.{NotesInFull}
-use Rattle.proof_ends.specs.Ends.{NotesOfEnds}
+use Rattle.proof_choice.specs.proof_ends.proof_notes.Full.{NotesInFull}
+use Rattle.proof_choice.specs.proof_ends.Ends.{NotesOfEnds}
 use Rattle.law_time.specs.Waking.{FallsAsleep}
 use Rattle.proof_replay.proofs.replay.hosts_keep_laws.Goals as goal
 
