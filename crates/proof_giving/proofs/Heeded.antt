@@ -169,8 +169,8 @@ module _ (n sid : ℕ) where
 
   nonce_report : (h : HostState) (nonce : List ℕ) (count : Option ℕ) (events : List HostEvent) → NonceReportEvents h n nonce count events → So (taken_up events (NonceReport nonce)) events
   nonce_report h nonce None events is = as_so (NonceReport nonce) events [] is refl
-  nonce_report h nonce (Some seen) events (own, text, seals, inl is) = as_so (NonceReport nonce) events (Takes_nonce n seen text ∷ []) is refl
-  nonce_report h nonce (Some seen) events (own, text, seals, inr is) = as_so (NonceReport nonce) events (Is_unkept n ∷ []) is refl
+  nonce_report h nonce (Some seen) events (own, text, seals, inl is, sure) = as_so (NonceReport nonce) events (Takes_nonce n seen text ∷ []) is refl
+  nonce_report h nonce (Some seen) events (own, text, seals, inr is, sure) = as_so (NonceReport nonce) events (Is_unkept n ∷ []) is refl
 
   segment : (id offset : ℕ) (found : Option (List ℕ)) (events : List HostEvent) → events ≡ resent n found → So (taken_up events (SegmentRequest id offset)) events
   segment id offset None events is = as_so (SegmentRequest id offset) events [] is refl
