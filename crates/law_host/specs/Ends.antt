@@ -1,7 +1,7 @@
 -- What the end of a request has the host note (Serial API: a request, its response and its callback; Wake Up Command Class; which notes come of
 -- which end is this project's own rule).
 use Rattle.std.specs.Prelude.{ℕ, ◌&&◌, ◌||◌, not, Bool, true, if◌then◌else◌, List, [], ◌∷◌, ◌++◌, filter, map}
-use Rattle.std.specs.List.{flat_map}
+use Rattle.std.specs.List.{flat_map, list_any}
 use Rattle.chip_functions.specs.declared.request.Request.{Request}
 use Rattle.chip_functions.specs.declared.request.Request.TheVariants as requests
 use Rattle.chip_functions.specs.declared.response.Response.{Response}
@@ -18,6 +18,7 @@ use Rattle.law_time.specs.Moments.{clock}
 use Rattle.law_time.specs.Judged.{responses_here}
 use Rattle.law_time.specs.Requests.{asked, request_last}
 use Rattle.law_time.specs.Ends.{ends_here, is_called_back, is_ending_here}
+use Rattle.law_time.specs.Attempts.{serving}
 use Rattle.law_time.specs.Errands.{errand}
 use Rattle.law_time.specs.Interviews.{fails, node_interviewed, succeeds}
 use Rattle.law_time.specs.Unanswered.{to_give_up}
@@ -73,9 +74,16 @@ is_of_sealed carried = begins_with carried.payload 0x98 0x40 || begins_with carr
 abbrev pub ends_sealing : Carried → Course → Course
 ends_sealing carried course = if is_of_sealed carried then without_texts carried.node course else course
 
+-- the command that the end of the last request gives up for a node: where the request is of its attempt
+abbrev pub to_give_up_by_end : Heeds → List Entry → ℕ → ℕ → List ℕ
+to_give_up_by_end heeds past now node =
+    if list_any (λ attempts. attempts.own) (serving heeds (node ∷ []) past).each then to_give_up heeds past now node else []
+
 -- what was sent to a node has ended badly, by a time
 abbrev pub ends_badly : Heeds → List Entry → ℕ → Carried → Course → Course
-ends_badly heeds past now carried course = gives_up_late heeds past now carried.node (ends_sealing carried course)
+ends_badly heeds past now carried course =
+    let ended : Course = ends_sealing carried course in
+    each_in_turn (gives_up past carried.node) (to_give_up_by_end heeds (past ++ ended.due) now carried.node) ended
 
 -- ---- the end
 

@@ -24,7 +24,7 @@ use Rattle.law_time.specs.Heeds.{heeds_of}
 use Rattle.law_time.specs.WorkedWaking.{failing_report}
 use Rattle.law_time.specs.WorkedWaits.{waited_attempts}
 use Rattle.law_time.specs.WorkedTurns.{filled, given_up_plug, second_wanted}
-use Rattle.law_time.specs.WorkedUnits.{by_chip, by_host, chip_acknowledges, delivered, host_acknowledges, nonce_asked, notified, taken}
+use Rattle.law_time.specs.WorkedUnits.{by_chip, by_host, chip_acknowledges, delivered, host_acknowledges, message_sent, nonce_asked, notified, taken}
 use Rattle.law_host.specs.Course.{Choices}
 use Rattle.law_host.specs.Notes.{Start, course_of}
 
@@ -45,6 +45,29 @@ given_up_beside_copy =
 -- the command is given up, and that is not said
 abbrev pub left_beside_copy : List Entry
 left_beside_copy = take 51 given_up_beside_copy
+
+-- `set 2 on`, `set 10 on`, whose reports never come: the last signs of both third attempts are of one tick, and a `get 10` that is not called back ends in silence in the tick in which both are over.
+-- That request is of no attempt, so its end gives up no command: both are given up in the order of their nodes
+abbrev pub given_up_in_order : List Entry
+given_up_in_order =
+    Said (codes "join 10") ∷ Said (codes "interview 10") ∷ by_host (codes "010400410AB0") ∷ chip_acknowledges ∷
+    by_chip (codes "0109014180000004000032") ∷ host_acknowledges ∷ by_host (codes "010400600A91") ∷ chip_acknowledges ∷
+    by_chip (codes "01040160019B") ∷ host_acknowledges ∷ by_chip (codes "010B0049840A05041001256C6A") ∷ host_acknowledges ∷ Interviewed 10 ∷
+    Said (codes "tick 1") ∷ Said (codes "set 2 on") ∷ Accepted 1 2 ∷ Begin 2 1 1 ∷ message_sent ∷ Said (codes "set 10 on") ∷ Accepted 2 10 ∷
+    chip_acknowledges ∷ taken ∷ host_acknowledges ∷ delivered ∷ host_acknowledges ∷ Begin 10 1 2 ∷
+    by_host (codes "010E00130A076C0101032501FF25027C") ∷ chip_acknowledges ∷ taken ∷ host_acknowledges ∷ by_chip (codes "010500130200EB") ∷
+    host_acknowledges ∷ Said (codes "tick 100") ∷ Time 101 ∷ by_host (codes "010E001302076C0101032501FF250375") ∷ chip_acknowledges ∷ taken ∷
+    host_acknowledges ∷ by_chip (codes "010500130300EA") ∷ host_acknowledges ∷ by_host (codes "010E00130A076C0101032501FF25047A") ∷
+    chip_acknowledges ∷ taken ∷ host_acknowledges ∷ by_chip (codes "010500130400ED") ∷ host_acknowledges ∷ Said (codes "tick 100") ∷ Time 201 ∷
+    by_host (codes "010E001302076C0101032501FF250573") ∷ chip_acknowledges ∷ taken ∷ host_acknowledges ∷ by_chip (codes "010500130500EC") ∷
+    host_acknowledges ∷ by_host (codes "010E00130A076C0101032501FF250678") ∷ chip_acknowledges ∷ taken ∷ host_acknowledges ∷
+    by_chip (codes "010500130600EF") ∷ host_acknowledges ∷ Said (codes "tick 35") ∷ Said (codes "get 10") ∷
+    by_host (codes "010900130A0225022507E8") ∷ chip_acknowledges ∷ taken ∷ host_acknowledges ∷ Said (codes "tick 70") ∷ Time 301 ∷
+    Done 10 done.Silent ∷ Out 1 endings.Unanswered ∷ Out 2 endings.Unanswered ∷ by_host (codes "01030016EA") ∷ []
+
+-- the command of the other node is given up first, as if by the end of that request
+abbrev pub given_up_by_other : List Entry
+given_up_by_other = take 69 given_up_in_order ++ Out 2 endings.Unanswered ∷ Out 1 endings.Unanswered ∷ []
 
 -- ---- values
 

@@ -24,6 +24,8 @@ ghost use Rattle.law_host.specs.Worked.{
   ended_otherwise,
   failure_told,
   given_up_beside_copy,
+  given_up_by_other,
+  given_up_in_order,
   held_at_failure,
   hold_left_out,
   last_session,
@@ -50,7 +52,7 @@ ghost use Rattle.law_host.specs.Worked.{
 };
 ghost use Rattle.law_time.specs.WorkedEnds.{asleep_given_up, asleep_in_silence, given_up_at_answer, interview_refused, interview_uninformed};
 ghost use Rattle.law_time.specs.WorkedTurns.{dropped_after_report};
-ghost use Rattle.law_time.specs.WorkedWaits.{answered_errands, waited_attempts};
+ghost use Rattle.law_time.specs.WorkedWaits.{answered_errands, the_other_switch, waited_attempts};
 ghost use Rattle.law_time.specs.WrongEnds.{awake_after_link, awake_in_next_line};
 ghost use Rattle.law_transcript.specs.Worked.{
   cancelled_order,
@@ -66,9 +68,9 @@ ghost use Rattle.law_transcript.specs.Worked.{
 
 /// In worked transcripts the host notes what happens: outcomes of each kind, values, old reports and one that a lock told openly, waking and sleep,
 /// interviews, questions and the ends of what lines asked for, by frames, by waits, also after a copy that stands in the same tick, and by an answer that
-/// has the line give up. The last of 65
-/// sessions ends by its report. A node is held that asks to be, a value is not stored for which there is no room, a Nonce Report is dropped where the
-/// queue is full, and a session whose record is not kept does not begin. Of a report of work nothing is noted, nor of one that the line has changed
+/// has the line give up. Commands of two nodes are given up in order in a tick in which a request of no attempt ends. The last of 65 sessions ends by its
+/// report. A node is held that asks to be, a value is not stored for which there is no room, a Nonce Report is dropped where the queue is full, and a
+/// session whose record is not kept does not begin. Of a report of work nothing is noted, nor of one that the line has changed
 /// and the host refused, and a payload is not read that is no message, or is sealed for a nonce that is not live.
 pub fn worked_notes()
     ensures plain { NotesWhatHappens [] (heeds_of (the_switch ∷ [])) first_start true plain_exchange }
@@ -80,6 +82,7 @@ pub fn worked_notes()
     ensures answered { NotesWhatHappens [] (heeds_of (the_switch ∷ [])) first_start true answered_errands }
     ensures waited { NotesWhatHappens [] (heeds_of (the_switch ∷ [])) first_start true waited_attempts }
     ensures beside_copy { NotesWhatHappens [] (heeds_of (the_switch ∷ [])) first_start true given_up_beside_copy }
+    ensures in_order { NotesWhatHappens [] (heeds_of (the_switch ∷ the_other_switch ∷ [])) first_start true given_up_in_order }
     ensures value { NotesWhatHappens [] (heeds_of (the_switch ∷ [])) first_start true value_heard }
     ensures last { NotesWhatHappens [] (heeds_of (the_switch ∷ [])) after_sessions true last_session }
     ensures failed { NotesWhatHappens [] (heeds_of (the_switch ∷ [])) after_begun true failure_told }
@@ -103,18 +106,19 @@ pub fn worked_notes()
     ensures unstored { NotesWhatHappens [] (heeds_of (the_switch ∷ [])) after_values true value_unstored }
 {}
 
-/// Each of these breaks the law by one entry: a value that was told is left out, is entered twice, as another, again later, or without room; an old
-/// report is left out, and that a command is given up after a copy; the last of 65 sessions ends, of which the report did not come, though that of
-/// the first, with the same id, once did; a command ends otherwise than its report says, as another, by the report of another session, by one of
-/// work, by one that the line has changed and the host refused, or by one that a lock told openly or sealed for a nonce that is not live; what is
-/// no message is left out; another node counts as awake than told so; a node still counts as awake in the line after its message ended in silence,
-/// or in the tick after the line gave that up; one is not held that asks to be; a record is not kept that was not to be; and a message is dropped
-/// before the value that the payload told first, or as if of another node.
+/// Each of these breaks the law by one entry: a value that was told is left out, is entered twice, as another, again later, or without room; an old report
+/// is left out, and that a command is given up after a copy; a command is given up by the end of a request of no attempt; the last of 65 sessions ends, of
+/// which the report did not come, though that of the first, with the same id, once did; a command ends otherwise than its report says, as another, by the
+/// report of another session, by one of work, by one that the line has changed and the host refused, or by one that a lock told openly or sealed for a
+/// nonce that is not live; what is no message is left out; another node counts as awake than told so; a node still counts as awake in the line after its
+/// message ended in silence, or in the tick after the line gave that up; one is not held that asks to be; a record is not kept that was not to be; and a
+/// message is dropped before the value that the payload told first, or as if of another node.
 pub fn rejected_notes()
     ensures left_out { NotesWhatHappens [] (heeds_of (the_switch ∷ [])) first_start true value_left_out → ⊥ }
     ensures twice { NotesWhatHappens [] (heeds_of (the_switch ∷ [])) first_start true value_twice → ⊥ }
     ensures again { NotesWhatHappens [] (heeds_of (the_switch ∷ [])) first_start true value_again → ⊥ }
     ensures beside_copy { NotesWhatHappens [] (heeds_of (the_switch ∷ [])) first_start true left_beside_copy → ⊥ }
+    ensures by_other_request { NotesWhatHappens [] (heeds_of (the_switch ∷ the_other_switch ∷ [])) first_start true given_up_by_other → ⊥ }
     ensures old { NotesWhatHappens [] (heeds_of (the_switch ∷ [])) first_start true old_left_out → ⊥ }
     ensures first { NotesWhatHappens [] (heeds_of (the_switch ∷ [])) after_sessions true ended_by_first → ⊥ }
     ensures value { NotesWhatHappens [] (heeds_of (the_switch ∷ [])) first_start true value_otherwise → ⊥ }

@@ -2,25 +2,25 @@ mod Served
 mod ServedTie
 mod Failures
 mod BlockedTie
-mod Staying
-mod Plans
-mod Parts
+pub mod Staying
+pub mod Plans
+pub mod Parts
 mod Turns
-mod Owners
+pub mod Owners
 mod Choices
 mod Choosing
 mod Resting
-mod Along
+pub mod Along
 mod Readies
 mod InTurn
 mod Whole
 mod Wanting
 mod Nonces
 mod ReadyGoes
-mod ReadyTie
+pub mod ReadyTie
 mod ReadyWalk
 mod ReadyJudged
-mod ReadyStarts
+pub mod ReadyStarts
 mod Unended
 mod ReadyFrames
 mod ReadyAlong

@@ -72,7 +72,7 @@ all_keep past [] n is = ap (λ (l : List Entry). is_among (joined l) n) (append-
 all_keep past (e ∷ told) n is = ap (λ (l : List Entry). is_among (joined l) n) (sym (append_assoc past (e ∷ []) told)) ∙ all_keep (past ++ e ∷ []) told n (one_keeps past e n is)
 
 -- so the node of each command that was accepted joined
-accepted_joined : (past told : List Entry) (command n : ℕ) (more : List ℕ) → EachAfter OwnLaw past told → shown (node_at command) told ≡ n ∷ more → is_among (joined (past ++ told)) n ≡ true
+pub accepted_joined : (past told : List Entry) (command n : ℕ) (more : List ℕ) → EachAfter OwnLaw past told → shown (node_at command) told ≡ n ∷ more → is_among (joined (past ++ told)) n ≡ true
 accepted_joined past [] command n more law is = absurd (let bad : [] ≡ n ∷ more = is in cc)
 accepted_joined past (entry.Accepted number node ∷ told) command n more law is =
     by (number == command) refl is

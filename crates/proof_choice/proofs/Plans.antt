@@ -81,7 +81,7 @@ on_with h g n facts keeps stays so runs session number command opened carried fo
 
 -- ---- an attempt starts
 
-nothing_left : (s : NodeState) → NodeFacts s → s.series ≡ Due → (s.segments ≡ 0) × (s.text ≡ None) × (s.pending ≡ None)
+pub nothing_left : (s : NodeState) → NodeFacts s → s.series ≡ Due → (s.segments ≡ 0) × (s.text ≡ None) × (s.pending ≡ None)
 nothing_left s facts due = by s.series due facts.series
   where
     by : (x : Series) → x ≡ Due → SeriesFacts x s.book s.attempt_wait s.again_wait s.next_segment s.segments s.text s.pending → (s.segments ≡ 0) × (s.text ≡ None) × (s.pending ≡ None)

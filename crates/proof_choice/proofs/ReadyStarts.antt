@@ -28,7 +28,7 @@ seen_held one old new texts was now n =
     let later : Give texts (kept_of now.records) = record { records = now.records; are = now.are; legal = now.legal; gives = refl } in
     (now.holds.nodes n).seen ∙ ap (λ (k : Kept). (kept_of_node k n).seen) (one texts (kept_of now.records) (kept_of was.records) later first) ∙ sym (was.holds.nodes n).seen
 
-seen_starts : GiveOne → (old new : HostState) (records : Option (List (List ℕ))) → IsSome records → IsHeld old records → IsHeld new records → (n : ℕ) → (node_of new n).seen ≡ (node_of old n).seen
+pub seen_starts : GiveOne → (old new : HostState) (records : Option (List (List ℕ))) → IsSome records → IsHeld old records → IsHeld new records → (n : ℕ) → (node_of new n).seen ≡ (node_of old n).seen
 seen_starts one old new None told was now n = absurd (let bad : false ≡ true = told in cc)
 seen_starts one old new (Some texts) told was now n = seen_held one old new texts was now n
 

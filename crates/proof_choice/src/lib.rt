@@ -24,3 +24,4 @@ pub use known::{hosts_block_as_told, hosts_give_as_carried};
 pub use laws::{hosts_know_what_they_choose, hosts_rest_well, hosts_send_in_turn};
 pub use prompt::hosts_are_prompt;
 pub use proof_ends as ends;
+pub use proof_giving as giving;

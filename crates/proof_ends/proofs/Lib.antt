@@ -13,3 +13,4 @@ pub use Rattle.proof_rests.proofs.KeptAwake
 pub use Rattle.proof_rests.proofs.Done
 pub use Rattle.proof_rests.proofs.Freeing
 pub use Rattle.proof_rests.proofs.AtRests
+pub use Rattle.proof_rests.proofs.Sleeping as proof_rests_Sleeping

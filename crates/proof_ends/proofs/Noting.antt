@@ -321,7 +321,7 @@ module _ (past : List Entry) (g : HostState) (nodes : NodesSo past g) where
         ∙ ap (λ (l : List Entry). entry.Out at.command ended.Unanswered ∷ l) (ap (λ (b : Bool). asleep_entry b n) so ∙ sym (sleep_is n is)),
   )
 
-  gives_up_so : (told : List Entry) (n : ℕ) (fell : Bool) → IsNode n → EndSo (node_of g n) (Unanswered fell) → told ≡ attempt_entries n (Unanswered fell) (open_command (node_of g n)) → GivesUp past n told
+  pub gives_up_so : (told : List Entry) (n : ℕ) (fell : Bool) → IsNode n → EndSo (node_of g n) (Unanswered fell) → told ≡ attempt_entries n (Unanswered fell) (open_command (node_of g n)) → GivesUp past n told
   gives_up_so told n fell is so are = opened_up told n fell is so.0 (opens (node_of g n).series (node_of g n) (nodes.facts n).series so.1) (open_last (node_of g n)) are
 
   -- in its tick

@@ -264,7 +264,7 @@ loose_goes Submitting past told m later between same numbered aside keeps owes k
 
 -- ---- which nodes tick
 
-ascends_from : (a b : ℕ) (left : List HostEvent) → a ≤ b → Ascends b left → Ascends a left
+pub ascends_from : (a b : ℕ) (left : List HostEvent) → a ≤ b → Ascends b left → Ascends a left
 ascends_from a b [] less above = tt
 ascends_from a b (Line_ticks ∷ left) less above = ascends_from a b left less above
 ascends_from a b (Requests_do event moment ∷ left) less above = ascends_from a b left less above
@@ -280,7 +280,7 @@ nodes_ascend p last from (suc count) less = by (p from) (nodes_ascend p from (fr
     by true rest = (less, rest)
     by false rest = ascends_from last from (map Node_ticks (filter p (range_with_len (from + 1) count))) (omega (arith, less)) rest
 
-ticks_ascend : (h : HostState) → Ascends 0 (map Node_ticks (ticking_nodes h))
+pub ticks_ascend : (h : HostState) → Ascends 0 (map Node_ticks (ticking_nodes h))
 unfolding ticking_nodes
 ticks_ascend h = nodes_ascend (λ n. needs_tick (node_of h n)) 0 1 232 (omega arith)
 

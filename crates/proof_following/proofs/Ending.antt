@@ -21,6 +21,7 @@ use Rattle.law_time.specs.Errands.{errand}
 use Rattle.law_time.specs.Interviews.{asks_information, ends_uninformed, ends_unknown, fails, informs, is_known, node_interviewed, says_none, succeeds}
 use Rattle.law_time.specs.Judged.{acknowledged, is_following, notices_here, responses_here}
 use Rattle.law_time.specs.Requests.{Judging, asked, request_last}
+use Rattle.law_time.specs.Unanswered.{to_give_up}
 use Rattle.host_requests.specs.declared.end.How.{How}
 use Rattle.host_requests.specs.declared.end.How.TheVariants.{AtCallback, AtResponse, AtUpdate, Refused, Silent, LinkFailed}
 use Rattle.host_requests.specs.declared.task.Task.TheVariants.{Plain, NoMore, Second, Neighbours, IsFailed}
@@ -30,10 +31,10 @@ use Rattle.host_node.specs.Steps.{falls_asleep}
 use Rattle.host_model.specs.State.{HostState, node_of}
 use Rattle.host_model.specs.Ends.{PartEnd, Good, Passed_over, Bad, asleep_entry, done_of, end_entries, failed_entry, neighbours_entry, part_end, part_entries}
 use Rattle.proof_ends.specs.proof_requests.law_host.Course.{Course, each_in_turn, if_kept, with_note, with_notes, without_texts}
-use Rattle.proof_ends.specs.proof_requests.law_host.Ends.{answer_to, done_notes, ends_badly, ends_interview, ends_sealing, ends_with, ends_without, failed_notes, frame_notes, gives_up, gives_up_late, is_of_sealed, sleep_note, sleep_notes, ways}
+use Rattle.proof_ends.specs.proof_requests.law_host.Ends.{answer_to, done_notes, ends_badly, ends_interview, ends_sealing, ends_with, ends_without, failed_notes, frame_notes, gives_up, gives_up_late, is_of_sealed, sleep_note, sleep_notes, to_give_up_by_end, ways}
 use Rattle.proof_ends.specs.Ends.{seconds_of}
 use Rattle.proof_ends.specs.proof_requests.Ends.{EndsHere}
-use Rattle.proof_following.specs.Ended.{AreGone, EndingOf, EndsAs, GaveUp, GoneSo, IsByFrame, IsLate, answer_entries, errand_entries, failed_entries, noted_by, outcome_entries, sent_by, sleep_entries}
+use Rattle.proof_following.specs.Ended.{AreGone, EndingOf, EndsAs, GaveUp, GoneOf, GoneSo, IsByFrame, IsLate, answer_entries, errand_entries, failed_entries, noted_by, outcome_entries, sent_by, sleep_entries}
 use Rattle.proof_following.specs.Ended.EndsAs.{Ends_well, Ends_badly, Gives_it_up}
 use Rattle.proof_ends.proofs.EndsDone.{ends_as_done}
 use Rattle.proof_ends.proofs.Noting.{answered_ends, answered_none, asleep_is, badly, given_none, second_of, silent_none}
@@ -237,21 +238,28 @@ sealing_due one c = by (is_of_sealed one)
     by false = refl
 
 module _ (heeds : Heeds) (past : List Entry) (now : ℕ) where
-  pub gives_late : (n : ℕ) (c : Course) (outcome : List Entry) → GoneSo heeds (past ++ c.due) now n outcome → GaveUp c n outcome (gives_up_late heeds past now n c)
-  gives_late n c outcome (inl (none, nothing)) = inl (nothing, ap (λ (l : List ℕ). each_in_turn (gives_up past n) l c) none)
-  gives_late n c outcome (inr (command, one, is)) =
+  gives_of : (commands : List ℕ) (n : ℕ) (c : Course) (outcome : List Entry) → GoneOf commands (past ++ c.due) n outcome → GaveUp c n outcome (each_in_turn (gives_up past n) commands c)
+  gives_of commands n c outcome (inl (none, nothing)) = inl (nothing, ap (λ (l : List ℕ). each_in_turn (gives_up past n) l c) none)
+  gives_of commands n c outcome (inr (command, one, is)) =
       inr (ap (λ (l : List ℕ). each_in_turn (gives_up past n) l c) one ∙ ap (λ (l : List Entry). without_texts n (with_notes l c)) (sym is))
 
-  badly_one : (one : Carried) (c : Course) (outcome : List Entry) → GoneSo heeds (past ++ c.due) now one.node outcome → EndsAs c (one ∷ []) outcome (ends_badly heeds past now one c)
+  pub gives_late : (n : ℕ) (c : Course) (outcome : List Entry) → GoneSo heeds (past ++ c.due) now n outcome → GaveUp c n outcome (gives_up_late heeds past now n c)
+  gives_late n c outcome gone = gives_of (to_give_up heeds (past ++ c.due) now n) n c outcome gone
+
+  abbrev GoneByEnd : List Entry → ℕ → List Entry → Type 0
+  GoneByEnd past n outcome = GoneOf (to_give_up_by_end heeds past now n) past n outcome
+
+  pub badly_one : (one : Carried) (c : Course) (outcome : List Entry) → GoneByEnd (past ++ c.due) one.node outcome → EndsAs c (one ∷ []) outcome (ends_badly heeds past now one c)
   badly_one one c outcome gone =
-      by (gives_late one.node (ends_sealing one c) outcome (subst (λ (l : List Entry). GoneSo heeds (past ++ l) now one.node outcome) (sym (sealing_due one c)) gone))
+      by (gives_of (to_give_up_by_end heeds (past ++ (ends_sealing one c).due) now one.node) one.node (ends_sealing one c) outcome
+      (subst (λ (l : List Entry). GoneByEnd (past ++ l) one.node outcome) (sym (sealing_due one c)) gone))
     where
       by : GaveUp (ends_sealing one c) one.node outcome (ends_badly heeds past now one c) → EndsAs c (one ∷ []) outcome (ends_badly heeds past now one c)
       by (inl (nothing, same)) = Ends_badly one refl nothing same
       by (inr is) = Gives_it_up one refl is
 
   -- of what a request sends, one text at most
-  badly_all : (sent : List Carried) (c : Course) (outcome : List Entry) → ((sent ≡ []) × (outcome ≡ [])) ⊎ ((one : Carried) × (sent ≡ one ∷ []) × GoneSo heeds (past ++ c.due) now one.node outcome)
+  badly_all : (sent : List Carried) (c : Course) (outcome : List Entry) → ((sent ≡ []) × (outcome ≡ [])) ⊎ ((one : Carried) × (sent ≡ one ∷ []) × GoneByEnd (past ++ c.due) one.node outcome)
       → EndsAs c sent outcome (each_in_turn (ends_badly heeds past now) sent c)
   badly_all sent c outcome (inl (none, nothing)) = Ends_well nothing (ap (λ (l : List Carried). each_in_turn (ends_badly heeds past now) l c) none)
   badly_all sent c outcome (inr (one, is, gone)) =
@@ -362,12 +370,10 @@ module _ (heeds : Heeds) (past : List Entry) (g : HostState) (id : ℕ) where
   late_answers (Attempt n more payload) how late = refl
   late_answers Abort how late = refl
 
-  pub ends_late : (p : Purpose) (how : How) (now : ℕ) (c : Course) → IsLate how → EndingOf heeds past g id p
-      → AreGone heeds (past ++ (noted_by g p how c).due) now p id (outcome_entries g p how)
-      → EndsAs (noted_by g p how c) (sent_by p id) (outcome_entries g p how) (ends_without heeds past now (done_of how) c)
-  ends_late p how now c late of gone =
-      subst (λ (d : Course). EndsAs (noted_by g p how c) (sent_by p id) (outcome_entries g p how) d) (sym same)
-      (badly_all heeds past now (sent_by p id) (noted_by g p how c) (outcome_entries g p how) gone)
+  pub late_is : (p : Purpose) (how : How) (now : ℕ) (c : Course) → IsLate how → EndingOf heeds past g id p
+      → ends_without heeds past now (done_of how) c ≡ each_in_turn (ends_badly heeds past now) (sent_by p id) (noted_by g p how c)
+  late_is p how now c late of =
+      ap₂ (λ (l : List Carried) (some : List Entry). each_in_turn (ends_badly heeds past now) l (record c { over = true; due = c.due ++ some })) (ap (λ (l : List Request). flat_map sending_of l) of.request) notes
     where
       notes : done_notes heeds past (done_of how) ++ sleep_notes past ++ failed_notes past ≡ (errand_entries p how ++ (sleep_entries g p ++ answer_entries p how)) ++ failed_entries p
       notes =
@@ -375,5 +381,9 @@ module _ (heeds : Heeds) (past : List Entry) (g : HostState) (id : ℕ) where
           ∙ ap (λ (l : List Entry). l ++ failed_entries p)
           (sym (ap (λ (l : List Entry). errand_entries p how ++ (sleep_entries g p ++ l)) (late_answers p how late) ∙ ap (λ (l : List Entry). errand_entries p how ++ l) (append-nil (sleep_entries g p))))
 
-      same : ends_without heeds past now (done_of how) c ≡ each_in_turn (ends_badly heeds past now) (sent_by p id) (noted_by g p how c)
-      same = ap₂ (λ (l : List Carried) (some : List Entry). each_in_turn (ends_badly heeds past now) l (record c { over = true; due = c.due ++ some })) (ap (λ (l : List Request). flat_map sending_of l) of.request) notes
+  pub ends_late : (p : Purpose) (how : How) (now : ℕ) (c : Course) → IsLate how → EndingOf heeds past g id p
+      → AreGone heeds (past ++ (noted_by g p how c).due) now p id (outcome_entries g p how)
+      → EndsAs (noted_by g p how c) (sent_by p id) (outcome_entries g p how) (ends_without heeds past now (done_of how) c)
+  ends_late p how now c late of gone =
+      subst (λ (d : Course). EndsAs (noted_by g p how c) (sent_by p id) (outcome_entries g p how) d) (sym (late_is p how now c late of))
+      (badly_all heeds past now (sent_by p id) (noted_by g p how c) (outcome_entries g p how) gone)

@@ -96,9 +96,9 @@ module _ (tells : TellsWalk) (shows : ShowsOpen) (heeds : Heeds) (past : List En
   line_none (Updates update) frame ends = ends
   line_none k frame ends = absurd frame
 
-  record Framed : Type 0 where
-    unnumbered : m.awaits ≡ false
-    ends : EndsFrom past m.state.requests.last_id (next_at m.state.requests event) m.state.requests.under_way
+  pub record Framed : Type 0 where
+    pub unnumbered : m.awaits ≡ false
+    pub ends : EndsFrom past m.state.requests.last_id (next_at m.state.requests event) m.state.requests.under_way
 
   framed : KnowsEnds here past m → Framed
   framed (inl (all, owes)) = absurd all.0
@@ -106,14 +106,14 @@ module _ (tells : TellsWalk) (shows : ShowsOpen) (heeds : Heeds) (past : List En
       record { unnumbered = by.unnumbered; ends = subst (λ (k : RequestsEvent). EndsFrom past m.state.requests.last_id (next_at m.state.requests k) m.state.requests.under_way) (told_same by.event by.told) by.ends }
   framed (inr (inr by)) = absurd (line_none by.event (not_line by.event by.told by.ends) by.ends)
 
-  frame_is : Framed
+  pub frame_is : Framed
   frame_is = framed ground.0.1
 
   -- as that event may come next its entries tell
   may_next : May here m (Does (Requests_do event BetweenTicks) (request_entries m.state event)) (Behind [])
   may_next = ((refl, refl), may_event m.state event of, noted_are (request_entries m.state event), λ awaits. absurd (both_ways m.awaits frame_is.unnumbered awaits))
 
-  entries_tell : EachAfter TellsEnd past (request_entries m.state event)
+  pub entries_tell : EachAfter TellsEnd past (request_entries m.state event)
   entries_tell = (tells.step here (Behind []) past m (Does (Requests_do event BetweenTicks) (request_entries m.state event)) may_next (ground.0.0.0.1, ground.0.1)).0
 
   pub frame_follows : errand heeds.listing past ≡ nodes_asked past → (c : Course) → c.over ≡ is_none m.state.requests.under_way → GivesUpAsHost heeds past m.state event c

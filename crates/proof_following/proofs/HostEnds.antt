@@ -66,14 +66,14 @@ module _ (shows : ShowsOpen) (heeds : Heeds) (here : Phase) (past : List Entry) 
     abbrev later : HostState
     later = requests_do m.state event
 
-    ends_there : (u : UnderWay) (how : How) → m.state.requests.under_way ≡ Some u → next u ≡ ends_so how → EndsHere past m.state.requests.last_id u.purpose how
+    pub ends_there : (u : UnderWay) (how : How) → m.state.requests.under_way ≡ Some u → next u ≡ ends_so how → EndsHere past m.state.requests.last_id u.purpose how
     ends_there u how under same = subst (EndsBy past m.state.requests.last_id u) same (subst (EndsFrom past m.state.requests.last_id next) under ends)
 
-    entries_there : (u : UnderWay) (how : How) → m.state.requests.under_way ≡ Some u → next u ≡ ends_so how → request_entries m.state event ≡ end_entries later (record { purpose = u.purpose; how = how })
+    pub entries_there : (u : UnderWay) (how : How) → m.state.requests.under_way ≡ Some u → next u ≡ ends_so how → request_entries m.state event ≡ end_entries later (record { purpose = u.purpose; how = how })
     entries_there u how under same =
         ap (end_entries_if later) (sym at) ∙ ap (λ (o : Option UnderWay). end_entries_if later (end_from next o)) under ∙ ap (λ (n : Next). end_entries_if later (end_of u n)) same
 
-    fails_there : (u : UnderWay) (how : How) → m.state.requests.under_way ≡ Some u → next u ≡ ends_so how → (n : ℕ) → u.purpose ≡ Housekeeping (Second n) → fails n past ≡ true
+    pub fails_there : (u : UnderWay) (how : How) → m.state.requests.under_way ≡ Some u → next u ≡ ends_so how → (n : ℕ) → u.purpose ≡ Housekeeping (Second n) → fails n past ≡ true
     fails_there u how under same n is =
         let are : request_entries m.state event ≡ entry.InterviewFailed n ∷ [] =
         entries_there u how under same ∙ ap (λ (p : Purpose). end_entries later (record { purpose = p; how = how })) is in

@@ -54,16 +54,16 @@ untold left is all = absurd is
 
 module _ (past : List Entry) (m : HostMachine) (left : List HostEvent) (of : IsInterview left) where
   -- what is known of it
-  record Informed : Type 0 where
-    node : ℕ
-    basic : ℕ
-    generic : ℕ
-    specific : ℕ
-    classes : List ℕ
-    capability : ℕ
-    is : node_in left ≡ node
-    brought : interviewed_by m.state.requests (Received node basic generic specific classes) ≡ Some capability
-    ends : EndsFrom past m.state.requests.last_id (at_update m.state.requests.first (Received node basic generic specific classes)) m.state.requests.under_way
+  pub record Informed : Type 0 where
+    pub node : ℕ
+    pub basic : ℕ
+    pub generic : ℕ
+    pub specific : ℕ
+    pub classes : List ℕ
+    pub capability : ℕ
+    pub is : node_in left ≡ node
+    pub brought : interviewed_by m.state.requests (Received node basic generic specific classes) ≡ Some capability
+    pub ends : EndsFrom past m.state.requests.last_id (at_update m.state.requests.first (Received node basic generic specific classes)) m.state.requests.under_way
 
   by_update : (update : Update) (brought : Option ℕ) → interviewed_by m.state.requests update ≡ brought → InterviewEvents update brought left
       → EndsFrom past m.state.requests.last_id (at_update m.state.requests.first update) m.state.requests.under_way → Informed
@@ -90,7 +90,7 @@ module _ (past : List Entry) (m : HostMachine) (left : List HostEvent) (of : IsI
   informed (inr (inr by)) = absurd (subst IsInterview by.told of)
 
   module _ (shows : ShowsOpen) (heeds : Heeds) (ground : KnowsSleep (Behind left) past m) (errands : errand heeds.listing past ≡ nodes_asked past) where
-    it : Informed
+    pub it : Informed
     it = informed ground.0.1
 
     pub interview_follows : (kept : Bool) (keepings : List Bool) (c : Course) → c.over ≡ false → c.keepings ≡ kept ∷ keepings

@@ -37,7 +37,7 @@ any_by now (tick ∷ ticks) is = by (tick == now) refl (λ more. any_by now tick
     by false same more is = or_right (nat_le tick now) (list_any (λ tick. nat_le tick now) ticks) (more is)
 
 -- what ends in silence is not given up
-silent_ungiven : (past : List Entry) (now : ℕ) → list_any (λ tick. tick == now) (silence (asked past)) ≡ true → giving_up (asked past) ≡ []
+pub silent_ungiven : (past : List Entry) (now : ℕ) → list_any (λ tick. tick == now) (silence (asked past)) ≡ true → giving_up (asked past) ≡ []
 silent_ungiven past now is = by (are_none (ending (asked past))) (silence (asked past)) is
   where
     by : (b : Bool) (l : List ℕ) → list_any (λ tick. tick == now) l ≡ true → (if b && are_none l then flat_map (λ fails. fails.tick ∷ []) (failing (asked past)) else []) ≡ []

@@ -1,13 +1,16 @@
-mod Ending
-mod Framing
-mod Ticking
-mod Entering
-mod Coming
-mod Silent
-mod LateEnds
-mod HostEnds
-mod Hearing
-mod Acks
-mod TickNotes
-mod Informing
-mod Judging
+pub mod Ending
+pub mod Framing
+pub mod Ticking
+pub mod Entering
+pub mod Coming
+pub mod Silent
+pub mod LateEnds
+pub mod HostEnds
+pub mod Hearing
+pub mod Acks
+pub mod TickNotes
+pub mod Informing
+pub mod Judging
+pub use Rattle.proof_ends.proofs.Walking as proof_ends_Walking
+pub use Rattle.proof_ends.proofs.Noting as proof_ends_Noting
+pub use Rattle.proof_ends.proofs.proof_rests_Sleeping

@@ -11,16 +11,15 @@ use Rattle.law_time.specs.Ends.{giving_up, silence}
 use Rattle.law_time.specs.Heeds.{Heeds}
 use Rattle.law_time.specs.Moments.{clock}
 use Rattle.law_time.specs.Requests.{asked}
-use Rattle.law_time.specs.Unanswered.{to_give_up}
 use Rattle.proof_ends.specs.proof_requests.law_host.Course.{Course, each_in_turn, with_notes}
-use Rattle.proof_ends.specs.proof_requests.law_host.Ends.{done_notes, ends_badly, ends_sealing, ends_without, failed_notes, gives_up, gives_up_late, sleep_notes}
+use Rattle.proof_ends.specs.proof_requests.law_host.Ends.{done_notes, ends_badly, ends_sealing, ends_without, failed_notes, gives_up, gives_up_late, sleep_notes, to_give_up_by_end}
 use Rattle.proof_ends.specs.proof_requests.law_host.Ticks.{denies, is_denied, nodes_in_order, ticks}
 use Rattle.proof_following.specs.Quiet.{NoneGone, NothingOf, ended_silently}
 use Rattle.proof_following.proofs.Ending.{sealing_due}
 use Rattle.proof_following.proofs.Ticking.{denied, given_ticks, none_gone, silent_ticks}
 
 module _ (heeds : Heeds) (past : List Entry) (now : ℕ) where
-  quietly : (sent : List Carried) (c : Course) → c.due ≡ [] → AllByRecursion (λ (one : Carried). to_give_up heeds past now one.node ≡ []) sent
+  quietly : (sent : List Carried) (c : Course) → c.due ≡ [] → AllByRecursion (λ (one : Carried). to_give_up_by_end heeds past now one.node ≡ []) sent
       → each_in_turn (ends_badly heeds past now) sent c ≡ each_in_turn ends_sealing sent c
   quietly [] c none all = refl
   quietly (one ∷ sent) c none all =
@@ -30,7 +29,7 @@ module _ (heeds : Heeds) (past : List Entry) (now : ℕ) where
       at = ap (λ (l : List Entry). past ++ l) (sealing_due one c ∙ none) ∙ append-nil past
 
       same : ends_badly heeds past now one c ≡ ends_sealing one c
-      same = ap (λ (l : List ℕ). each_in_turn (gives_up past one.node) l (ends_sealing one c)) (ap (λ (l : List Entry). to_give_up heeds l now one.node) at ∙ all.0)
+      same = ap (λ (l : List ℕ). each_in_turn (gives_up past one.node) l (ends_sealing one c)) (ap (λ (l : List Entry). to_give_up_by_end heeds l now one.node) at ∙ all.0)
 
   pub quiet_without : (how : HowDone) (c : Course) → c.due ≡ [] → NothingOf heeds past now → ends_without heeds past now how c ≡ ended_silently past c
   quiet_without how c none nothing =

@@ -28,7 +28,7 @@ use Rattle.proof_ends.specs.Ends.{errands_of}
 use Rattle.proof_ends.specs.proof_attempts.Carried.{CarriesWell, nodes_of}
 use Rattle.proof_ends.specs.proof_requests.Ends.{next_at}
 use Rattle.proof_ends.specs.proof_requests.law_host.Course.{Course, each_in_turn, with_notes, without_texts}
-use Rattle.proof_ends.specs.proof_requests.law_host.Ends.{ends_sealing, given_up_notes, gives_up_late}
+use Rattle.proof_ends.specs.proof_requests.law_host.Ends.{ends_sealing, given_up_notes, gives_up_late, to_give_up_by_end}
 use Rattle.proof_ends.specs.proof_requests.law_host.Ticks.{nodes_in_order, ticks}
 
 -- a frame that may end a request
@@ -86,11 +86,13 @@ noted_by g p how c = record c { over = true; due = c.due ++ ((errand_entries p h
 abbrev pub sent_by : Purpose → ℕ → List Carried
 sent_by p id = sending_of (request_of p id) ++ []
 
--- the command of a node is given up, with these notes, or none is
+-- of these commands of a node one is given up, with these notes, or there is none
+abbrev pub GoneOf : List ℕ → List Entry → ℕ → List Entry → Type 0
+GoneOf commands past n outcome = ((commands ≡ []) × (outcome ≡ [])) ⊎ ((command : ℕ) × (commands ≡ command ∷ []) × (outcome ≡ given_up_notes past n command))
+
+-- the command of a node is given up by a time, or none is
 abbrev pub GoneSo : Heeds → List Entry → ℕ → ℕ → List Entry → Type 0
-GoneSo heeds past now n outcome =
-    ((to_give_up heeds past now n ≡ []) × (outcome ≡ []))
-    ⊎ ((command : ℕ) × (to_give_up heeds past now n ≡ command ∷ []) × (outcome ≡ given_up_notes past n command))
+GoneSo heeds past now n outcome = GoneOf (to_give_up heeds past now n) past n outcome
 
 -- what that makes of a course
 abbrev pub GaveUp : Course → ℕ → List Entry → Course → Type 0
@@ -102,9 +104,9 @@ pub data EndsAs (c : Course) (sent : List Carried) (outcome : List Entry) (later
   Ends_badly : (one : Carried) → sent ≡ one ∷ [] → outcome ≡ [] → later ≡ ends_sealing one c → EndsAs c sent outcome later
   Gives_it_up : (one : Carried) → sent ≡ one ∷ [] → later ≡ without_texts one.node (with_notes outcome (ends_sealing one c)) → EndsAs c sent outcome later
 
--- of the commands of nodes those are given up that the host gives up
+-- of the commands of nodes the end of the request gives those up that the host gives up
 abbrev pub AreGone : Heeds → List Entry → ℕ → Purpose → ℕ → List Entry → Type 0
-AreGone heeds past now p id outcome = ((sent_by p id ≡ []) × (outcome ≡ [])) ⊎ ((one : Carried) × (sent_by p id ≡ one ∷ []) × GoneSo heeds past now one.node outcome)
+AreGone heeds past now p id outcome = ((sent_by p id ≡ []) × (outcome ≡ [])) ⊎ ((one : Carried) × (sent_by p id ≡ one ∷ []) × GoneOf (to_give_up_by_end heeds past now one.node) past one.node outcome)
 
 -- ---- what of a course such an end leaves
 

@@ -14,7 +14,7 @@ use Rattle.law_time.specs.Moments.{clock}
 use Rattle.law_time.specs.Requests.{asked, request_last}
 use Rattle.law_time.specs.Unanswered.{to_give_up}
 use Rattle.proof_ends.specs.proof_requests.law_host.Course.{Course, each_in_turn}
-use Rattle.proof_ends.specs.proof_requests.law_host.Ends.{ends_sealing, sleep_notes}
+use Rattle.proof_ends.specs.proof_requests.law_host.Ends.{ends_sealing, sleep_notes, to_give_up_by_end}
 use Rattle.proof_ends.specs.proof_requests.law_host.Following.{is_before_host}
 use Rattle.proof_ends.specs.proof_requests.law_host.Ticks.{nodes_in_order}
 
@@ -72,5 +72,5 @@ pub record NothingOf (heeds : Heeds) (past : List Entry) (now : ℕ) : Type 0 wh
   pub errands : errand heeds.listing past ≡ []
   pub sleeps : sleep_notes past ≡ []
   pub interviews : node_interviewed (request_last past) ≡ []
-  pub sent : AllByRecursion (λ (one : Carried). to_give_up heeds past now one.node ≡ []) (sending_in (asked past).frame)
+  pub sent : AllByRecursion (λ (one : Carried). to_give_up_by_end heeds past now one.node ≡ []) (sending_in (asked past).frame)
   pub nodes : NoneGone heeds now past (nodes_in_order past)

@@ -64,7 +64,7 @@ asked_outs h (Queues_interview n) is = refl
 asked_outs h Queues_probe is = refl
 asked_outs h event is = absurd is
 
-answers_quiet : (h : HostState) (event : HostEvent) → IsAsked event → AllByRecursion IsQuiet (answers h event)
+pub answers_quiet : (h : HostState) (event : HostEvent) → IsAsked event → AllByRecursion IsQuiet (answers h event)
 answers_quiet h (Accepts order carriage) is = (tt, tt)
 answers_quiet h (Cancels command) is = (tt, tt)
 answers_quiet h (Joins n) is = tt
@@ -84,7 +84,7 @@ module _ (taken : List Entry → Carried → List Told) (n : ℕ) (to : n ≤ 23
   nothing_told = ap so_far (append-nil past)
 
   -- a command that waits is that of no session
-  answers_leave : (event : HostEvent) → IsAsked event → May h event → Facts past h → so_far (past ++ answers h event) ≡ so_far past
+  pub answers_leave : (event : HostEvent) → IsAsked event → May h event → Facts past h → so_far (past ++ answers h event) ≡ so_far past
   answers_leave (Accepts order carriage) is may facts = attempts_left taken n past (entry.Accepted (length h.commands + 1) order.node ∷ []) (tt, tt)
   answers_leave (Cancels command) is may facts =
       attempts_one taken n past (entry.Out command Cancelled) tt ∙ ap (λ (k : ℕ). if is_last_command k past command then anew (so_far past) else so_far past) (node_is heeds n past)

@@ -145,7 +145,7 @@ module _ (taken : List Entry → Carried → List Told) (past : List Entry) (h :
   a = attempts_so_far heeds k past
 
   -- of a third attempt that is over by the transcript, while a session is open
-  give_up_at : (command : ℕ) → open_command s ≡ Some command → a.begun ≡ 3 → attempt_is_over heeds past (asked past) (clock past) a ≡ true → is_to_give_up heeds past command ≡ true
+  pub give_up_at : (command : ℕ) → open_command s ≡ Some command → a.begun ≡ 3 → attempt_is_over heeds past (asked past) (clock past) a ≡ true → is_to_give_up heeds past command ≡ true
   give_up_at command opened three over = by (open_last s)
     where
       by : ((open_session s.book ≡ None) × (open_command s ≡ None)) ⊎ OpenLast s → is_to_give_up heeds past command ≡ true
@@ -167,7 +167,7 @@ module _ (taken : List Entry → Carried → List Told) (past : List Entry) (h :
           ∙ ap (λ (l : List ℕ). list_any (λ number. number == at.command) l || false) gives ∙ ap (λ (b : Bool). (b || false) || false) (eq-eqb at.command at.command refl))
 
   -- so where the third attempt of the node ends so
-  three_begun : (b : NodeState) (time : ℕ) (badly : Bool) → NodeSo a b time badly → b.series ≡ Running → b.book.attempts ≡ s.book.attempts → s.series ≡ Running → nat_lt (s.book.attempts + 1) 3 ≡ false → a.begun ≡ 3
+  pub three_begun : (b : NodeState) (time : ℕ) (badly : Bool) → NodeSo a b time badly → b.series ≡ Running → b.book.attempts ≡ s.book.attempts → s.series ≡ Running → nat_lt (s.book.attempts + 1) 3 ≡ false → a.begun ≡ 3
   three_begun b time badly so runs same running few =
       let begun : a.begun ≡ s.book.attempts + 1 = so.are.begun ∙ ap₂ (λ (x : Series) (n : ℕ). begun_of x n) runs same in
       let most = fewer s.series refl (facts.host.nodes.facts k).series in
@@ -283,7 +283,7 @@ waits_kept s = by (s.again_wait == 1)
     by false = refl
 
 -- its third attempt ends where its wait is over
-tick_third : (s : NodeState) → NodeFacts s → IsUnanswered (tick_end s) → (s.series ≡ Running) × (nat_lt (s.book.attempts + 1) 3 ≡ false) × (s.attempt_wait ≡ 1)
+pub tick_third : (s : NodeState) → NodeFacts s → IsUnanswered (tick_end s) → (s.series ≡ Running) × (nat_lt (s.book.attempts + 1) 3 ≡ false) × (s.attempt_wait ≡ 1)
 tick_third s facts is = by s.series refl facts.series
   where
     t : NodeState
@@ -309,7 +309,7 @@ tick_third s facts is = by s.series refl facts.series
         (series, ap (λ (n : ℕ). nat_lt (n + 1) 3) (sym kept) ∙ (ends_third t one.1).1, wait)
 
 -- and the last sign is 100 ticks ago
-late_now : (told : Attempts) (wait time now : ℕ) → time + 1 ≡ now → wait ≡ 1 → (sign : List ℕ) → told.sign ≡ sign → IsSign sign time wait → is_late now told ≡ true
+pub late_now : (told : Attempts) (wait time now : ℕ) → time + 1 ≡ now → wait ≡ 1 → (sign : List ℕ) → told.sign ≡ sign → IsSign sign time wait → is_late now told ≡ true
 late_now told wait time now next one [] is so = absurd (let bad : 1 ≡ 0 = sym one ∙ so in omega (arith, bad))
 late_now told wait time now next one (tick ∷ more) is (alone, some, at) =
     or_right told.over (list_any (λ k. nat_le (k + 100) now) told.sign)

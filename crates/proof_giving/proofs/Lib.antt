@@ -2,7 +2,7 @@ pub mod Told
 pub mod Begun
 pub mod Asking
 mod Badly
-mod Stays
+pub mod Stays
 mod EndsSo
 mod NodesGo
 mod Over
@@ -12,22 +12,22 @@ pub mod Orders
 mod Inner
 pub mod Along
 mod Finished
-mod Fewer
+pub mod Fewer
 mod Signs
 mod Mild
-mod Staying
-mod Requesting
+pub mod Staying
+pub mod Requesting
 pub mod Heeded
 pub mod Framed
-mod Ticked
-mod Asked
+pub mod Ticked
+pub mod Asked
 mod Interviewed
 mod Walked
 mod Counted
-mod Rested
-mod GivesUp
+pub mod Rested
+pub mod GivesUp
 mod Given
-mod Prompt
+pub mod Prompt
 mod Promptly
 mod Carries
 pub mod Acked
@@ -64,3 +64,4 @@ pub use Rattle.proof_queue.proofs.Ticking
 pub use Rattle.proof_queue.proofs.proof_waking_Judging
 pub use Rattle.proof_queue.proofs.Running
 pub use Rattle.proof_queue.proofs.UnderWay
+pub use Rattle.proof_queue.proofs.Late

@@ -142,7 +142,7 @@ module _ (taken : List Entry → Carried → List Told) (past : List Entry) (h :
 
   -- ---- of a node whose attempts are as they are told
 
-  node_free : (n now : ℕ) (b : Bool) → AttemptsAs b heeds n past h now now → clock past ≡ now
+  pub node_free : (n now : ℕ) (b : Bool) → AttemptsAs b heeds n past h now now → clock past ≡ now
       → ((node_of h n).series ≡ Running → (attempts_so_far heeds n past).own ≡ true → has_ended_badly heeds past (asked past) now n ≡ is_badly_over heeds n past h now) → to_give_up heeds past (clock past) n ≡ []
   node_free n now b so time as_told =
       ap (λ (t : ℕ). to_give_up heeds past t n) time

@@ -66,7 +66,7 @@ nodes_of [] all = tt
 nodes_of (lines.Join n ∷ done) all = (all.0, nodes_of done all.1)
 nodes_of (line ∷ done) all = nodes_of done all.1
 
-joined_nodes : (past : List Entry) → AllByRecursion IsInRange (joined past)
+pub joined_nodes : (past : List Entry) → AllByRecursion IsInRange (joined past)
 joined_nodes past =
     let nothing : Doing = record { earlier = []; last = [] } in
     let so : JoinNodes (folded doing_step nothing past) = all_join past nothing (record { earlier = tt; last = tt }) in

@@ -35,7 +35,7 @@ pub record Cleared (old new : NodeState) : Type 0 where
 pub same_alike : (old new : NodeState) → new ≡ old → Alike old new
 same_alike old new is = record { seen = ap (λ (n : NodeState). n.seen) is; text = ap (λ (n : NodeState). n.text) is; pending = ap (λ (n : NodeState). n.pending) is; opened = ap (λ (n : NodeState). open_session n.book) is; commands = ap (λ (n : NodeState). n.book.commands) is }
 
-then_alike : (old mid new : NodeState) → Alike old mid → Alike mid new → Alike old new
+pub then_alike : (old mid new : NodeState) → Alike old mid → Alike mid new → Alike old new
 then_alike old mid new first next = record {
   seen = next.seen ∙ first.seen;
   text = next.text ∙ first.text;
@@ -60,7 +60,7 @@ works_alike n id is = subst (λ (t : Told). Alike n (after_told n 1 t)) (sym is)
 final_cleared : (n : NodeState) (id status session : ℕ) → told_of n.book id status ≡ Final session → Cleared n (after_node n (Reports id status))
 final_cleared n id status session is = subst (λ (t : Told). Cleared n (after_told n status t)) (sym is) (record { seen = refl; text = refl; pending = refl })
 
-occasion_alike : (n m : NodeState) → Alike n m → Alike n (after_occasion m)
+pub occasion_alike : (n m : NodeState) → Alike n m → Alike n (after_occasion m)
 occasion_alike n m alike = by (is_open m && is_up m && is_idle m.series)
   where
     by : (b : Bool) → Alike n (if b then new_series m else m)

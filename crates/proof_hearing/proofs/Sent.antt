@@ -61,14 +61,14 @@ get_differs : (payload : List ℕ) → IsOther payload → bytes_eq payload nonc
 get_differs [] other = refl
 get_differs (x ∷ rest) other = ap (λ (b : Bool). b && bytes_eq rest (0x40 ∷ [])) other
 
-begins_not : (payload : List ℕ) (command : ℕ) → IsOther payload → begins_with payload 0x98 command ≡ false
+pub begins_not : (payload : List ℕ) (command : ℕ) → IsOther payload → begins_with payload 0x98 command ≡ false
 begins_not payload command other = first_differs (nat_le 2 (length payload)) (slice_index payload 0 == 0x98) (slice_index payload 1 == command) other
 
-begins_so : (command : ℕ) (rest : List ℕ) → begins_with (0x98 ∷ command ∷ rest) 0x98 command ≡ true
+pub begins_so : (command : ℕ) (rest : List ℕ) → begins_with (0x98 ∷ command ∷ rest) 0x98 command ≡ true
 begins_so command rest =
     ap₂ (λ (a b : Bool). a && true && b) (le-leb 2 (length (0x98 ∷ command ∷ rest)) (omega arith)) (eq-eqb command command refl)
 
-begins_else : (command other : ℕ) (rest : List ℕ) → (command == other) ≡ false → begins_with (0x98 ∷ command ∷ rest) 0x98 other ≡ false
+pub begins_else : (command other : ℕ) (rest : List ℕ) → (command == other) ≡ false → begins_with (0x98 ∷ command ∷ rest) 0x98 other ≡ false
 begins_else command other rest is = second_differs (nat_le 2 (length (0x98 ∷ command ∷ rest))) true (command == other) is
 
 sealed_is : (keys_are : List ℕ) (own nonce text : List ℕ) (node : ℕ) → (rest : List ℕ) × (sealed_text (keys_of keys_are) own nonce (record { sender = controller; receiver = node }) text ≡ 0x98 ∷ 0x81 ∷ rest)
@@ -255,12 +255,12 @@ module _ (key : List ℕ) (taken : List Entry → Carried → List Told) (past l
 
   -- ---- a part of an attempt
 
-  module _ (point : (n : ℕ) → Point key heeds past n h) (n : ℕ) (is_node : IsNode n) (unit : List ℕ) (late : (m : ℕ) → IsNode m → (m ≡ n → ⊥) → is_late heeds past m ≡ true → is_late heeds later m ≡ true) where
+  module _ (n : ℕ) (point : Point key heeds past n h) (is_node : IsNode n) (unit : List ℕ) (late : (m : ℕ) → IsNode m → (m ≡ n → ⊥) → is_late heeds past m ≡ true → is_late heeds later m ≡ true) where
     place : n < length h.nodes
-    place = omega (arith, (point n).ties.facts.host.nodes.places, is_node.1)
+    place = omega (arith, point.ties.facts.host.nodes.places, is_node.1)
 
     facts : NodeFacts (node_of h n)
-    facts = (point n).ties.facts.host.nodes.facts n
+    facts = point.ties.facts.host.nodes.facts n
 
     so : SealerSo key heeds past n h (sealer_of n course)
     so = books.sealers n is_node
@@ -342,8 +342,8 @@ module _ (key : List ℕ) (taken : List Entry → Carried → List Told) (past l
 
         pending_is : map (λ (command : ℕ). (session_of listing_heard past n command).message) (last_command n past) ≡ plain ∷ []
         pending_is =
-            ap (map (λ (command : ℕ). (session_of listing_heard past n command).message)) (last past h (point n).ties (point n).carried n start.session start.carried.0 start.command start.opened start.carried.1 start.carried.2)
-            ∙ ap (λ (m : List ℕ). m ∷ []) (message past h (point n).ties (point n).carried n start.session start.carried.0 start.command start.opened start.carried.1 start.carried.2 ∙ sym plain_is)
+            ap (map (λ (command : ℕ). (session_of listing_heard past n command).message)) (last past h point.ties point.carried n start.session start.carried.0 start.command start.opened start.carried.1 start.carried.2)
+            ∙ ap (λ (m : List ℕ). m ∷ []) (message past h point.ties point.carried n start.session start.carried.0 start.command start.opened start.carried.1 start.carried.2 ∙ sym plain_is)
 
         asks : sends_carried heeds past (record { node = n; payload = payload }) course ≡ with_sealer n asked course
         asks =

@@ -236,35 +236,45 @@ module _ (taken : List Entry → Carried → List Told) where
         answered = no_line (heeds_alone taken) past acknowledged refl;
       })
 
-  module _ (past : List Entry) (m : HostMachine) (f : FrameParts) (rest : List LineUnit) (behind : List HostEvent) (told marks : List Entry) (are : told ≡ acknowledged ∷ marks) (all : AllByRecursion IsOfUnit marks)
-      (numbered : IsNumbered m told) (puts : PutsSo (heeds_alone taken) (past ++ acknowledged ∷ []) (after m.state (Hears (Good (Framed f)))) behind) where
-    abbrev frame_later : HostMachine
-    frame_later = record (done m (Hears (Good (Framed f)))) { came = rest }
-
-    unnumbered : m.awaits ≡ false
-    unnumbered = not_awaiting m.awaits acknowledged told marks numbered are
-
-    -- it was not the first
-    frame_unlooked : judges_first past ≡ false → RawM taken past m → Stand taken past told × RawBehind taken behind (past ++ told) frame_later
-    frame_unlooked none (now, ties) =
-        let goes = frame_raw past m f rest behind marks all puts ties.answered
-        (subst (λ (q : Queue). Stands q m.state.requests.queue [] (drops_of m.state)) (sym (before_raw taken past acknowledged none)) ties.stands) in
-        subst (λ (l : List Entry). Stand taken past l × RawBehind taken behind (past ++ l) frame_later) (sym are) (goes.0, (now, goes.1))
-
-    -- or it was
-    frame_looked : judges_first past ≡ true → View past m.clock m.state m.awaits → UptoM taken past m → Stand taken past told × RawBehind taken behind (past ++ told) frame_later
-    frame_looked looks sees ties =
-        let goes = frame_raw past m f rest behind marks all puts ties.answered
-        (subst (λ (q : Queue). Stands q m.state.requests.queue [] (drops_of m.state)) (sym (before_seen taken past acknowledged m.clock looks (sees.now unnumbered))) ties.stands) in
-        subst (λ (l : List Entry). Stand taken past l × RawBehind taken behind (past ++ l) frame_later) (sym are) (goes.0, (unnumbered, goes.1))
-
-    frame_gone : is_first (past ++ told) ≡ false
-    frame_gone = ap (λ (l : List Entry). is_first (past ++ l)) are ∙ judged_once past marks (all-weaker IsOfUnit Second mark_second marks all)
-
-  -- ---- each item
-
   looks_first : (past : List Entry) (first once : Bool) → is_first past ≡ first → comes_at_once past ≡ once → judges_first past ≡ (first && not once)
   looks_first past first once is at = ap₂ (λ (a b : Bool). a && not b) is at
+
+  -- what waits before it, and no line is to be refused for places
+  abbrev FrameWaits : List Entry → HostMachine → Type 0
+  FrameWaits past m =
+      Stands (queue_before (heeds_alone taken) past acknowledged) m.state.requests.queue [] (drops_of m.state) × (lacks_places (heeds_alone taken) past ≡ false)
+
+  -- where it was not the first that is judged, or was
+  frame_unlooked : (past : List Entry) (m : HostMachine) → judges_first past ≡ false → RawM taken past m → FrameWaits past m
+  frame_unlooked past m none (now, ties) =
+      (subst (λ (q : Queue). Stands q m.state.requests.queue [] (drops_of m.state)) (sym (before_raw taken past acknowledged none)) ties.stands, ties.answered)
+
+  frame_looked : (past : List Entry) (m : HostMachine) → m.awaits ≡ false → judges_first past ≡ true → View past m.clock m.state m.awaits → UptoM taken past m → FrameWaits past m
+  frame_looked past m now looks sees ties = (
+    subst (λ (q : Queue). Stands q m.state.requests.queue [] (drops_of m.state)) (sym (before_seen taken past acknowledged m.clock looks (sees.now now))) ties.stands,
+    ties.answered,
+  )
+
+  pub frame_waits : (stage : Stage) (past : List Entry) (m : HostMachine) (f : FrameParts) (rest : List LineUnit) → m.came ≡ Framed f ∷ rest → m.awaits ≡ false → MayJudge stage
+      → comes_at_once past ≡ is_reading stage → (stage ≡ Looked → FirstOr past m) → View past m.clock m.state m.awaits → Know taken Open stage past m → FrameWaits past m
+  frame_waits stage past m f rest takes now may at_once first sees known = at stage may at_once first known
+    where
+      first_is : FirstOr past m → is_first past ≡ true
+      first_is (inl it) = it
+      first_is (inr empty) = absurd (let bad : Framed f ∷ rest ≡ [] = sym takes ∙ empty in cc)
+
+      looked : comes_at_once past ≡ false → FirstOr past m → UptoM taken past m → FrameWaits past m
+      looked once or ties = frame_looked past m now (looks_first past true false (first_is or) once) sees ties
+
+      at : (stage : Stage) → MayJudge stage → comes_at_once past ≡ is_reading stage → (stage ≡ Looked → FirstOr past m) → Know taken Open stage past m → FrameWaits past m
+      at Fresh may once or known = absurd may
+      at Read may once or known = absurd may
+      at Reading may once or known = frame_unlooked past m (looks_first past (is_first past) true refl once ∙ and_right (is_first past) false refl) known
+      at Looked may once or known = looked once (or refl) known
+      at Judging may once or (inl (ties, first)) = looked once first ties
+      at Judging may once or (inr (raw, gone)) = frame_unlooked past m (looks_first past false (comes_at_once past) gone refl) raw
+
+  -- ---- each item
 
   frame_goes : (stage : Stage) (past : List Entry) (m : HostMachine) (f : FrameParts) (rest : List LineUnit) (behind : List HostEvent) (told : List Entry)
       → IsJudgedNow m (Good (Framed f)) rest behind told → MayJudge stage → comes_at_once past ≡ is_reading stage → (stage ≡ Looked → FirstOr past m)
@@ -273,32 +283,32 @@ module _ (taken : List Entry → Carried → List Told) where
   frame_goes stage past m f rest behind told now may at_once first puts sees known = by now.told_so
     where
       by : AreTold (Write Ack ∷ []) told → Stand taken past told × Know taken (Behind behind) (stage_judged stage) (past ++ told) (record (done m (Hears (Good (Framed f)))) { came = rest })
-      by (marks, more, is, all, none) = at stage may at_once first known
+      by (marks, more, is, all, none) =
+          subst (λ (l : List Entry). Stand taken past l × Know taken (Behind behind) (stage_judged stage) (past ++ l) (record (done m (Hears (Good (Framed f)))) { came = rest })) (sym are)
+          (goes.0, at stage may)
         where
           are : told ≡ acknowledged ∷ marks
           are = is ∙ ap (λ (l : List Entry). acknowledged ∷ (marks ++ l)) none ∙ ap (λ (l : List Entry). acknowledged ∷ l) (append-nil marks)
 
-          first_is : FirstOr past m → is_first past ≡ true
-          first_is (inl it) = it
-          first_is (inr empty) = absurd (let bad : Framed f ∷ rest ≡ [] = sym now.takes ∙ empty in cc)
+          unnumbered : m.awaits ≡ false
+          unnumbered = not_awaiting m.awaits acknowledged told marks now.numbered are
 
-          looked : comes_at_once past ≡ false → FirstOr past m → UptoM taken past m
-              → Stand taken past told × Know taken (Behind behind) Judging (past ++ told) (record (done m (Hears (Good (Framed f)))) { came = rest })
-          looked once or ties =
-              let goes = frame_looked past m f rest behind told marks are all now.numbered puts (looks_first past true false (first_is or) once) sees ties in
-              (goes.0, inr (goes.1, frame_gone past m f rest behind told marks are all now.numbered puts))
+          gone : is_first (past ++ acknowledged ∷ marks) ≡ false
+          gone = judged_once past marks (all-weaker IsOfUnit Second mark_second marks all)
 
-          at : (stage : Stage) → MayJudge stage → comes_at_once past ≡ is_reading stage → (stage ≡ Looked → FirstOr past m) → Know taken Open stage past m
-              → Stand taken past told × Know taken (Behind behind) (stage_judged stage) (past ++ told) (record (done m (Hears (Good (Framed f)))) { came = rest })
-          at Fresh may once or known = absurd may
-          at Read may once or known = absurd may
-          at Reading may once or known =
-              frame_unlooked past m f rest behind told marks are all now.numbered puts (looks_first past (is_first past) true refl once ∙ and_right (is_first past) false refl) known
-          at Looked may once or known = looked once (or refl) known
-          at Judging may once or (inl (ties, first)) = looked once first ties
-          at Judging may once or (inr (raw, gone)) =
-              let goes = frame_unlooked past m f rest behind told marks are all now.numbered puts (looks_first past false (comes_at_once past) gone refl) raw in
-              (goes.0, inr (goes.1, frame_gone past m f rest behind told marks are all now.numbered puts))
+          waits : FrameWaits past m
+          waits = frame_waits stage past m f rest now.takes unnumbered may at_once first sees known
+
+          goes : Stand taken past (acknowledged ∷ marks)
+              × Raw taken (past ++ acknowledged ∷ marks) (after_all (after m.state (Hears (Good (Framed f)))) behind).requests.queue (dropped_by (after m.state (Hears (Good (Framed f)))) behind) (drops_of m.state)
+          goes = frame_raw past m f rest behind marks all puts waits.1 waits.0
+
+          at : (stage : Stage) → MayJudge stage → Know taken (Behind behind) (stage_judged stage) (past ++ acknowledged ∷ marks) (record (done m (Hears (Good (Framed f)))) { came = rest })
+          at Fresh may = absurd may
+          at Read may = absurd may
+          at Reading may = (unnumbered, goes.1)
+          at Looked may = inr ((unnumbered, goes.1), gone)
+          at Judging may = inr ((unnumbered, goes.1), gone)
 
   beside_goes : (stage : Stage) (past : List Entry) (m : HostMachine) (item : Item) (rest : List LineUnit) (behind : List HostEvent) (told : List Entry) → IsNumbered m told
       → Beside m item rest behind told → MayJudge stage → (stage ≡ Looked → FirstOr past m) → View past m.clock m.state m.awaits → View (past ++ told) m.clock (after m.state (Hears item)) m.awaits

@@ -42,7 +42,7 @@ module _ (taken : List Entry → Carried → List Told) where
   leads next to stage past told later is goes = (goes.0, known_to taken next to stage (past ++ told) later is goes.1)
 
   -- where it has pumped nothing was judged first, or nothing has come
-  first_at : (stage : Stage) (past : List Entry) (m : HostMachine) → First stage past m → stage ≡ Looked → FirstOr past m
+  pub first_at : (stage : Stage) (past : List Entry) (m : HostMachine) → First stage past m → stage ≡ Looked → FirstOr past m
   first_at stage past m first is = subst (λ (s : Stage). First s past m) is first
 
   -- entries of others and of the chip, with what has come as it was

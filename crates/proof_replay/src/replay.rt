@@ -30,6 +30,7 @@ use proof_choice::ends::hosts_note_ends;
 use proof_choice::ends::nonces::{hosts_count_nonces, hosts_seal_once};
 use proof_choice::ends::notes::attempts::{hosts_fall_asleep_as_told, hosts_hold_as_asked};
 use proof_choice::ends::notes::{hosts_note_in_full, hosts_say_what_is_not_kept};
+use proof_choice::giving::queue::hosts_go_by_messages;
 use proof_choice::hosts_are_prompt;
 
 /// Of any lines that are run whole, over any bytes and any keeper, what the host of `replay` heard is told by a run of a host alone that began without
@@ -66,6 +67,7 @@ pub fn hosts_keep_laws()
     hosts_seal_once();
     hosts_count_nonces();
     hosts_ask_one_by_one();
+    hosts_go_by_messages();
     hosts_are_prompt();
 }
 

@@ -3,7 +3,8 @@ use Rattle.std.proofs.Common.{◌≡◌, Bool, true, false, ℕ, List, [], ◌�
 use Rattle.std.specs.Prelude.{Option, drop}
 use Rattle.law_host.specs.Following.{ended_whole}
 use Rattle.law_host.specs.Notes.{course_of, first_start}
-use Rattle.law_host.specs.Worked.{after_begun, after_later_nonce, after_lock_begun, after_sessions, after_sleeper_begun, after_values, after_waking, dropped_first, dropped_of_other, ended_by_first, ended_by_other, ended_by_refused, ended_by_work, ended_of_another, ended_openly, ended_sealed, ended_otherwise, hold_left_out, left_beside_copy, old_left_out, unkept_unasked, unread_left_out, value_again, value_left_out, value_otherwise, value_stored_though_full, value_twice, woken_by_another}
+use Rattle.law_host.specs.Worked.{after_begun, after_later_nonce, after_lock_begun, after_sessions, after_sleeper_begun, after_values, after_waking, dropped_first, dropped_of_other, ended_by_first, ended_by_other, ended_by_refused, ended_by_work, ended_of_another, ended_openly, ended_sealed, ended_otherwise, given_up_by_other, hold_left_out, left_beside_copy, old_left_out, unkept_unasked, unread_left_out, value_again, value_left_out, value_otherwise, value_stored_though_full, value_twice, woken_by_another}
+use Rattle.law_time.specs.WorkedWaits.{the_other_switch}
 use Rattle.law_time.specs.WrongEnds.{awake_after_link, awake_in_next_line}
 use Rattle.law_transcript.specs.Worked.{the_lock, the_sensor, the_switch}
 use Rattle.law_time.proofs.Computing.{computing}
@@ -25,6 +26,18 @@ returns-clause-again c = unfit [] (heeds_of (the_switch ∷ [])) first_start val
 pub returns-clause-beside_copy : goal.returns-clause-beside_copy
 unfolding computing
 returns-clause-beside_copy c = unended [] (heeds_of (the_switch ∷ [])) first_start left_beside_copy (λ choices. refl)
+
+-- whether the record of the interview was kept or not, some entry may not stand
+by_other_fails : (keepings : List Bool) (texts : List (Option (List ℕ)))
+    → (course_of (heeds_of (the_switch ∷ the_other_switch ∷ [])) first_start given_up_by_other (record { keepings = keepings; texts = texts })).fits ≡ false
+unfolding computing
+by_other_fails [] texts = refl
+by_other_fails (true ∷ keepings) texts = refl
+by_other_fails (false ∷ keepings) texts = refl
+
+pub returns-clause-by_other_request : goal.returns-clause-by_other_request
+returns-clause-by_other_request c =
+    unfit [] (heeds_of (the_switch ∷ the_other_switch ∷ [])) first_start given_up_by_other (λ choices. by_other_fails choices.keepings choices.texts)
 
 -- whether the record of the outcome was kept or not, something is to be noted at the end
 old_fails : (keepings : List Bool) (texts : List (Option (List ℕ)))

@@ -2,10 +2,10 @@ use Rattle.law_time.specs.Heeds.{heeds_of}
 use Rattle.std.proofs.Common.{[], ◌∷◌, refl}
 use Rattle.std.specs.Prelude.{drop}
 use Rattle.law_host.specs.Notes.{first_start}
-use Rattle.law_host.specs.Worked.{after_begun, after_later_nonce, after_lock_begun, after_sessions, after_sleeper_begun, after_values, after_waking, all_kept, begun_unkept, failure_told, given_up_beside_copy, held_at_failure, last_session, other_told, report_refused, told_openly, unread_payload, unread_sealed, unsupported_told, value_heard, value_unstored, woken, work_told}
+use Rattle.law_host.specs.Worked.{after_begun, after_later_nonce, after_lock_begun, after_sessions, after_sleeper_begun, after_values, after_waking, all_kept, begun_unkept, failure_told, given_up_beside_copy, given_up_in_order, held_at_failure, last_session, other_told, report_refused, told_openly, unread_payload, unread_sealed, unsupported_told, value_heard, value_unstored, woken, work_told}
 use Rattle.law_time.specs.WorkedEnds.{asleep_given_up, asleep_in_silence, given_up_at_answer, interview_refused, interview_uninformed}
 use Rattle.law_time.specs.WorkedTurns.{dropped_after_report}
-use Rattle.law_time.specs.WorkedWaits.{answered_errands, waited_attempts}
+use Rattle.law_time.specs.WorkedWaits.{answered_errands, the_other_switch, waited_attempts}
 use Rattle.law_transcript.specs.Worked.{cancelled_order, lossy_exchange, plain_exchange, repeated_exchange, restarted_host, sleeping_node, the_lock, the_sensor, the_switch}
 use Rattle.law_time.proofs.Computing.{computing}
 use Rattle.law_host.proofs.Noting.{noted}
@@ -46,6 +46,10 @@ returns-clause-waited c = noted [] (heeds_of (the_switch ∷ [])) first_start wa
 pub returns-clause-beside_copy : goal.returns-clause-beside_copy
 unfolding computing
 returns-clause-beside_copy c = noted [] (heeds_of (the_switch ∷ [])) first_start given_up_beside_copy all_kept refl
+
+pub returns-clause-in_order : goal.returns-clause-in_order
+unfolding computing
+returns-clause-in_order c = noted [] (heeds_of (the_switch ∷ the_other_switch ∷ [])) first_start given_up_in_order all_kept refl
 
 pub returns-clause-value : goal.returns-clause-value
 unfolding computing

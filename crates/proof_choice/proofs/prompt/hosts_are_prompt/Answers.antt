@@ -1,4 +1,4 @@
--- All of it by the messages that are chosen along the run.
+-- All of it by the same messages.
 use Rattle.std.proofs.Common.{◌≡◌, Bool, true, false, List, [], refl}
 use Rattle.std.specs.Prelude.{Some}
 use Rattle.s0_crypto.specs.declared.key_pair.Keys.{Keys}
@@ -40,18 +40,14 @@ module _ (c : goal.After-hosts_rest_well) (keys : Keys) (taken : List Entry → 
   }
 
 pub returns : goal.returns
-returns c = λ keys whole here told m ran at for_host one_by_one numbers begins.
-    let (run, careful) = ran in
-    let (taken, sure, as_told) = c.hosts_go_by_messages.ensures keys here told m run in
-    let all = ends c keys taken whole here told m at run careful sure as_told in (
-      taken,
-      record {
-        fits = c.hosts_queue_as_told.ensures.fits keys taken here told m run careful sure for_host;
-        turn = c.hosts_send_in_turn.ensures keys taken here told m run careful sure as_told;
-        one_by_one = one_by_one;
-        numbers = numbers;
-        begins = begins;
-        gives_up = all.gives_up;
-        rests = all.rests;
-      },
-    )
+returns c = λ keys taken whole here told m run careful sure as_told at for_host one_by_one numbers begins.
+    let all = ends c keys taken whole here told m at run careful sure as_told in
+    record {
+      fits = c.hosts_queue_as_told.ensures.fits keys taken here told m run careful sure for_host;
+      turn = c.hosts_send_in_turn.ensures keys taken here told m run careful sure as_told;
+      one_by_one = one_by_one;
+      numbers = numbers;
+      begins = begins;
+      gives_up = all.gives_up;
+      rests = all.rests;
+    }

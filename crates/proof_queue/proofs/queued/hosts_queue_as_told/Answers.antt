@@ -10,7 +10,7 @@ use Rattle.law_time.specs.Waking.{may_wake}
 use Rattle.law_time.specs.Queue.{Queue}
 use Rattle.proof_attempts.specs.proof_requests.law_host.Heard.{heeds_alone}
 use Rattle.proof_attempts.specs.proof_requests.proof_alone.State.{HostMachine, first_alone}
-use Rattle.proof_attempts.specs.proof_requests.proof_alone.Phases.{Phase, Resting, Submitting}
+use Rattle.proof_attempts.specs.proof_requests.proof_alone.Phases.{Open, Phase, Resting, Submitting}
 use Rattle.proof_attempts.specs.proof_requests.proof_alone.Runs.{Run}
 use Rattle.proof_attempts.specs.proof_requests.proof_alone.Runs.Run.{Begins}
 use Rattle.proof_attempts.specs.proof_requests.proof_alone.Careful.{Careful, stage_of}
@@ -19,12 +19,14 @@ use Rattle.proof_attempts.proofs.Running.{run_keeps}
 use Rattle.proof_known.specs.Known.{KnowsWhole}
 use Rattle.proof_queue.specs.Heeding.{AllSteps, HeedsSo}
 use Rattle.proof_queue.specs.Waiting.{Waits, WaitsAtLooks}
-use Rattle.proof_queue.proofs.Along.{all_fit, all_go, along, first_pace, first_waiting}
+use Rattle.proof_queue.proofs.Along.{all_fit, all_go, along, first_pace, first_waiting, paced}
+use Rattle.proof_queue.proofs.Heeded.{frame_waits}
 use Rattle.proof_queue.proofs.Knowing.{Know, UptoM}
 use Rattle.proof_queue.proofs.Pumping.{submitted}
 use Rattle.proof_queue.proofs.Saying.{rested}
-use Rattle.proof_queue.proofs.Seeing.{Sights, sights_along}
+use Rattle.proof_queue.proofs.Seeing.{Sights, sights_along, view}
 use Rattle.proof_queue.proofs.Ties.{Stand, before_seen}
+use Rattle.proof_queue.proofs.Walking.{first_at}
 use Rattle.proof_queue.proofs.queued.hosts_queue_as_told.Goals as goal
 
 module _ (c : goal.After-hosts_hold_as_told) (keys : Keys) where
@@ -55,6 +57,14 @@ returns-clause-submits c = λ keys taken told m run careful sure. looks_at taken
 pub returns-clause-rests : goal.returns-clause-rests
 returns-clause-rests c = λ keys taken told m run careful sure.
     looks_at taken told m (rested taken (stage_of run) told m (sights c keys Resting told m run) (known c keys taken Resting told m run careful sure).1)
+
+pub returns-clause-judges : goal.returns-clause-judges
+returns-clause-judges c = λ keys taken told m f rest run careful sure takes now may.
+    let start : HostMachine = first_alone keys (Some []) in
+    let pace = paced start (c.hosts_ask_as_told.ensures.run keys) (first_pace keys) run careful in
+    let waits = frame_waits taken (stage_of run) told m f rest takes now may pace.at_once (first_at taken (stage_of run) told m pace.first)
+    (view Open told m tt (sights c keys Open told m run)) (known c keys taken Open told m run careful sure).1 in
+    record { wants_are = waits.0.wants_are; owed_are = waits.0.owed_are }
 
 pub returns-clause-fits : goal.returns-clause-fits
 returns-clause-fits c = λ keys taken here told m run careful sure for_host. all_fit taken [] told (known c keys taken here told m run careful sure).0 for_host

@@ -46,10 +46,13 @@ returns c = λ keys whole here heard m careful rests fine link. let run : Run (f
   ends =
       by_rest (λ (b : Bool) (l : List Entry). NotesOfEnds b l) (first_alone keys (Some [])) (c.hosts_note_ends.ensures.whole keys) (c.hosts_note_ends.ensures.told keys) whole here heard m run rests;
   prompt =
-      c.hosts_are_prompt.ensures keys whole here heard m careful rests fine (c.hosts_ask_one_by_one.ensures.told keys heard (here, m, run)).0
-      (c.hosts_ask_one_by_one.ensures.told keys heard (here, m, run)).1
-      (by_whole (λ (b : Bool) (l : List Entry). BeginsWithUnit (ended b l)) (first_alone keys (Some [])) (c.hosts_ask_one_by_one.ensures.whole keys)
-      (λ (l : List Entry) told. (c.hosts_ask_one_by_one.ensures.told keys l told).2) whole here heard m run rests);
+      let (taken, sure, as_told) = c.hosts_go_by_messages.ensures keys here heard m run in (
+        taken,
+        c.hosts_are_prompt.ensures keys taken whole here heard m run careful.1 sure as_told rests fine (c.hosts_ask_one_by_one.ensures.told keys heard (here, m, run)).0
+            (c.hosts_ask_one_by_one.ensures.told keys heard (here, m, run)).1
+            (by_whole (λ (b : Bool) (l : List Entry). BeginsWithUnit (ended b l)) (first_alone keys (Some [])) (c.hosts_ask_one_by_one.ensures.whole keys)
+            (λ (l : List Entry) told. (c.hosts_ask_one_by_one.ensures.told keys l told).2) whole here heard m run rests),
+      );
   ticks = c.hosts_tell_time.ensures.counts keys (Some []) heard (here, m, run);
   sends = λ key same. c.hosts_send_what_is_due.ensures.told key heard (subst (λ (k : Keys). Told (first_alone k (Some [])) heard) same (here, m, run));
   seals_once = c.hosts_seal_once.ensures.told keys heard (here, m, run);
