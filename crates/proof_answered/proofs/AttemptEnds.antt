@@ -40,7 +40,7 @@ use Rattle.host_requests.specs.declared.under_way.Progress.TheVariants.{Submitte
 use Rattle.host_requests.specs.declared.under_way.UnderWay.{UnderWay}
 use Rattle.host_node.specs.TableState.{node_of as node_among, with_node as with_node_among}
 use Rattle.host_node.specs.State.{NodeState, unknown, is_open, is_up, is_idle, is_running, has_waiting}
-use Rattle.host_node.specs.Steps.{after_again, after_again_tick, after_attempt_end, after_attempt_tick, after_hold_tick, after_occasion, after_sign, after_sleep, after_told, as_recorded, asleep, new_series, tried_again, wait_ticks, with_again, with_wait}
+use Rattle.host_node.specs.Steps.{after_again, after_again_tick, after_attempt_end, after_attempt_tick, after_hold_tick, after_occasion, after_sign, after_sleep, after_told, asleep, new_series, tried_again, wait_ticks, with_again, with_wait}
 use Rattle.host_node.specs.Events.{NodeEvent, after as after_node}
 use Rattle.host_node.specs.Events.NodeEvent.{Joins as node_joins, Interviews as node_interviews, Puts, Takes_back, Accepts as node_accepts, Cancels as node_cancels, Begins as node_begins, Blocks, Starts as node_starts, Gives_segment as node_gives_segment, Gives_text as node_gives_text, Succeeds, Takes_nonce as node_takes_nonce, Restores_seen, Ends_attempt, Reports, Holds, Notifies as node_notifies, Sleeps, Queues_no_more as node_queues_no_more, Drops_no_more as node_drops_no_more, Ends_no_more, Ticks as node_ticks, Restarts}
 use Rattle.host_node.specs.declared.attempt.Moment.{Moment}
@@ -48,9 +48,9 @@ use Rattle.host_node.specs.declared.attempt.Moment.TheVariants.{BetweenTicks}
 use Rattle.host_node.specs.declared.attempt.Plan.TheVariants.{Whole, Segments, Sealed}
 use Rattle.host_node.specs.declared.series.Series.TheVariants as series
 use Rattle.host_model.specs.After.{after, is_busy, requests_do}
-use Rattle.host_model.specs.Did.{MayAll, after_all}
+use Rattle.host_model.specs.Did.{after_all}
 use Rattle.host_model.specs.Ends.{PartEnd, Good as well, part_end, after_end, after_end_if, after_part}
-use Rattle.host_model.specs.Events.{HostEvent, Hears, Requests_do, Line_ticks, Node_ticks, Starts}
+use Rattle.host_model.specs.Events.{HostEvent, Hears, Requests_do, Line_ticks, Node_ticks, Starts, Begins, Begin_unkept, Cancels, Interviews}
 use Rattle.host_model.specs.May.{May}
 use Rattle.host_model.specs.State.{HostState, node_of, with_node}
 use Rattle.host_model.specs.Taking.{AreJudged, IsJudged, told_if, told_requests}
@@ -69,10 +69,11 @@ use Rattle.proof_answered.proofs.NodeSteps.{AllowsAt, AllowsEnd, AllowsEndIf, Al
 
 -- ---- a node
 
--- its attempt's wait does not run out, no attempt ends, and one that starts was due
-abbrev LastsNode : NodeState → NodeEvent → Type 0
+-- its attempt's wait does not run out, no attempt ends, one that starts was due, and the host does not start again
+abbrev pub LastsNode : NodeState → NodeEvent → Type 0
 LastsNode n node_ticks = n.attempt_wait ≢ 1
 LastsNode n (Ends_attempt moment) = ⊥
+LastsNode n Restarts = ⊥
 LastsNode n (node_starts plan) = n.series ≡ series.Due
 LastsNode n event = Unit {0}
 
@@ -146,7 +147,7 @@ node_first n node_drops_no_more lasts first = first
 node_first n Ends_no_more lasts first = sleep_first _ first
 node_first n node_ticks lasts first =
     attempt_tick_first (after_again_tick (after_hold_tick n)) (λ one. lasts (sym (again_tick_wait (after_hold_tick n)) ∙ one)) (again_tick_first (after_hold_tick n) first)
-node_first n Restarts lasts first = occasion_first (as_recorded n) (λ some. refl)
+node_first n Restarts lasts first = absurd lasts
 
 -- a request of an attempt ends as its payload was heard
 abbrev EndsSo : Purpose → How → Type 0
@@ -168,48 +169,58 @@ abbrev pub LastsAt : HostState → HostEvent → Type 0
 LastsAt h (Requests_do event moment) = EndsWell (end_at h.requests event)
 LastsAt h (Node_ticks n) = (node_of h n).attempt_wait ≢ 1
 LastsAt h Line_ticks = h.side.turn ≡ no_turn
+LastsAt h (Interviews n listens classes update) = ⊥
+LastsAt h (Cancels command) = ⊥
+LastsAt h (Begin_unkept n) = ⊥
 LastsAt h event = Unit {0}
 
 abbrev pub LastAll : HostState → List HostEvent → Type 0
 LastAll h [] = Unit {0}
 LastAll h (event ∷ events) = LastsAt h event × LastAll (after h event) events
 
-abbrev Allows : ℕ → NodeState → NodeEvent → Type 0
+abbrev pub Allows : ℕ → NodeState → NodeEvent → Type 0
 Allows n state event = LastsNode state event
 
-free_lasts : (n : ℕ) (state : NodeState) (event : NodeEvent) → IsFree event → Allows n state event
+pub free_lasts : (n : ℕ) (state : NodeState) (event : NodeEvent) → IsFree event → Allows n state event
 free_lasts n state (node_starts plan) free = absurd free
 free_lasts n state (Ends_attempt moment) free = absurd free
 free_lasts n state node_ticks free = absurd free
+free_lasts n state Restarts free = absurd free
 free_lasts n state event free = tt
 
 each_first : (nodes : List NodeState) (n : ℕ) (event : NodeEvent) → LastsNode (node_among nodes n) event → AllByRecursion IsFirst nodes → AllByRecursion IsFirst (with_node_among nodes n (after_node (node_among nodes n) event))
 each_first nodes n event lasts all =
     all-set IsFirst nodes n (after_node (node_among nodes n) event) all (node_first (node_among nodes n) event lasts (all_at IsFirst nodes n (unknown 0) all (λ some. refl)))
 
-purpose_allowed : (h : HostState) (purpose : Purpose) (how : How) (moment : Moment) → EndsSo purpose how → AllowsEnd Allows h purpose how moment
-purpose_allowed h (Attempt n more payload) how moment so =
-    subst (λ (w : How). AllowsPart Allows n (node_of h n) (part_end more w) moment) (sym so) (subst (λ (end : PartEnd). AllowsPart Allows n (node_of h n) end moment) (sym (part_well more)) tt)
-purpose_allowed h (Housekeeping task) how moment so = tt
-purpose_allowed h Abort how moment so = tt
+-- no attempt ends without a report
+module _ (Any : ℕ → NodeState → NodeEvent → Type 0) where
+  purpose_allowed : (h : HostState) (purpose : Purpose) (how : How) (moment : Moment) → EndsSo purpose how → AllowsEnd Any h purpose how moment
+  purpose_allowed h (Attempt n more payload) how moment so =
+      subst (λ (w : How). AllowsPart Any n (node_of h n) (part_end more w) moment) (sym so) (subst (λ (end : PartEnd). AllowsPart Any n (node_of h n) end moment) (sym (part_well more)) tt)
+  purpose_allowed h (Housekeeping task) how moment so = tt
+  purpose_allowed h Abort how moment so = tt
 
-end_allowed : (h : HostState) (end : Option End) (moment : Moment) → EndsWell end → AllowsEndIf Allows h end moment
-end_allowed h None moment so = tt
-end_allowed h (Some end) moment so = purpose_allowed h end.purpose end.how moment so
+  pub end_allowed : (h : HostState) (end : Option End) (moment : Moment) → EndsWell end → AllowsEndIf Any h end moment
+  end_allowed h None moment so = tt
+  end_allowed h (Some end) moment so = purpose_allowed h end.purpose end.how moment so
 
-event_allowed : (h : HostState) (event : HostEvent) → LastsAt h event → May h event → AllowsAt Allows h event
-event_allowed h (Requests_do event moment) lasts may = end_allowed h (end_at h.requests event) moment lasts
+pub event_allowed : (h : HostState) (event : HostEvent) → LastsAt h event → May h event → AllowsAt Allows h event
+event_allowed h (Requests_do event moment) lasts may = end_allowed Allows h (end_at h.requests event) moment lasts
+event_allowed h (Interviews n listens classes update) lasts may = tt
+event_allowed h (Cancels command) lasts may = tt
+event_allowed h (Begins n session command) lasts may = tt
+event_allowed h (Begin_unkept n) lasts may = tt
 event_allowed h (Node_ticks n) lasts may = lasts
 event_allowed h (Starts n plan more payload) lasts may = may.2.0
 event_allowed h Line_ticks lasts may = lasts
 event_allowed h event lasts may = tt
 
+-- nor where the record of a session is not kept
+pub unkept_first : (h : HostState) (n : ℕ) → AllFirst h → AllFirst (after h (Begin_unkept n))
+unkept_first h n all = event_is Allows (AllByRecursion IsFirst) free_lasts each_first h (Begin_unkept n) tt all
+
 pub event_first : (h : HostState) (event : HostEvent) → LastsAt h event → May h event → AllFirst h → AllFirst (after h event)
 event_first h event lasts may all = event_is Allows (AllByRecursion IsFirst) free_lasts each_first h event (event_allowed h event lasts may) all
-
-pub all_first : (h : HostState) (events : List HostEvent) → LastAll h events → MayAll h events → AllFirst h → AllFirst (after_all h events)
-all_first h [] last may all = all
-all_first h (event ∷ events) last may all = all_first (after h event) events last.1 may.1 (event_first h event last.0 may.0 all)
 
 last-append : (h : HostState) (a b : List HostEvent) → LastAll h a → LastAll (after_all h a) b → LastAll h (a ++ b)
 last-append h [] b first later = later
@@ -286,8 +297,11 @@ fresh_well u fresh = by u.progress fresh
 
 -- ---- one frame
 
--- an event that the requests do not hear of, and no tick
+-- an event that the requests do not hear of, and no tick, interview or cancelling, nor that a session is not kept
 abbrev IsMild : HostEvent → Type 0
+IsMild (Interviews n listens classes update) = ⊥
+IsMild (Cancels command) = ⊥
+IsMild (Begin_unkept n) = ⊥
 IsMild (Requests_do event moment) = ⊥
 IsMild Line_ticks = ⊥
 IsMild (Node_ticks n) = ⊥
@@ -297,6 +311,9 @@ mild_lasts : (h : HostState) (event : HostEvent) → IsMild event → LastsAt h 
 mild_lasts h (Requests_do event moment) mild = absurd mild
 mild_lasts h Line_ticks mild = absurd mild
 mild_lasts h (Node_ticks n) mild = absurd mild
+mild_lasts h (Interviews n listens classes update) mild = absurd mild
+mild_lasts h (Cancels command) mild = absurd mild
+mild_lasts h (Begin_unkept n) mild = absurd mild
 mild_lasts h event mild = tt
 
 all_mild : (h : HostState) (events : List HostEvent) → AllByRecursion IsMild events → LastAll h events

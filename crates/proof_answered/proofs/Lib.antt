@@ -39,3 +39,6 @@ pub use Rattle.proof_calm.proofs.ChipTurns
 pub use Rattle.proof_calm.proofs.Payloads
 pub use Rattle.proof_calm.proofs.Routed
 pub use Rattle.proof_calm.proofs.Where
+pub use Rattle.proof_calm.proofs.Links
+pub use Rattle.proof_calm.proofs.Tying
+pub use Rattle.proof_calm.proofs.Awaiting

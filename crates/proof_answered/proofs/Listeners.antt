@@ -1,6 +1,7 @@
 -- A device of a kind that listens stays awake, and hears each frame for it.
-use Rattle.std.proofs.Common.{◌≡◌, ℕ, suc, ◌+◌, ◌-◌, ◌==◌, ◌&&◌, ◌||◌, Bool, true, false, nat_lt, if◌then◌else◌, List, [], ◌∷◌, length, refl, sym, ap, ◌∙◌, subst}
+use Rattle.std.proofs.Common.{◌≡◌, ℕ, zero, suc, ◌+◌, ◌-◌, ◌==◌, ◌&&◌, ◌||◌, Bool, true, false, nat_lt, if◌then◌else◌, List, [], ◌∷◌, length, refl, sym, ap, ◌∙◌, subst, arith}
 use Rattle.std.specs.Prelude.{Option, Some, None, Result, Ok, Err, not, option_map, slice_get, slice_index}
+use Rattle.std.specs.List.{AllZip}
 use Rattle.supervision.specs.Device.{heard_of}
 use Rattle.supervision.specs.declared.device_book.Heard.{Heard}
 use Rattle.supervision.specs.declared.device_book.Heard.TheVariants.{New, Again, Old}
@@ -45,7 +46,7 @@ use Rattle.device_sim.specs.State.{State, last_level_of, silent, value_of}
 use Rattle.law_transcript.specs.Devices.{after_events}
 use Rattle.mesh_sim.specs.Fates.{dead_hop_of, fate_by, fate_of, listener_of, place_of, awake_at, is_awake}
 use Rattle.mesh_sim.specs.declared.fate.Fate.TheVariants.{AtDevice, Lost}
-use Rattle.proof_device.specs.GoingOn.{AreSame, GoOn, GoesOn, IsSame}
+use Rattle.proof_device.specs.GoingOn.{AreSame, GoOn, GoesOn}
 use Rattle.proof_calm.specs.Live.{IsLive}
 use Rattle.proof_answered.specs.Listening.{HasListener, IsUp}
 
@@ -281,46 +282,33 @@ listener_hears net devices frame is out live = fate_so frame.lost (dead_hop_of n
 
 -- ---- over events
 
+-- devices that go on stand where they stood
+pub stands_now : (Now : State → State → Type 0) (olds news : List State) → AllZip Now olds news → (place : ℕ) (device : State) → slice_get olds place ≡ Some device → (new : State) × ((slice_get news place ≡ Some new) × Now device new)
+stands_now Now [] [] are place device stood = absurd (grind arith)
+stands_now Now [] (new ∷ news) are place device stood = absurd are
+stands_now Now (old ∷ olds) [] are place device stood = absurd are
+stands_now Now (old ∷ olds) (new ∷ news) are zero device stood = let is : old ≡ device = cc in (new, (refl, subst (λ (d : State). Now d new) is are.0))
+stands_now Now (old ∷ olds) (new ∷ news) are (suc place) device stood = stands_now Now olds news are.1 place device stood
+
+pub same_place : (node : ℕ) (olds news : List State) → AreSame olds news → place_of node news ≡ place_of node olds
+same_place node [] [] same = refl
+same_place node [] (new ∷ news) same = absurd same
+same_place node (old ∷ olds) [] same = absurd same
+same_place node (old ∷ olds) (new ∷ news) same =
+    ap (λ (b : Bool). if b then Some 0 else option_map suc (place_of node news)) (ap (λ (n : ℕ). n == node) same.0.node)
+    ∙ ap (λ (place : Option ℕ). if old.node == node then Some 0 else option_map suc place) (same_place node olds news same.1)
+
 events_up : (device : State) (events : List DeviceEvent) → IsUp device → IsUp (after_events device events)
 events_up device [] up = up
 events_up device (event ∷ events) up = events_up (device_after device event) events (event_up device event up)
 
-one_stays : (node : ℕ) (old new : State) (olds news : List State) → GoesOn old new → IsSame old new → (HasListener node olds → HasListener node news) → HasListener node (old ∷ olds) → HasListener node (new ∷ news)
-one_stays node old new olds news goes same others is = by (old.node == node) refl is.first
-  where
-    test : (new.node == node) ≡ (old.node == node)
-    test = ap (λ (n : ℕ). n == node) same.node
-
-    -- it stands further on
-    further : (found : Option ℕ) → (old.node == node) ≡ false → place_of node olds ≡ found → option_map suc found ≡ Some is.place → HasListener node (new ∷ news)
-    further None apart there e = absurd cc
-    further (Some k) apart there e =
-        let place_is : suc k ≡ is.place = cc in
-        let later : HasListener node news =
-        others (record { place = k; device = is.device; first = there; stands = ap (λ (n : ℕ). slice_get (old ∷ olds) n) place_is ∙ is.stands; is_up = is.is_up }) in
-        record {
-          place = suc later.place;
-          device = later.device;
-          first = ap (λ (b : Bool). if b then Some 0 else option_map suc (place_of node news)) (test ∙ apart) ∙ ap (λ (place : Option ℕ). option_map suc place) later.first;
-          stands = later.stands;
-          is_up = later.is_up;
-        }
-
-    by : (b : Bool) → (old.node == node) ≡ b → (if b then Some 0 else option_map suc (place_of node olds)) ≡ Some is.place → HasListener node (new ∷ news)
-    by true here first =
-        let place_is : 0 ≡ is.place = cc in
-        let same_device : Some old ≡ Some is.device = ap (λ (n : ℕ). slice_get (old ∷ olds) n) place_is ∙ is.stands in
-        let device_is : is.device ≡ old = cc in
-        record {
-          place = 0;
-          device = new;
-          first = ap (λ (b : Bool). if b then Some 0 else option_map suc (place_of node news)) (test ∙ here);
-          stands = refl;
-          is_up = subst IsUp (sym goes.1) (events_up old goes.0 (subst IsUp device_is is.is_up));
-        }
-    by false apart first = further (place_of node olds) apart refl first
-
 pub all_stay : (node : ℕ) (olds news : List State) → GoOn olds news → AreSame olds news → HasListener node olds → HasListener node news
-all_stay node [] news go same is = absurd (let none : None ≡ Some is.place = is.first in cc)
-all_stay node (old ∷ olds) [] go same is = absurd go
-all_stay node (old ∷ olds) (new ∷ news) go same is = one_stays node old new olds news go.0 same.0 (λ others. all_stay node olds news go.1 same.1 others) is
+all_stay node olds news go same is =
+    let later = stands_now GoesOn olds news go is.place is.device is.stands in
+    record {
+      place = is.place;
+      device = later.0;
+      first = same_place node olds news same ∙ is.first;
+      stands = later.1.0;
+      is_up = subst IsUp (sym later.1.1.1) (events_up is.device later.1.1.0 is.is_up);
+    }

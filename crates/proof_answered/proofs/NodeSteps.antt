@@ -18,7 +18,7 @@ use Rattle.host_node.specs.State.{NodeState}
 use Rattle.host_node.specs.TableState.{node_of as node_among, with_node as with_node_among}
 use Rattle.host_node.specs.Steps.{after_attempt_end, attempt_end, tick_end}
 use Rattle.host_node.specs.Events.{NodeEvent, after as after_node}
-use Rattle.host_node.specs.Events.NodeEvent.{Joins as node_joins, Interviews as node_interviews, Puts, Accepts as node_accepts, Cancels as node_cancels, Begins as node_begins, Blocks, Starts as node_starts, Gives_segment as node_gives_segment, Gives_text as node_gives_text, Succeeds, Takes_nonce as node_takes_nonce, Ends_attempt, Reports, Holds, Notifies as node_notifies, Queues_no_more as node_queues_no_more, Drops_no_more as node_drops_no_more, Ends_no_more, Ticks as node_ticks}
+use Rattle.host_node.specs.Events.NodeEvent.{Joins as node_joins, Interviews as node_interviews, Puts, Takes_back, Accepts as node_accepts, Cancels as node_cancels, Begins as node_begins, Blocks, Starts as node_starts, Gives_segment as node_gives_segment, Gives_text as node_gives_text, Succeeds, Takes_nonce as node_takes_nonce, Ends_attempt, Reports, Holds, Notifies as node_notifies, Queues_no_more as node_queues_no_more, Drops_no_more as node_drops_no_more, Ends_no_more, Ticks as node_ticks, Restarts}
 use Rattle.host_node.specs.declared.attempt.AttemptEnd.{AttemptEnd}
 use Rattle.host_node.specs.declared.attempt.AttemptEnd.TheVariants.{NoneRan, Again, Unanswered}
 use Rattle.host_node.specs.declared.attempt.Moment.{Moment}
@@ -29,12 +29,18 @@ use Rattle.host_model.specs.Events.{HostEvent, Accepts, Cancels, Joins, Queues, 
 use Rattle.host_model.specs.Sessions.{open_command}
 use Rattle.host_model.specs.State.{HostState, node_of, with_node}
 
--- an event of a node that is always allowed: no tick, no interview, and no attempt starts or ends
+-- an event of a node that is always allowed: no tick, no interview, no session begins or is not kept, no command is cancelled or taken back, no attempt
+-- starts or ends, and the host does not start again
 abbrev pub IsFree : NodeEvent → Type 0
 IsFree (node_interviews listens classes) = ⊥
+IsFree Takes_back = ⊥
+IsFree (node_cancels command) = ⊥
+IsFree node_begins = ⊥
+IsFree Blocks = ⊥
 IsFree (node_starts plan) = ⊥
 IsFree (Ends_attempt moment) = ⊥
 IsFree node_ticks = ⊥
+IsFree Restarts = ⊥
 IsFree event = Unit {0}
 
 module _ (Allows : ℕ → NodeState → NodeEvent → Type 0) where
@@ -58,6 +64,9 @@ module _ (Allows : ℕ → NodeState → NodeEvent → Type 0) where
   AllowsAt h (Interviews n listens classes update) = Allows n (node_of h n) (node_interviews listens classes)
   AllowsAt h (Node_ticks n) = Allows n (node_of h n) node_ticks
   AllowsAt h (Starts n plan more payload) = Allows n (node_of h n) (node_starts plan)
+  AllowsAt h (Cancels command) = Allows (node_for h command) (node_of h (node_for h command)) (node_cancels command)
+  AllowsAt h (Begins n session command) = Allows n (node_of h n) node_begins
+  AllowsAt h (Begin_unkept n) = Allows n (node_of h n) Blocks
   AllowsAt h Line_ticks = h.side.turn ≡ no_turn
   AllowsAt h event = Unit {0}
 
@@ -122,7 +131,7 @@ module _ (Allows : ℕ → NodeState → NodeEvent → Type 0) where
     pub event_is : (h : HostState) (event : HostEvent) → AllowsAt h event → Are h → Are (after h event)
     event_is h (Accepts order carriage) allows all =
         freely (node_does h order.node (Puts (length h.commands + 1))) order.node node_accepts tt (freely h order.node (Puts (length h.commands + 1)) tt all)
-    event_is h (Cancels command) allows all = freely h (node_for h command) (node_cancels command) tt all
+    event_is h (Cancels command) allows all = node_is h (node_for h command) (node_cancels command) allows all
     event_is h (Joins n) allows all = freely h n node_joins tt all
     event_is h (Queues task) allows all = all
     event_is h (Queues_interview n) allows all = all
@@ -155,8 +164,8 @@ module _ (Allows : ℕ → NodeState → NodeEvent → Type 0) where
     event_is h (Starts n plan more payload) allows all = given_is h n more payload (node_starts plan) allows all
     event_is h (Gives_text n payload) allows all = given_is h n false payload node_gives_text (free n (node_of h n) node_gives_text tt) all
     event_is h (Gives_segment n more payload) allows all = given_is h n more payload node_gives_segment (free n (node_of h n) node_gives_segment tt) all
-    event_is h (Begins n session command) allows all = freely h n node_begins tt all
-    event_is h (Begin_unkept n) allows all = freely h n Blocks tt all
+    event_is h (Begins n session command) allows all = node_is h n node_begins allows all
+    event_is h (Begin_unkept n) allows all = node_is h n Blocks allows all
 
     pub events_are : (h : HostState) (events : List HostEvent) → AllowsAll h events → Are h → Are (after_all h events)
     events_are h [] allows all = all

@@ -130,6 +130,67 @@ module _ (these : List Bool) (nodes : List NodeState) (served k n : ℕ) (marked
       by (Some j) first is = next_above (what_is_least works served k (first ∙ is))
       by None none is = next_round (where_is_none works served none) (what_is_least works 0 k is)
 
+-- any node that is next comes no later than one that has work
+module _ (these : List Bool) (nodes : List NodeState) (served k n : ℕ) (works_there : has_work (node_among nodes n) ≡ true) (from : 1 ≤ n) (to : n ≤ 232) (other : n ≢ k) where
+  abbrev work_at : ℕ → Bool
+  work_at node = has_work (node_among nodes node)
+
+  never_idle : work_at n ≡ false → ⊥
+  never_idle idle = let no : true ≡ false = sym works_there ∙ idle in cc
+
+  passed_above : IsFirstFrom work_at (suc served) (232 - served) k → turn_of these k n ≤ turn_of these served n
+  passed_above f = by (cases_lt served n)
+    where
+      after_served : served < k
+      after_served = omega (arith, f.from)
+
+      most : marked_to these served ≤ marked_to these k
+      most = marked_most these served k (omega (arith, after_served))
+
+      further : served < n → k < n
+      further above = by_order (cases_lt k n)
+        where
+          by_order : (k < n) ⊎ (n ≤ k) → k < n
+          by_order (inl less) = less
+          by_order (inr least) = absurd (never_idle (f.before n (omega (arith, above)) (omega (arith, least, other))))
+
+      by : (served < n) ⊎ (n ≤ served) → turn_of these k n ≤ turn_of these served n
+      by (inl above) = let was = turn_above these served n above in let is = turn_above these k n (further above) in omega (arith, was, is, most)
+      by (inr below) = let was = turn_below these served n below in let is = turn_below these k n (omega (arith, below, after_served)) in omega (arith, was, is, most)
+
+  passed_round : HasNone work_at (suc served) (232 - served) → IsFirstFrom work_at 1 232 k → turn_of these k n ≤ turn_of these served n
+  passed_round none f = by_order (cases_lt k n)
+    where
+      below : n ≤ served
+      below = by (cases_lt served n)
+        where
+          by : (served < n) ⊎ (n ≤ served) → n ≤ served
+          by (inl above) = absurd (never_idle (none.all n (omega (arith, above)) (omega (arith, above, to))))
+          by (inr most) = most
+
+      by_order : (k < n) ⊎ (n ≤ k) → turn_of these k n ≤ turn_of these served n
+      by_order (inl less) = let was = turn_below these served n below in let is = turn_above these k n less in omega (arith, was, is)
+      by_order (inr most) = absurd (never_idle (f.before n from (omega (arith, most, other))))
+
+  pub comes_no_later : next_of nodes served ≡ Some k → turn_of these k n ≤ turn_of these served n
+  comes_no_later next = by (least_above work_at served) refl next
+    where
+      by : (o : Option ℕ) → least_above work_at served ≡ o → option_or o (least_above work_at 0) ≡ Some k → turn_of these k n ≤ turn_of these served n
+      by (Some j) first is = passed_above (what_is_least work_at served k (first ∙ is))
+      by None none is = passed_round (where_is_none work_at served none) (what_is_least work_at 0 k is)
+
+-- where none is next, none has work
+module _ (nodes : List NodeState) (n : ℕ) (from : 1 ≤ n) (to : n ≤ 232) where
+  abbrev has_some : ℕ → Bool
+  has_some node = has_work (node_among nodes node)
+
+  pub none_works : (served : ℕ) → next_of nodes served ≡ None → has_work (node_among nodes n) ≡ false
+  none_works served next = by (least_above has_some served) next
+    where
+      by : (o : Option ℕ) → option_or o (least_above has_some 0) ≡ None → has_work (node_among nodes n) ≡ false
+      by (Some j) is = absurd (let no : Some j ≡ None = is in cc)
+      by None is = (where_is_none has_some 0 is).all n from (omega (arith, to))
+
 -- ---- what the host does next
 
 pub next_in_turn : (h : HostState) (event : HostEvent) → h.requests.owes ≡ false → IsNext h event → May h event → IsInTurn h event

@@ -1,5 +1,5 @@
 -- Where each end of a request is told as the transcript has it, how a Set or Get ended that a line asked for is said as the transcript tells.
-use Rattle.std.proofs.Common.{◌≡◌, ℕ, ◌==◌, ◌&&◌, ◌||◌, not, Bool, true, false, if◌then◌else◌, inl, inr, List, [], ◌∷◌, ◌++◌, refl, sym, ap, ap₂, ◌∙◌, subst}
+use Rattle.std.proofs.Common.{◌≡◌, ◌⊎◌, ℕ, ◌==◌, ◌&&◌, ◌||◌, not, Bool, true, false, if◌then◌else◌, inl, inr, List, [], ◌∷◌, ◌++◌, refl, sym, ap, ap₂, ◌∙◌, subst}
 use Rattle.std.specs.Prelude.{Result, Ok, Err}
 use Rattle.std.specs.List.{AllByRecursion, flat_map, list_any}
 use Rattle.std.specs.Str.{bytes_eq}
@@ -19,7 +19,7 @@ use Rattle.zw_text.specs.declared.entry.Entry.TheVariants as entry
 use Rattle.zw_text.specs.Transcript.{line_of}
 use Rattle.law_transcript.specs.Lists.{EachAfter, Has}
 use Rattle.law_transcript.specs.Nodes.{host_list}
-use Rattle.law_transcript.specs.Payloads.{asked_by, asked_for, asked_from, IsAskedFor, MayRequest, SendsWhatIsDue}
+use Rattle.law_transcript.specs.Payloads.{asked_by, asked_for, asked_from, MayRequest, SendsWhatIsDue}
 use Rattle.law_transcript.specs.Restarts.{begins_refused}
 use Rattle.law_transcript.specs.Units.{Carried, body_in, function_in, is_frame, read_well, sending_in, sending_of}
 use Rattle.law_time.specs.Moments.{Allows}
@@ -72,6 +72,23 @@ none_same : (one : Carried) (items : List Carried) → AreErrands items → is_e
 none_same one [] are none = refl
 none_same one (first ∷ items) are none =
     ap₂ (λ (a b : Bool). a || b) (and_right (one.node == first.node) (bytes_eq one.payload first.payload) (other_payload one first none are.0)) (none_same one items are.1 none)
+
+-- the node to which a text is such a command by itself
+abbrev pub node_carried : Carried → List ℕ
+node_carried carried = if is_errand carried.payload then carried.node ∷ [] else []
+
+-- a unit sends one text at most
+abbrev AtMostOne : List Carried → Type 0
+AtMostOne l = (l ≡ []) ⊎ ((one : Carried) × (l ≡ one ∷ []))
+
+read_short : (b : Bool) (read : Result Request BodyFault) → AtMostOne (flat_map sending_of (if b then read_well read else []))
+read_short true (Ok (requests.SendData node payload options id)) = inr (record { node = node; payload = payload }, refl)
+read_short true (Ok request) = inl refl
+read_short true (Err fault) = inl refl
+read_short false read = inl refl
+
+sent_short : (unit : List ℕ) → AtMostOne (sending_in unit)
+sent_short unit = read_short (is_frame unit 0) (read_request (function_in unit) (body_in unit))
 
 module _ (listing : List Entry → ℕ → List ℕ) where
   line_errands : (past : List Entry) (line : Line) → AreErrands (asked_by listing past line)
@@ -170,14 +187,30 @@ module _ (listing : List Entry → ℕ → List ℕ) where
   asks_else past e request is none = other_may past e (no_errand past (none_sent past (of_request past request is ∙ ap (λ (l : List Carried). l ++ []) none)))
 
   module _ (key : List ℕ) (stays : Stays listing key) where
+    -- the nodes of a last request that is one of them
+    asked_one : (past : List Entry) (one : Carried) → EachAfter (MayRequest listing key) [] past → sending_in (asked past).frame ≡ one ∷ [] → is_errand one.payload ≡ true → errand listing past ≡ one.node ∷ []
+    asked_one past one each sends carries =
+        ap (flat_map (node_asked listing past)) sends
+        ∙ ap (λ (b : Bool). (if b then one.node ∷ [] else []) ++ []) (has_same one (asked_for listing past) (asked_errand listing key stays past one each sends carries))
+
+    -- those of any last request are the nodes to which it carries such a command by itself
+    pub errand_is : (past : List Entry) → EachAfter (MayRequest listing key) [] past → errand listing past ≡ flat_map node_carried (sending_in (asked past).frame)
+    errand_is past each = by (sent_short (asked past).frame)
+      where
+        of_one : (one : Carried) (b : Bool) → sending_in (asked past).frame ≡ one ∷ [] → is_errand one.payload ≡ b → errand listing past ≡ (if b then one.node ∷ [] else []) ++ []
+        of_one one true is carries = asked_one past one each is carries
+        of_one one false is carries = one_sent past one is carries
+
+        by : AtMostOne (sending_in (asked past).frame) → errand listing past ≡ flat_map node_carried (sending_in (asked past).frame)
+        by (inl none) = none_sent past none ∙ sym (ap (flat_map node_carried) none)
+        by (inr (one, is)) = of_one one (is_errand one.payload) is refl ∙ sym (ap (flat_map node_carried) is)
+
     done_may : (past : List Entry) (node id : ℕ) (payload : List ℕ) (how : How) → EachAfter (MayRequest listing key) [] past → EndsHere past id (Housekeeping (Plain node payload)) how
         → Allows (may_say_done listing) past (entry.Done node (done_of how))
     done_may past node id payload how each e =
         let one : Carried = record { node = node; payload = payload } in
         let sends : sending_in (asked past).frame ≡ one ∷ [] = of_request past (request_of (Housekeeping (Plain node payload)) id) e.request in
-        let has : IsAskedFor listing past one = asked_errand listing key stays past one each sends e.carries in
-        let nodes : errand listing past ≡ node ∷ [] =
-        ap (flat_map (node_asked listing past)) sends ∙ ap (λ (b : Bool). (if b then node ∷ [] else []) ++ []) (has_same one (asked_for listing past) has) in
+        let nodes : errand listing past ≡ node ∷ [] = asked_one past one each sends e.carries in
         and_from (says_done (errand listing past) (entry.Done node (done_of how))) (ends_here past (done_of how))
         (ap (λ (l : List ℕ). list_any (λ (n : ℕ). n == node) l) nodes ∙ or_left (node == node) false (eq-eqb node node refl))
         (ends_as_done past id (Housekeeping (Plain node payload)) how refl e)

@@ -1,19 +1,23 @@
 //! How a Set or Get that a line asked for ended, as a host alone and all lines say it.
 
-ghost use Rattle.std.specs.Prelude.{Some, List, [], ℕ};
+ghost use Rattle.std.specs.List.{flat_map};
+ghost use Rattle.std.specs.Prelude.{◌≡◌, if◌then◌else◌, Some, List, [], ◌∷◌, ℕ};
 ghost use Rattle.s0_crypto.specs.Sealing.{keys_of};
 ghost use Rattle.device_sim.specs.State.{State};
 ghost use Rattle.zw_text.specs.declared.entry.Entry.{Entry};
 ghost use Rattle.law_transcript.specs.Lists.{EachAfter};
 ghost use Rattle.law_transcript.specs.Nodes.{always, listing_of};
 ghost use Rattle.law_transcript.specs.Payloads.{SendsWhatIsDue};
-ghost use Rattle.law_time.specs.Errands.{SaysHowDone};
+ghost use Rattle.law_transcript.specs.Units.{sending_in};
+ghost use Rattle.law_time.specs.Errands.{SaysHowDone, errand};
+ghost use Rattle.law_time.specs.Requests.{asked};
 ghost use Rattle.world_model.specs.State.{first_machine};
 ghost use Rattle.world_lines.specs.Spoken.{Spoken, transcript_of};
 ghost use Rattle.world_lines.specs.Done.{AreDone};
 ghost use Rattle.proof_requests.specs.law_host.Heard.{heard_by_host, listing_heard};
 ghost use Rattle.proof_requests.specs.proof_alone.State.{first_alone};
 ghost use Rattle.proof_requests.specs.proof_alone.Runs.{Told};
+ghost use Rattle.proof_requests.specs.Carrying.{is_errand};
 ghost use Rattle.proof_requests.specs.Ends.{TellsEnd};
 
 use crate::sends::hosts_send_what_is_due;
@@ -27,6 +31,20 @@ pub fn ends_say_how_done()
     ensures { (listing : List Entry → ℕ → List ℕ) (key : List ℕ) (told : List Entry) → SendsWhatIsDue listing key told → EachAfter TellsEnd [] told →
         SaysHowDone listing told }
 {
+    lines_ask_for_what_is_queued();
+}
+
+/// Where each payload that was asked to be sent was due, the nodes of the Set or Get of a line that the last request carries are those to which it carries a
+/// command of such a class by itself. So it is in any run of a host alone, over a keeper that tells its records and has none at first.
+pub fn errands_are_carried()
+    ensures due { (listing : List Entry → ℕ → List ℕ) (key : List ℕ) (past : List Entry) → SendsWhatIsDue listing key past →
+        errand listing past ≡
+        flat_map (λ carried. if is_errand carried.payload then carried.node ∷ [] else []) (sending_in (asked past).frame) }
+    ensures told { (key : List ℕ) (told : List Entry) → Told (first_alone (keys_of key) (Some [])) told →
+        errand listing_heard told ≡
+        flat_map (λ carried. if is_errand carried.payload then carried.node ∷ [] else []) (sending_in (asked told).frame) }
+{
+    hosts_send_what_is_due();
     lines_ask_for_what_is_queued();
 }
 

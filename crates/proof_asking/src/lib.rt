@@ -5,7 +5,7 @@
 //! interview (`proof_known`). So each payload that it asks to be sent is due by the transcript (`hosts_send_what_is_due`).
 //! Where the request of a host ends it ends by the transcript, in that way and there (`proof_requests`). A Set or Get that is no part of a session is a command
 //! of a class that lines ask for, as no other payload is; so what was due is that a line asked for it, and how it ended is said of it and of no other
-//! (`ends_say_how_done`), along each run of a host alone (`hosts_say_how_done`) and in all lines (`lines_say_how_done`).
+//! (`ends_say_how_done`; `errands_are_carried`), along each run of a host alone (`hosts_say_how_done`) and in all lines (`lines_say_how_done`).
 //! Requests stand one after another, messages with the callback ids in turn, and each session that begins with its unit (`hosts_ask_one_by_one`).
 //! The definitions are in `specs/Asking`: what is known at each phase, and `specs/Numbers`: the same of ids and sessions that begin. `proofs/Leaving` has
 //! entries that leave what came of the chip, `Telling` what the host enters, and `Walking` the walk. `proofs/Sent` has what the last request carries, and
@@ -16,7 +16,7 @@ mod errands;
 mod numbers;
 mod sends;
 
-pub use errands::{ends_say_how_done, hosts_say_how_done, lines_say_how_done};
+pub use errands::{ends_say_how_done, errands_are_carried, hosts_say_how_done, lines_say_how_done};
 pub use numbers::{hosts_ask_one_by_one, lines_ask_one_by_one};
 pub use proof_known as known;
 pub use proof_known::transcript;

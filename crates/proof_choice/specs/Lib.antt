@@ -10,3 +10,4 @@ pub mod Resting
 pub mod Counting
 pub mod Readying
 pub use Rattle.proof_ends.specs as proof_ends
+pub use Rattle.proof_giving.specs as proof_giving

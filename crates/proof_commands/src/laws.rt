@@ -88,21 +88,15 @@ use proof_audit::transcript::{
     values_are_stored_as_asked,
 };
 use proof_host::{asides_keep_facts, laws_follow};
-use proof_replay::asking::{lines_ask_one_by_one, lines_say_how_done};
-use proof_replay::attempts::{lines_fall_asleep_as_told, lines_hold_as_asked};
-use proof_replay::ends::lines_note_ends;
-use proof_replay::known::waking::lines_wake_as_told;
-use proof_replay::lines_that_ran_are_heard;
-use proof_replay::nonces::{lines_count_nonces, lines_seal_once};
-use proof_replay::notes::{lines_note_in_full, lines_say_what_is_not_kept};
-use proof_replay::requests::{lines_answer_questions, lines_end_interviews};
-use proof_replay::rests::lines_leave_nothing;
-use proof_replay::sending::line::{
-    lines_clear_at_restarts, lines_clear_nowhere_else, lines_clear_the_line,
-    lines_collide_when_asked, lines_keep_links, lines_mark_units, lines_overrun_only_when_full,
-    lines_overrun_when_full, ticks_are_told,
+use proof_replay::{
+    lines_answer_questions, lines_ask_one_by_one, lines_clear_at_restarts,
+    lines_clear_nowhere_else, lines_clear_the_line, lines_collide_when_asked, lines_count_nonces,
+    lines_end_interviews, lines_fall_asleep_as_told, lines_hold_as_asked, lines_keep_links,
+    lines_leave_nothing, lines_mark_units, lines_note_ends, lines_note_in_full,
+    lines_overrun_only_when_full, lines_overrun_when_full, lines_say_how_done,
+    lines_say_what_is_not_kept, lines_seal_once, lines_send_what_is_due, lines_that_ran_are_heard,
+    lines_wake_as_told, ticks_are_told,
 };
-use proof_replay::sending::lines_send_what_is_due;
 
 /// Every story from what a command was given to what it leaves keeps the laws.
 pub fn every_story_keeps_laws()

@@ -27,6 +27,6 @@ mod words;
 
 pub use all::commands_keep_laws;
 pub use mesh::the_mesh_is_auditable;
-pub use run_all;
+pub use run_all::ChaChaDraw;
 pub use top::run;
 pub use words::{lines_are_read_as_said, replayed_lines_are_read_as_said, said_lines_are_entries};

@@ -14,3 +14,5 @@ pub mod Judging
 pub use Rattle.proof_ends.proofs.Walking as proof_ends_Walking
 pub use Rattle.proof_ends.proofs.Noting as proof_ends_Noting
 pub use Rattle.proof_ends.proofs.proof_rests_Sleeping
+pub use Rattle.proof_ends.proofs.EndsTold
+pub use Rattle.proof_ends.proofs.Interviews

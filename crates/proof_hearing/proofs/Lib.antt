@@ -24,3 +24,6 @@ pub use Rattle.proof_queue.proofs.proof_requests_Ended
 pub use Rattle.proof_queue.proofs.Stepping as proof_queue_Stepping
 pub use Rattle.proof_queue.proofs.proof_waking_Judging
 pub use Rattle.proof_nonces.proofs.Slept
+pub use Rattle.proof_queue.proofs.EndsLate
+pub use Rattle.proof_queue.proofs.OnLine
+pub use Rattle.proof_queue.proofs.Nodes

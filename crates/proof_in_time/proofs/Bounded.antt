@@ -44,6 +44,9 @@ use Rattle.proof_answered.proofs.Calm.{does_calm, enters_calm}
 use Rattle.proof_answered.proofs.ChipNotices.{entered_leaves}
 use Rattle.proof_answered.proofs.Listeners.{listener_hears}
 use Rattle.proof_answered.proofs.Outwards.{next_is_live}
+use Rattle.mesh_sim.specs.Air.{is_joined}
+use Rattle.mesh_sim.specs.Fates.{place_of}
+use Rattle.proof_course_plain.proofs.Replies.{one_place, one_stands}
 use Rattle.proof_messages.specs.Asking.{takes_openly}
 use Rattle.proof_messages.specs.Reporting.{asks_now}
 use Rattle.supervision.specs.Session.{wire_id}
@@ -53,7 +56,8 @@ use Rattle.device_kinds.specs.Answers.{report_status}
 use Rattle.proof_answered.proofs.Unheard.{counts_says, decoder_says, device_says, does_says, effect_says, line_says, tick_says}
 use Rattle.proof_answered.specs.Outward.{AllListen}
 use Rattle.proof_in_time.specs.Answering.{AnswersSession, IsInStep}
-use Rattle.proof_in_time.specs.Coming.{AsksFor, Asked, Coming, Flies, Has, HearsInStep, IsAsking, IsHeardInStep, IsMessage, IsPlainly, IsReport, IsRequest, Sent, Stands, TellsEnd, Told, WaitsFor, one_later, ticks_left, ticks_of, is_layered}
+use Rattle.proof_in_time.specs.Coming.{AsksFor, Asked, Coming, Flies, Has, IsAsking, IsMessage, IsReport, IsRequest, Sent, Stands, TellsEnd, Told, WaitsFor, one_later, own_ticks, ticks_left, ticks_of, is_layered}
+use Rattle.proof_in_time.specs.InStep.{HasInStep, HearsInStep, IsPlainly}
 use Rattle.proof_in_time.proofs.Carried.{Fits, arrives_comes, carry, many_on_air, ticks_once}
 use Rattle.proof_in_time.proofs.Grown.{Adds, Arrived, arrives_there, calm_adds, device_adds, same_adds, wakes_add}
 use Rattle.proof_in_time.proofs.Landed.{Any, answer_flies, has_piled}
@@ -76,15 +80,15 @@ runs_or_not series.Running = inl refl
 runs_or_not series.Idle = inr (λ e. absurd cc)
 runs_or_not series.Due = inr (λ e. absurd cc)
 
-far : (wait left : ℕ) → (wait ≡ 0) ⊎ (90 + left ≤ wait) → wait ≢ 1
-far wait left (inl none) one = omega (arith, none, one)
-far wait left (inr more) one = omega (arith, more, one)
+far : (wait left own : ℕ) → (wait ≡ 0) ⊎ (90 + left + own ≤ wait) → wait ≢ 1
+far wait left own (inl none) one = omega (arith, none, one)
+far wait left own (inr more) one = omega (arith, more, one)
 
-pub lasts_of : (n : ℕ) (here : Phase) (m : Machine) → NodeFacts (node_of m.host.state n) → WaitsFor n here m → (node_of m.host.state n).attempt_wait ≢ 1
-lasts_of n here m facts waits = by (runs_or_not (node_of m.host.state n).series)
+pub lasts_of : (n most : ℕ) (here : Phase) (m : Machine) → NodeFacts (node_of m.host.state n) → WaitsFor n most here m → (node_of m.host.state n).attempt_wait ≢ 1
+lasts_of n most here m facts waits = by (runs_or_not (node_of m.host.state n).series)
   where
     by : ((node_of m.host.state n).series ≡ series.Running) ⊎ ((node_of m.host.state n).series ≢ series.Running) → (node_of m.host.state n).attempt_wait ≢ 1
-    by (inl run) = let b = waits.bounded run in far (node_of m.host.state n).attempt_wait b.left b.waits
+    by (inl run) = let b = waits.bounded run in far (node_of m.host.state n).attempt_wait b.left (own_ticks n here) b.waits
     by (inr still) = λ one. let none = waits_none (node_of m.host.state n) facts still in omega (arith, none, one)
 
 pub idle_lasts : (n : NodeState) → NodeFacts n → n.series ≡ series.Idle → n.attempt_wait ≢ 1
@@ -96,15 +100,26 @@ open_by [] None attempts is = absurd (let no : false ≡ true = is in cc)
 open_by (command ∷ commands) None attempts is = refl
 open_by commands (Some status) attempts is = absurd (let no : false ≡ true = is in cc)
 
-pub open_where : (n : NodeState) → NodeFacts n → n.series ≡ series.Running → open_session n.book ≡ Some (begun_of n.book)
-open_where n facts run = open_by n.book.commands n.book.outcome n.book.attempts (of (subst (λ (s : Series). SeriesFacts s n.book n.attempt_wait n.again_wait n.next_segment n.segments n.text n.pending) run facts.series))
+some_by : (commands : List ℕ) (outcome : Option ℕ) (attempts : ℕ) → IsSome (open_session (record { commands = commands; outcome = outcome; attempts = attempts })) → 1 ≤ length commands
+some_by [] None attempts is = absurd (let no : false ≡ true = is in cc)
+some_by [] (Some status) attempts is = absurd (let no : false ≡ true = is in cc)
+some_by (command ∷ commands) outcome attempts is = omega arith
+
+is_open : (n : NodeState) → NodeFacts n → n.series ≡ series.Running → IsSome (open_session n.book)
+is_open n facts run = of (subst (λ (s : Series). SeriesFacts s n.book n.attempt_wait n.again_wait n.next_segment n.segments n.text n.pending) run facts.series)
   where
     of : SeriesFacts series.Running n.book n.attempt_wait n.again_wait n.next_segment n.segments n.text n.pending → IsSome (open_session n.book)
     of facts_are = facts_are.0.is_open
 
+pub open_where : (n : NodeState) → NodeFacts n → n.series ≡ series.Running → open_session n.book ≡ Some (begun_of n.book)
+open_where n facts run = open_by n.book.commands n.book.outcome n.book.attempts (is_open n facts run)
+
+begun_where : (n : NodeState) → NodeFacts n → n.series ≡ series.Running → 1 ≤ begun_of n.book
+begun_where n facts run = some_by n.book.commands n.book.outcome n.book.attempts (is_open n facts run)
+
 -- ---- where the host is as it was
 
-pub still_fits : (n count left : ℕ) (here next : Phase) → ((place : ℕ) → ticks_left n next + one_later next place ≤ ticks_left n here + one_later here place) → ticks_left n next ≤ ticks_left n here → Fits n count here left next left
+pub still_fits : (n count left : ℕ) (here next : Phase) → ((place : ℕ) → ticks_left next + one_later next place ≤ ticks_left here + one_later here place) → ticks_left next ≤ ticks_left here → Fits n count here left next left
 still_fits n count left here next joint alone = record { joint = λ place within. let one = joint place in omega (arith, one); alone = omega (arith, alone) }
 
 -- the session that was begun last
@@ -115,63 +130,97 @@ session_of n m = begun_of (node_of m.host.state n).book
 abbrev pub Goes_on : ℕ → Phase → Machine → Phase → Machine → Type 0
 Goes_on n here m next later = (left : ℕ) → Coming n (session_of n m) left here m → Coming n (session_of n m) left next later
 
-pub outer_waits : (n : ℕ) (here next : Phase) (m : Machine) (event : OuterEvent) → Goes_on n here m next (happens m (Outside_does event)) → WaitsFor n here m → WaitsFor n next (happens m (Outside_does event))
-unfolding happens
-outer_waits n here next m event goes w =
-    record { openly = w.openly; bounded = λ run. let b = w.bounded run in record { left = b.left; few = b.few; comes = goes b.left b.comes; waits = b.waits } }
+-- no more ticks of the node itself are to come than were
+abbrev pub NoMore : ℕ → Phase → Phase → Type 0
+NoMore n here next = own_ticks n next ≤ own_ticks n here
 
-decoder_waits : (n : ℕ) (here next : Phase) (m : Machine) → Goes_on n here m next (happens m Decoder_ticks) → WaitsFor n here m → WaitsFor n next (happens m Decoder_ticks)
-unfolding happens
-decoder_waits n here next m goes w =
-    record { openly = w.openly; bounded = λ run. let b = w.bounded run in record { left = b.left; few = b.few; comes = goes b.left b.comes; waits = b.waits } }
+pub as_far : (wait left old new : ℕ) → new ≤ old → (wait ≡ 0) ⊎ (90 + left + old ≤ wait) → (wait ≡ 0) ⊎ (90 + left + new ≤ wait)
+as_far wait left old new less (inl none) = inl none
+as_far wait left old new less (inr more) = inr (omega (arith, less, more))
 
-pub refuses_waits : (n : ℕ) (here next : Phase) (m : Machine) (event : Event) → (happens m event).host.state ≡ m.host.state → Goes_on n here m next (happens m event) → WaitsFor n here m → WaitsFor n next (happens m event)
-refuses_waits n here next m event same goes w = record {
-  openly = ap (λ (h : HostState). is_layered (node_of h n).classes) same ∙ w.openly;
-  bounded = λ run.
-      let b = w.bounded (sym (ap (λ (h : HostState). (node_of h n).series) same) ∙ run) in
-      record {
-        left = b.left;
-        few = b.few;
-        comes = subst (λ (s : ℕ). Coming n s b.left next (happens m event)) (sym (ap (λ (h : HostState). begun_of (node_of h n).book) same)) (goes b.left b.comes);
-        waits = subst (λ (h : HostState). ((node_of h n).attempt_wait ≡ 0) ⊎ (90 + b.left ≤ (node_of h n).attempt_wait)) (sym same) b.waits;
-      };
+no_fewer : (more least : ℕ) → least ≤ more + least
+no_fewer more least = omega arith
+
+fewer : (new old : ℕ) → new ≤ old → old ≤ 1 → new ≤ 1
+fewer new old less once = omega (arith, less, once)
+
+module _ (n most : ℕ) (here next : Phase) (less : NoMore n here next) where
+  -- with the host as it was
+  same_host : (m later : Machine) → later.host.state ≡ m.host.state → ((node_of m.host.state n).series ≡ series.Running → Goes_on n here m next later) → WaitsFor n most here m → WaitsFor n most next later
+  same_host m later same goes w = record {
+    openly = ap (λ (h : HostState). is_layered (node_of h n).classes) same ∙ w.openly;
+    once = fewer (own_ticks n next) (own_ticks n here) less w.once;
+    bounded = λ run.
+        let was = sym (ap (λ (h : HostState). (node_of h n).series) same) ∙ run in
+        let b = w.bounded was in
+        record {
+          left = b.left;
+          few = b.few;
+          within = b.within;
+          comes = subst (λ (s : ℕ). Coming n s b.left next later) (sym (ap (λ (h : HostState). begun_of (node_of h n).book) same)) (goes was b.left b.comes);
+          waits = subst (λ (h : HostState). ((node_of h n).attempt_wait ≡ 0) ⊎ (90 + b.left + own_ticks n next ≤ (node_of h n).attempt_wait)) (sym same)
+              (as_far (node_of m.host.state n).attempt_wait b.left (own_ticks n here) (own_ticks n next) less b.waits);
+        };
+  }
+
+  running_waits : (m : Machine) (event : OuterEvent) → ((node_of m.host.state n).series ≡ series.Running → Goes_on n here m next (happens m (Outside_does event))) → WaitsFor n most here m → WaitsFor n most next (happens m (Outside_does event))
+  unfolding happens
+  running_waits m event goes w = same_host m (happens m (Outside_does event)) refl goes w
+
+  pub outer_waits : (m : Machine) (event : OuterEvent) → Goes_on n here m next (happens m (Outside_does event)) → WaitsFor n most here m → WaitsFor n most next (happens m (Outside_does event))
+  outer_waits m event goes w = running_waits m event (λ run. goes) w
+
+  pub decoder_waits : (m : Machine) → Goes_on n here m next (happens m Decoder_ticks) → WaitsFor n most here m → WaitsFor n most next (happens m Decoder_ticks)
+  unfolding happens
+  decoder_waits m goes w = same_host m (happens m Decoder_ticks) refl (λ run. goes) w
+
+  pub refuses_waits : (m : Machine) (event : Event) → (happens m event).host.state ≡ m.host.state → Goes_on n here m next (happens m event) → WaitsFor n most here m → WaitsFor n most next (happens m event)
+  refuses_waits m event same goes w = same_host m (happens m event) same (λ run. goes) w
+
+  -- the same machine at another phase
+  pub turn_waits : (m : Machine) → Goes_on n here m next m → WaitsFor n most here m → WaitsFor n most next m
+  turn_waits m goes w = same_host m m refl (λ run. goes) w
+
+-- within more ticks
+pub later_waits : (n most more : ℕ) (here : Phase) (m : Machine) → most ≤ more → WaitsFor n most here m → WaitsFor n more here m
+later_waits n most more here m less w = record {
+  openly = w.openly;
+  once = w.once;
+  bounded = λ run. let b = w.bounded run in let within = b.within in record { left = b.left; few = b.few; within = omega (arith, within, less); comes = b.comes; waits = b.waits };
 }
-
--- the same machine at another phase
-pub turn_waits : (n : ℕ) (here next : Phase) (m : Machine) → Goes_on n here m next m → WaitsFor n here m → WaitsFor n next m
-turn_waits n here next m goes w =
-    record { openly = w.openly; bounded = λ run. let b = w.bounded run in record { left = b.left; few = b.few; comes = goes b.left b.comes; waits = b.waits } }
 
 -- ---- where it does something
 
-pub again_far : (wait old left : ℕ) → left ≤ 2 → (wait ≡ old) ⊎ (wait ≡ 100) → (old ≡ 0) ⊎ (90 + left ≤ old) → (wait ≡ 0) ⊎ (90 + left ≤ wait)
-again_far wait old left few (inl same) (inl none) = inl (same ∙ none)
-again_far wait old left few (inl same) (inr more) = inr (omega (arith, same, more))
-again_far wait old left few (inr anew) was = inr (omega (arith, anew, few))
+pub again_far : (wait old left was now : ℕ) → left ≤ 2 → now ≤ was → was ≤ 1 → (wait ≡ old) ⊎ (wait ≡ 100) → (old ≡ 0) ⊎ (90 + left + was ≤ old) → (wait ≡ 0) ⊎ (90 + left + now ≤ wait)
+again_far wait old left was now few less once (inl same) (inl none) = inl (same ∙ none)
+again_far wait old left was now few less once (inl same) (inr more) = inr (omega (arith, same, more, less))
+again_far wait old left was now few less once (inr anew) so = inr (omega (arith, anew, few, less, once))
 
-module _ (n : ℕ) (within : n < 233) where
-  pub does_waits : (here next : Phase) (m : Machine) (event : HostEvent) → IsBeside n m.host.state event → length m.host.state.nodes ≡ 233 → Goes_on n here m next (happens m (Host_does event)) → WaitsFor n here m → WaitsFor n next (happens m (Host_does event))
+module _ (n most : ℕ) (within : n < 233) where
+  pub does_waits : (here next : Phase) (m : Machine) (event : HostEvent) → NoMore n here next → IsBeside n m.host.state event → length m.host.state.nodes ≡ 233 → Goes_on n here m next (happens m (Host_does event)) → WaitsFor n most here m
+      → WaitsFor n most next (happens m (Host_does event))
   unfolding happens
-  does_waits here next m event beside places goes w =
+  does_waits here next m event less beside places goes w =
       let table : OnTable n (node_of m.host.state n) (after m.host.state event).nodes = beside_table n within m.host.state event places beside in
       record {
         openly = ap is_layered table.from.same ∙ w.openly;
+        once = fewer (own_ticks n next) (own_ticks n here) less w.once;
         bounded = λ run.
             let k = table.from.keeps run in
             let b = w.bounded k.running in
             record {
               left = b.left;
               few = b.few;
+              within = b.within;
               comes = subst (λ (s : ℕ). Coming n s b.left next (happens m (Host_does event))) (sym (ap (λ (cs : List ℕ). length cs) k.commands_are)) (goes b.left b.comes);
-              waits = again_far (node_of (after m.host.state event) n).attempt_wait (node_of m.host.state n).attempt_wait b.left b.few k.waits b.waits;
+              waits = again_far (node_of (after m.host.state event) n).attempt_wait (node_of m.host.state n).attempt_wait b.left (own_ticks n here) (own_ticks n next) b.few less w.once k.waits b.waits;
             };
       }
 
   -- its own tick
-  less_far : (wait old left : ℕ) → wait ≡ old - 1 → 1 ≤ left → (old ≡ 0) ⊎ (90 + left ≤ old) → (wait ≡ 0) ⊎ (90 + (left - 1) ≤ wait)
-  less_far wait old left is some (inl none) = inl (omega (arith, is, none))
-  less_far wait old left is some (inr more) = inr (omega (arith, is, some, more))
+  less_far : (wait old left own : ℕ) → wait ≡ old - 1 → (old ≡ 0) ⊎ (90 + left + (1 + own) ≤ old) → (wait ≡ 0) ⊎ (90 + left + own ≤ wait)
+  less_far wait old left own is (inl none) = inl (omega (arith, is, none))
+  less_far wait old left own is (inr more) = inr (omega (arith, is, more))
 
   own_count : (events : List HostEvent) → ticks_of n (Node_ticks n ∷ events) ≡ 1 + ticks_of n events
   own_count events = ap (λ (b : Bool). (if b then 1 else 0) + ticks_of n events) (eq-eqb n n refl)
@@ -179,30 +228,25 @@ module _ (n : ℕ) (within : n < 233) where
   abbrev Own_at : List HostEvent → ℕ → Phase
   Own_at events ticks = Ticking_host (Node_ticks n ∷ events) ticks
 
-  some_left : (events : List HostEvent) (ticks session left : ℕ) (m : Machine) → Coming n session left (Own_at events ticks) m → 1 ≤ left
-  some_left events ticks session left m (Asked asking asks two) = absurd asking
-  some_left events ticks session left m (Sent at few) = let one = own_count events in omega (arith, few, one)
-  some_left events ticks session left m (Flies at few) = let one = own_count events in omega (arith, few, one)
-  some_left events ticks session left m (Told payload tells has few) = let one = own_count events in omega (arith, few, one)
-
   tick_waits : (events : List HostEvent) (ticks : ℕ) (m : Machine) → length m.host.state.nodes ≡ 233 → (node_of m.host.state n).attempt_wait ≢ 1
-      → ((left : ℕ) → 1 ≤ left → Coming n (session_of n m) left (Own_at events ticks) m → Coming n (session_of n m) (left - 1) (Ticking_host events ticks) (happens m (Host_does (Node_ticks n))))
-      → WaitsFor n (Own_at events ticks) m → WaitsFor n (Ticking_host events ticks) (happens m (Host_does (Node_ticks n)))
+      → Goes_on n (Own_at events ticks) m (Ticking_host events ticks) (happens m (Host_does (Node_ticks n))) → WaitsFor n most (Own_at events ticks) m → WaitsFor n most (Ticking_host events ticks) (happens m (Host_does (Node_ticks n)))
   unfolding happens
   tick_waits events ticks m places lasts goes w =
       let t : TickOf (node_of m.host.state n) (node_of (after m.host.state (Node_ticks n)) n) = own_tick n within m.host.state places lasts in
+      let once = w.once in
+      let one = own_count events in
       record {
         openly = ap is_layered t.same ∙ w.openly;
+        once = omega (arith, once, one);
         bounded = λ run.
             let b = w.bounded (t.running run) in
-            let some = some_left events ticks (begun_of (node_of m.host.state n).book) b.left m b.comes in
-            let two = b.few in
             record {
-              left = b.left - 1;
-              few = omega (arith, two);
-              comes = subst (λ (s : ℕ). Coming n s (b.left - 1) (Ticking_host events ticks) (happens m (Host_does (Node_ticks n)))) (sym (ap (λ (cs : List ℕ). length cs) (t.commands_are run)))
-                  (goes b.left some b.comes);
-              waits = less_far (node_of (after m.host.state (Node_ticks n)) n).attempt_wait (node_of m.host.state n).attempt_wait b.left t.less some b.waits;
+              left = b.left;
+              few = b.few;
+              within = b.within;
+              comes = subst (λ (s : ℕ). Coming n s b.left (Ticking_host events ticks) (happens m (Host_does (Node_ticks n)))) (sym (ap (λ (cs : List ℕ). length cs) (t.commands_are run))) (goes b.left b.comes);
+              waits = less_far (node_of (after m.host.state (Node_ticks n)) n).attempt_wait (node_of m.host.state n).attempt_wait b.left (ticks_of n events) t.less
+                  (subst (λ (k : ℕ). ((node_of m.host.state n).attempt_wait ≡ 0) ⊎ (90 + b.left + k ≤ (node_of m.host.state n).attempt_wait)) one b.waits);
             };
       }
 
@@ -223,17 +267,19 @@ module _ (n : ℕ) (within : n < 233) where
   start_wait state (Sealed plain) = refl
 
   pub start_waits : (here next : Phase) (m : Machine) (plan : Plan) (more : Bool) (payload : List ℕ) → length m.host.state.nodes ≡ 233 → (node_of m.host.state n).attempt_wait ≡ 0 → IsMessage (begun_of (node_of m.host.state n).book) payload → IsAsking next
-      → WaitsFor n here m → WaitsFor n next (happens m (Host_does (Starts n plan more payload)))
+      → own_ticks n next ≤ 1 → WaitsFor n most here m → WaitsFor n 2 next (happens m (Host_does (Starts n plan more payload)))
   unfolding happens
-  start_waits here next m plan more payload places none message asking w =
+  start_waits here next m plan more payload places none message asking once w =
       let h : HostState = m.host.state in
       let there : node_of (after h (Starts n plan more payload)) n ≡ after_start (node_of h n) plan = own_start n within h plan more payload places in
       let begun : begun_of (node_of (after h (Starts n plan more payload)) n).book ≡ begun_of (node_of h n).book = ap (λ (s : NodeState). begun_of s.book) there ∙ ap begun_of (start_book (node_of h n) plan) in
       record {
         openly = ap (λ (s : NodeState). is_layered s.classes) there ∙ (ap is_layered (start_classes (node_of h n) plan) ∙ w.openly);
+        once = once;
         bounded = λ run. record {
           left = 2;
           few = omega arith;
+          within = omega arith;
           comes = Asked asking
               (record { request = _; more = more; payload = payload; under_way = refl; purpose = refl; message = subst (λ (s : ℕ). IsMessage s payload) (sym begun) message; frame = refl })
               (omega arith);
@@ -295,12 +341,12 @@ either_node n k = by (k == n) refl
     by true is = inl (eqb-true k n is)
     by false is = inr (λ same. let wrong : true ≡ false = sym (eq-eqb k n same) ∙ is in absurd cc)
 
-module _ (airs : Airs) (these : List Bool) (many : length these ≡ 233) (laws : Devices) (n : ℕ) (marked : is_marked these n ≡ true) (node : IsNode n) where
+module _ (airs : Airs) (these : List Bool) (many : length these ≡ 233) (laws : Devices) (n most : ℕ) (marked : is_marked these n ≡ true) (node : IsNode n) where
   within : n < 233
   within = let few = node.1 in omega (arith, few)
 
   abbrev Leads : Phase → Machine → Event → Type 0
-  Leads next m event = WaitsFor n next (happens m event)
+  Leads next m event = WaitsFor n most next (happens m event)
 
   as_is : (next to : Phase) (m : Machine) (event is : Event) → event ≡ is → next ≡ to → Leads to m is → Leads next m event
   as_is next to m event is event_is next_is leads = subst (λ (e : Event). Leads next m e) (sym event_is) (subst (λ (q : Phase). Leads q m is) (sym next_is) leads)
@@ -316,52 +362,78 @@ module _ (airs : Airs) (these : List Bool) (many : length these ≡ 233) (laws :
       → ((left : ℕ) → Fits n (many_on_air m) here left next left) → Goes_on n here m next later
   stay here next m later none adds has fits left comes = carry n (session_of n m) left left here next m later (λ asking asks two. absurd (none asking)) adds has (fits left) comes
 
-  same_fits : (here next : Phase) → ((place : ℕ) → ticks_left n next + one_later next place ≤ ticks_left n here + one_later here place) → ticks_left n next ≤ ticks_left n here → (count left : ℕ) → Fits n count here left next left
+  same_fits : (here next : Phase) → ((place : ℕ) → ticks_left next + one_later next place ≤ ticks_left here + one_later here place) → ticks_left next ≤ ticks_left here → (count left : ℕ) → Fits n count here left next left
   same_fits here next joint alone count left = still_fits n count left here next joint alone
 
   -- ---- outside the host
 
-  pub line_waits : (line : Line) (m : Machine) → WaitsFor n (Said_line line) m → WaitsFor n (Begun line) (happens m (Outside_does Begins_line))
+  pub line_waits : (line : Line) (m : Machine) → WaitsFor n most (Said_line line) m → WaitsFor n most (Begun line) (happens m (Outside_does Begins_line))
   unfolding happens outcome
   line_waits line m w =
-      outer_waits n (Said_line line) (Begun line) m Begins_line
+      outer_waits n most (Said_line line) (Begun line) (omega arith) m Begins_line
       (stay (Said_line line) (Begun line) m (happens m (Outside_does Begins_line)) (λ a. a) (same_adds m.outside.outer (happens m (Outside_does Begins_line)).outside.outer refl) (λ x has. line_says Any (Has x) (has_piled x) m has)
       (same_fits (Said_line line) (Begun line) (λ place. omega arith) (omega arith) (many_on_air m))) w
 
-  pub begins_waits : (ticks : ℕ) (m : Machine) → WaitsFor n (To_tick (suc ticks)) m → WaitsFor n (Ticked ticks) (happens m (Outside_does Begins_tick))
-  unfolding happens outcome
-  begins_waits ticks m w =
-      outer_waits n (To_tick (suc ticks)) (Ticked ticks) m Begins_tick
-      (stay (To_tick (suc ticks)) (Ticked ticks) m (happens m (Outside_does Begins_tick)) (λ a. a) (same_adds m.outside.outer (happens m (Outside_does Begins_tick)).outside.outer refl) (λ x has. tick_says Any (Has x) (has_piled x) m has)
-      (same_fits (To_tick (suc ticks)) (Ticked ticks) (λ place. omega arith) (omega arith) (many_on_air m))) w
+  -- a tick begins: one fewer is to begin
+  pub some_left : (ticks session left : ℕ) (m : Machine) → Coming n session left (To_tick (suc ticks)) m → 1 ≤ left
+  some_left ticks session left m (Asked asking asks two) = absurd asking
+  some_left ticks session left m (Sent at few) = omega (arith, few)
+  some_left ticks session left m (Flies at few) = omega (arith, few)
+  some_left ticks session left m (Told payload tells has few) = omega (arith, few)
 
-  pub ticks_wait : (place count ticks : ℕ) (m : Machine) (drawn : List ℕ) (route : Option Route) → Awaits m → WaitsFor n (Ticking_devices place (suc count) ticks) m
-      → WaitsFor n (Ticking_devices (place + 1) count ticks) (happens m (Outside_does (Device_ticks place drawn route)))
+  begun_far : (wait left : ℕ) → 1 ≤ left → (wait ≡ 0) ⊎ (90 + left + 0 ≤ wait) → (wait ≡ 0) ⊎ (90 + (left - 1) + 1 ≤ wait)
+  begun_far wait left some (inl none) = inl none
+  begun_far wait left some (inr more) = inr (omega (arith, some, more))
+
+  pub begins_waits : (ticks : ℕ) (m : Machine) → WaitsFor n most (To_tick (suc ticks)) m → WaitsFor n (most - 1) (Ticked ticks) (happens m (Outside_does Begins_tick))
+  unfolding happens outcome
+  begins_waits ticks m w = record {
+    openly = w.openly;
+    once = omega arith;
+    bounded = λ run.
+        let b = w.bounded run in
+        let some = some_left ticks (session_of n m) b.left m b.comes in
+        let few = b.few in
+        let within = b.within in
+        record {
+          left = b.left - 1;
+          few = omega (arith, few);
+          within = omega (arith, within);
+          comes = carry n (session_of n m) b.left (b.left - 1) (To_tick (suc ticks)) (Ticked ticks) m (happens m (Outside_does Begins_tick)) (λ asking asks two. absurd asking)
+              (same_adds m.outside.outer (happens m (Outside_does Begins_tick)).outside.outer refl) (λ x has. tick_says Any (Has x) (has_piled x) m has)
+              (record { joint = λ place within_it. omega (arith, some); alone = omega (arith, some) }) b.comes;
+          waits = begun_far (node_of m.host.state n).attempt_wait b.left some b.waits;
+        };
+  }
+
+  pub ticks_wait : (place count ticks : ℕ) (m : Machine) (drawn : List ℕ) (route : Option Route) → Awaits m → WaitsFor n most (Ticking_devices place (suc count) ticks) m
+      → WaitsFor n most (Ticking_devices (place + 1) count ticks) (happens m (Outside_does (Device_ticks place drawn route)))
   ticks_wait place count ticks m drawn route is w =
-      outer_waits n (Ticking_devices place (suc count) ticks) (Ticking_devices (place + 1) count ticks) m (Device_ticks place drawn route)
+      outer_waits n most (Ticking_devices place (suc count) ticks) (Ticking_devices (place + 1) count ticks) (omega arith) m (Device_ticks place drawn route)
       (stay (Ticking_devices place (suc count) ticks) (Ticking_devices (place + 1) count ticks) m (happens m (Outside_does (Device_ticks place drawn route))) (λ a. a) (device_adds airs m is place drawn route)
       (λ x has. device_says Any (Has x) (has_piled x) m place drawn route has) (same_fits (Ticking_devices place (suc count) ticks) (Ticking_devices (place + 1) count ticks) (λ at. omega arith) (omega arith) (many_on_air m))) w
 
-  pub chip_waits : (ticks : ℕ) (m : Machine) → IsGiven 0 m → IsGiven 1 (happens m (Outside_does Chip_ticks)) → WaitsFor n (Ticking_chip ticks) m → WaitsFor n (Ticking_decoder ticks) (happens m (Outside_does Chip_ticks))
+  pub chip_waits : (ticks : ℕ) (m : Machine) → IsGiven 0 m → IsGiven 1 (happens m (Outside_does Chip_ticks)) → WaitsFor n most (Ticking_chip ticks) m → WaitsFor n most (Ticking_decoder ticks) (happens m (Outside_does Chip_ticks))
   chip_waits ticks m given later w =
-      outer_waits n (Ticking_chip ticks) (Ticking_decoder ticks) m Chip_ticks
+      outer_waits n most (Ticking_chip ticks) (Ticking_decoder ticks) (omega arith) m Chip_ticks
       (stay (Ticking_chip ticks) (Ticking_decoder ticks) m (happens m (Outside_does Chip_ticks)) (λ a. a) (chip_adds m) (λ x has. counts_says Any (Has x) (has_piled x) m given later has)
       (same_fits (Ticking_chip ticks) (Ticking_decoder ticks) (λ place. omega arith) (omega arith) (many_on_air m))) w
     where
       chip_adds : (k : Machine) → Adds k.outside.outer (happens k (Outside_does Chip_ticks)).outside.outer
       chip_adds k = same_adds k.outside.outer (happens k (Outside_does Chip_ticks)).outside.outer (counted_air k)
 
-  pub unfinished_waits : (ticks : ℕ) (m : Machine) → WaitsFor n (Ticking_decoder ticks) m → WaitsFor n (Ticking_host (tick_events m.host.state) ticks) (happens m Decoder_ticks)
+  pub unfinished_waits : (ticks : ℕ) (m : Machine) → WaitsFor n most (Ticking_decoder ticks) m → WaitsFor n most (Ticking_host (tick_events m.host.state) ticks) (happens m Decoder_ticks)
   unfinished_waits ticks m w =
       let once = ticks_once n m.host.state in
-      decoder_waits n (Ticking_decoder ticks) (Ticking_host (tick_events m.host.state) ticks) m
+      decoder_waits n most (Ticking_decoder ticks) (Ticking_host (tick_events m.host.state) ticks) once m
       (stay (Ticking_decoder ticks) (Ticking_host (tick_events m.host.state) ticks) m (happens m Decoder_ticks) (λ a. a) (decoder_adds m) (λ x has. decoder_says Any (Has x) (has_piled x) m has)
-      (same_fits (Ticking_decoder ticks) (Ticking_host (tick_events m.host.state) ticks) (λ place. omega (arith, once)) once (many_on_air m))) w
+      (same_fits (Ticking_decoder ticks) (Ticking_host (tick_events m.host.state) ticks) (λ place. omega arith) (omega arith) (many_on_air m))) w
 
-  pub arrives_wait : (frames ticks : ℕ) (m : Machine) (drawn : List ℕ) (route : Option Route) → May m (Outside_does (Arrives drawn route)) → IsHeardInStep m (Arrives drawn route) → Awaits m → AllListen these m → HasLive m.outside.outer → IsGiven 0 m
-      → IsGiven 0 (happens m (Outside_does (Arrives drawn route))) → length m.outside.outer.chip.state.port.waiting ≤ 31 → WaitsFor n (Arriving (suc frames) ticks) m → WaitsFor n (Arriving frames ticks) (happens m (Outside_does (Arrives drawn route)))
-  arrives_wait frames ticks m drawn route may heard is listen live given later room w =
-      outer_waits n (Arriving (suc frames) ticks) (Arriving frames ticks) m (Arrives drawn route) goes w
+  pub arrives_wait : (frames ticks : ℕ) (m : Machine) (drawn : List ℕ) (route : Option Route) → May m (Outside_does (Arrives drawn route)) → HasInStep n m → is_joined m.outside.outer.air n ≡ true → NodeFacts (node_of m.host.state n) → Awaits m
+      → AllListen these m → HasLive m.outside.outer → IsGiven 0 m → IsGiven 0 (happens m (Outside_does (Arrives drawn route))) → length m.outside.outer.chip.state.port.waiting ≤ 31 → WaitsFor n most (Arriving (suc frames) ticks) m
+      → WaitsFor n most (Arriving frames ticks) (happens m (Outside_does (Arrives drawn route)))
+  arrives_wait frames ticks m drawn route may step joined facts is listen live given later room w =
+      running_waits n most (Arriving (suc frames) ticks) (Arriving frames ticks) (omega arith) m (Arrives drawn route) goes w
     where
       at : Arrived airs m is drawn route
       at = arrives_there airs m is drawn route may
@@ -370,18 +442,22 @@ module _ (airs : Airs) (these : List Bool) (many : length these ≡ 233) (laws :
       alive = next_is_live m.outside.outer live at.frame at.next
 
       -- the device of the node hears it, and answers
-      answers : IsRequest n (session_of n m) at.frame → Stands (IsReport n (session_of n m)) (on_air (happens m (Outside_does (Arrives drawn route))).outside.outer.air.frames)
-      answers request =
+      answers : (node_of m.host.state n).series ≡ series.Running → IsRequest n (session_of n m) at.frame → Stands (IsReport n (session_of n m)) (on_air (happens m (Outside_does (Arrives drawn route))).outside.outer.air.frames)
+      answers run request =
+          let session : ℕ = begun_of (node_of m.host.state n).book in
           let listener = listen.nodes at.frame.node (subst (λ (k : ℕ). is_marked these k ≡ true) (sym request.node) marked) in
+          let first : place_of n m.outside.devices ≡ Some listener.place = subst (λ (k : ℕ). place_of k m.outside.devices ≡ Some listener.place) request.node listener.first in
+          let place : step.place ≡ listener.place = one_place n m.outside.devices step.place listener.place step.first first in
+          let device : step.device ≡ listener.device = one_stands m.outside.devices step.place listener.place step.device listener.device step.stands listener.stands place in
           let fate = listener_hears m.outside.outer.air.network m.outside.devices at.frame listener request.out alive in
-          let hears = heard at.frame at.next request.out listener.place listener.device fate listener.stands in
-          let in_step : HearsInStep (begun_of (node_of m.host.state n).book) listener.device = subst (λ (k : ℕ). HearsInStep (begun_of (node_of m.host.state k).book) listener.device) request.node hears.1 in
-          let answer = answer_ends laws (begun_of (node_of m.host.state n).book) at.frame.payload drawn listener.device request.message listener.is_up.awake in_step in
-          subst (λ (k : ℕ). Stands (IsReport k (begun_of (node_of m.host.state n).book)) (on_air (happens m (Outside_does (Arrives drawn route))).outside.outer.air.frames)) request.node
-          (answer_flies airs m is drawn route at (begun_of (node_of m.host.state n).book) listener.place listener.device answer.0 fate listener.stands hears.0 (subst (λ (k : ℕ). k < 233) (sym request.node) within) answer.1.0 answer.1.1)
+          let in_step : HearsInStep session listener.device = subst (HearsInStep session) device (step.hears (begun_where (node_of m.host.state n) facts run)) in
+          let answer = answer_ends laws session at.frame.payload drawn listener.device request.message listener.is_up.awake in_step in
+          subst (λ (k : ℕ). Stands (IsReport k session) (on_air (happens m (Outside_does (Arrives drawn route))).outside.outer.air.frames)) request.node
+          (answer_flies airs m is drawn route at session listener.place listener.device answer.0 fate listener.stands (subst (λ (k : ℕ). is_joined m.outside.outer.air k ≡ true) (sym request.node) joined)
+          (subst (λ (k : ℕ). k < 233) (sym request.node) within) answer.1.0 answer.1.1)
 
-      goes : Goes_on n (Arriving (suc frames) ticks) m (Arriving frames ticks) (happens m (Outside_does (Arrives drawn route)))
-      goes left comes = arrives_comes airs m is drawn route at given later room alive n (session_of n m) left frames ticks answers comes
+      goes : (node_of m.host.state n).series ≡ series.Running → Goes_on n (Arriving (suc frames) ticks) m (Arriving frames ticks) (happens m (Outside_does (Arrives drawn route)))
+      goes run left comes = arrives_comes airs m is drawn route at given later room alive n (session_of n m) left frames ticks (answers run) comes
 
   -- ---- in a line
 
@@ -391,31 +467,31 @@ module _ (airs : Airs) (these : List Bool) (many : length these ≡ 233) (laws :
   effect_fits : (line : Line) (first : Event) (left : List Event) (count k : ℕ) → Fits n count (Doing line (first ∷ left)) k (Doing line left) k
   effect_fits line first left count k = still_fits n count k (Doing line (first ∷ left)) (Doing line left) (λ place. omega arith) (omega arith)
 
-  pub effect_waits : (line : Line) (left : List Event) (m : Machine) (event : Event) → IsEffect event → Awaits m → length m.host.state.nodes ≡ 233 → WaitsFor n (Doing line (event ∷ left)) m → WaitsFor n (Doing line left) (happens m event)
+  pub effect_waits : (line : Line) (left : List Event) (m : Machine) (event : Event) → IsEffect event → Awaits m → length m.host.state.nodes ≡ 233 → WaitsFor n most (Doing line (event ∷ left)) m → WaitsFor n most (Doing line left) (happens m event)
   unfolding happens outcome
   effect_waits line left m (Outside_does (Wakes_device node route)) is awaits places w =
-      outer_waits n (Doing line (Outside_does (Wakes_device node route) ∷ left)) (Doing line left) m (Wakes_device node route)
+      outer_waits n most (Doing line (Outside_does (Wakes_device node route) ∷ left)) (Doing line left) (omega arith) m (Wakes_device node route)
       (stay (Doing line (Outside_does (Wakes_device node route) ∷ left)) (Doing line left) m (happens m (Outside_does (Wakes_device node route))) (λ a. a) (wakes_add airs m awaits node route)
       (λ x has. effect_says Any (Has x) (has_piled x) airs m (Outside_does (Wakes_device node route)) tt has) (effect_fits line (Outside_does (Wakes_device node route)) left (many_on_air m))) w
   effect_waits line left m (Outside_does (Shows node)) is awaits places w =
-      outer_waits n (Doing line (Outside_does (Shows node) ∷ left)) (Doing line left) m (Shows node)
+      outer_waits n most (Doing line (Outside_does (Shows node) ∷ left)) (Doing line left) (omega arith) m (Shows node)
       (stay (Doing line (Outside_does (Shows node) ∷ left)) (Doing line left) m (happens m (Outside_does (Shows node))) (λ a. a) (shows_adds m node)
       (λ x has. effect_says Any (Has x) (has_piled x) airs m (Outside_does (Shows node)) tt has) (effect_fits line (Outside_does (Shows node)) left (many_on_air m))) w
   effect_waits line left m (Outside_does (Cuts size)) is awaits places w =
-      outer_waits n (Doing line (Outside_does (Cuts size) ∷ left)) (Doing line left) m (Cuts size)
+      outer_waits n most (Doing line (Outside_does (Cuts size) ∷ left)) (Doing line left) (omega arith) m (Cuts size)
       (stay (Doing line (Outside_does (Cuts size) ∷ left)) (Doing line left) m (happens m (Outside_does (Cuts size))) (λ a. a) (same_adds m.outside.outer (happens m (Outside_does (Cuts size))).outside.outer refl)
       (λ x has. effect_says Any (Has x) (has_piled x) airs m (Outside_does (Cuts size)) tt has) (effect_fits line (Outside_does (Cuts size)) left (many_on_air m))) w
   effect_waits line left m (Host_does (Accepts order carriage)) is awaits places w =
-      does_waits n within (Doing line (Host_does (Accepts order carriage) ∷ left)) (Doing line left) m (Accepts order carriage) tt places
+      does_waits n most within (Doing line (Host_does (Accepts order carriage) ∷ left)) (Doing line left) m (Accepts order carriage) (omega arith) tt places
       (stay (Doing line (Host_does (Accepts order carriage) ∷ left)) (Doing line left) m (happens m (Host_does (Accepts order carriage))) (λ a. a)
       (calm_adds m.outside.outer (happens m (Host_does (Accepts order carriage))).outside.outer (does_calm airs m (Accepts order carriage)))
       (λ x has. effect_says Any (Has x) (has_piled x) airs m (Host_does (Accepts order carriage)) tt has) (effect_fits line (Host_does (Accepts order carriage)) left (many_on_air m))) w
   effect_waits line left m (Refuses of refusal) is awaits places w =
-      refuses_waits n (Doing line (Refuses of refusal ∷ left)) (Doing line left) m (Refuses of refusal) refl
+      refuses_waits n most (Doing line (Refuses of refusal ∷ left)) (Doing line left) (omega arith) m (Refuses of refusal) refl
       (stay (Doing line (Refuses of refusal ∷ left)) (Doing line left) m (happens m (Refuses of refusal)) (λ a. a) (calm_adds m.outside.outer (happens m (Refuses of refusal)).outside.outer (enters_calm airs m (entry.Refused refusal)))
       (λ x has. effect_says Any (Has x) (has_piled x) airs m (Refuses of refusal) tt has) (effect_fits line (Refuses of refusal) left (many_on_air m))) w
   effect_waits line left m (Shows_values node) is awaits places w =
-      refuses_waits n (Doing line (Shows_values node ∷ left)) (Doing line left) m (Shows_values node) refl
+      refuses_waits n most (Doing line (Shows_values node ∷ left)) (Doing line left) (omega arith) m (Shows_values node) refl
       (stay (Doing line (Shows_values node ∷ left)) (Doing line left) m (happens m (Shows_values node)) (λ a. a) (calm_adds m.outside.outer (happens m (Shows_values node)).outside.outer (enters_calm airs m (shown_values m.host.state node)))
       (λ x has. effect_says Any (Has x) (has_piled x) airs m (Shows_values node) tt has) (effect_fits line (Shows_values node) left (many_on_air m))) w
   effect_waits line left m (Outside_does event) is awaits places w = absurd is
@@ -426,31 +502,28 @@ module _ (airs : Airs) (these : List Bool) (many : length these ≡ 233) (laws :
 
   -- an event of its tick, of this node or not
   pub tick_event : (first : HostEvent) (events : List HostEvent) (ticks : ℕ) (m : Machine) → IsOfTick first → m.host.state.side.turn ≡ no_turn → length m.host.state.nodes ≡ 233 → (node_of m.host.state n).attempt_wait ≢ 1
-      → WaitsFor n (Ticking_host (first ∷ events) ticks) m → WaitsFor n (Ticking_host events ticks) (happens m (Host_does first))
+      → WaitsFor n most (Ticking_host (first ∷ events) ticks) m → WaitsFor n most (Ticking_host events ticks) (happens m (Host_does first))
   tick_event Line_ticks events ticks m is turn places lasts w =
-      does_waits n within (Ticking_host (Line_ticks ∷ events) ticks) (Ticking_host events ticks) m Line_ticks turn places
+      does_waits n most within (Ticking_host (Line_ticks ∷ events) ticks) (Ticking_host events ticks) m Line_ticks (omega arith) turn places
       (host_stays airs n (Ticking_host (Line_ticks ∷ events) ticks) (Ticking_host events ticks) m Line_ticks (λ asking asks. asking) (λ left. still_fits n (many_on_air m) left (Ticking_host (Line_ticks ∷ events) ticks) (Ticking_host events ticks) (λ place. omega arith) (omega arith))) w
   tick_event (Requests_do event moment) events ticks m is turn places lasts w =
-      does_waits n within (Ticking_host (Requests_do event moment ∷ events) ticks) (Ticking_host events ticks) m (Requests_do event moment) tt places
+      does_waits n most within (Ticking_host (Requests_do event moment ∷ events) ticks) (Ticking_host events ticks) m (Requests_do event moment) (omega arith) tt places
       (host_stays airs n (Ticking_host (Requests_do event moment ∷ events) ticks) (Ticking_host events ticks) m (Requests_do event moment) (λ asking asks. asking)
       (λ left. still_fits n (many_on_air m) left (Ticking_host (Requests_do event moment ∷ events) ticks) (Ticking_host events ticks) (λ place. omega arith) (omega arith))) w
   tick_event (Node_ticks k) events ticks m is turn places lasts w = by (either_node n k)
     where
-      own : WaitsFor n (Ticking_host (Node_ticks n ∷ events) ticks) m → WaitsFor n (Ticking_host events ticks) (happens m (Host_does (Node_ticks n)))
+      own : WaitsFor n most (Ticking_host (Node_ticks n ∷ events) ticks) m → WaitsFor n most (Ticking_host events ticks) (happens m (Host_does (Node_ticks n)))
       own v =
-          let one = own_count n within events in
-          tick_waits n within events ticks m places lasts
-          (λ left some comes.
-          carry n (session_of n m) left (left - 1) (Own_at n within events ticks) (Ticking_host events ticks) m (happens m (Host_does (Node_ticks n))) (λ asking asks two. absurd asking)
-          (calm_adds m.outside.outer (happens m (Host_does (Node_ticks n))).outside.outer (does_calm airs m (Node_ticks n))) (λ x has. does_says Any (Has x) (has_piled x) airs m (Node_ticks n) has)
-          (record { joint = λ place within. omega (arith, one, some); alone = omega (arith, one, some) }) comes) v
+          tick_waits n most within events ticks m places lasts
+          (host_stays airs n (Own_at n most within events ticks) (Ticking_host events ticks) m (Node_ticks n) (λ asking asks. asking)
+          (λ left. still_fits n (many_on_air m) left (Own_at n most within events ticks) (Ticking_host events ticks) (λ place. omega arith) (omega arith))) v
 
-      by : (k ≡ n) ⊎ (k ≢ n) → WaitsFor n (Ticking_host events ticks) (happens m (Host_does (Node_ticks k)))
+      by : (k ≡ n) ⊎ (k ≢ n) → WaitsFor n most (Ticking_host events ticks) (happens m (Host_does (Node_ticks k)))
       by (inl same) =
-          subst (λ (j : ℕ). WaitsFor n (Ticking_host events ticks) (happens m (Host_does (Node_ticks j)))) (sym same)
-          (own (subst (λ (j : ℕ). WaitsFor n (Ticking_host (Node_ticks j ∷ events) ticks) m) same w))
+          subst (λ (j : ℕ). WaitsFor n most (Ticking_host events ticks) (happens m (Host_does (Node_ticks j)))) (sym same)
+          (own (subst (λ (j : ℕ). WaitsFor n most (Ticking_host (Node_ticks j ∷ events) ticks) m) same w))
       by (inr other) =
-          does_waits n within (Ticking_host (Node_ticks k ∷ events) ticks) (Ticking_host events ticks) m (Node_ticks k) other places
+          does_waits n most within (Ticking_host (Node_ticks k ∷ events) ticks) (Ticking_host events ticks) m (Node_ticks k) (no_fewer (if k == n then 1 else 0) (ticks_of n events)) other places
           (host_stays airs n (Ticking_host (Node_ticks k ∷ events) ticks) (Ticking_host events ticks) m (Node_ticks k) (λ asking asks. asking)
           (λ left. still_fits n (many_on_air m) left (Ticking_host (Node_ticks k ∷ events) ticks) (Ticking_host events ticks) (λ place. omega arith) (omega arith))) w
   tick_event event events ticks m is turn places lasts w = absurd is

@@ -1,5 +1,5 @@
 -- What is to come of an attempt comes nearer, or stays as near, where frames stand on the air and with the chip.
-use Rattle.std.proofs.Common.{◌≡◌, ◌≤◌, ◌<◌, ℕ, zero, suc, ◌+◌, ◌-◌, ◌==◌, nat_lt, inl, inr, Bool, true, false, if◌then◌else◌, List, ◌∷◌, map, filter, length, length-append, refl, sym, ap, ◌∙◌, subst, arith}
+use Rattle.std.proofs.Common.{◌≡◌, ◌≤◌, ◌<◌, ℕ, zero, suc, ◌+◌, ◌==◌, nat_lt, inl, inr, Bool, true, false, if◌then◌else◌, List, ◌∷◌, map, filter, length, length-append, refl, sym, ap, ◌∙◌, subst, arith}
 use Rattle.std.proofs.lemmas.Bool.{eqb-true}
 use Rattle.std.proofs.lemmas.Bool.Decides.{nat_tests}
 use Rattle.std.specs.Prelude.{◌⊎◌, Option}
@@ -30,15 +30,15 @@ use Rattle.proof_in_time.proofs.Landed.{arrives_has, report_comes}
 
 -- no more ticks are to come than were, but for those that are to come no more; so many frames are on the air
 pub record Fits (n count : ℕ) (here : Phase) (left : ℕ) (next : Phase) (then_left : ℕ) : Type 0 where
-  pub joint : (place : ℕ) → place < count → ticks_left n next + one_later next place + left ≤ ticks_left n here + one_later here place + then_left
-  pub alone : ticks_left n next + left ≤ ticks_left n here + then_left
+  pub joint : (place : ℕ) → place < count → ticks_left next + one_later next place + left ≤ ticks_left here + one_later here place + then_left
+  pub alone : ticks_left next + left ≤ ticks_left here + then_left
 
 -- a report that the chip has for the host
 pub record IsThere (n session left : ℕ) (here : Phase) (m : Machine) : Type 0 where
   pub payload : List ℕ
   pub tells : TellsEnd session payload
   pub has : Has (brings n payload) (unheard m.outside.outer)
-  pub few : ticks_left n here ≤ left
+  pub few : ticks_left here ≤ left
 
 abbrev pub many_on_air : Machine → ℕ
 many_on_air m = length (on_air m.outside.outer.air.frames)
@@ -62,14 +62,14 @@ carry_or n session left then_left here next m later asks adds fits (Sent at few)
     let on = stands_on (IsRequest n session) (on_air m.outside.outer.air.frames) (on_air later.outside.outer.air.frames) adds at in
     let same : length on.0.before ≡ length at.before = ap (λ (fs : List Flown). length fs) on.1 in
     let fit = fits.joint (length at.before) (stands_within (IsRequest n session) (on_air m.outside.outer.air.frames) at) in
-    let so = nearer (ticks_left n next + one_later next (length at.before)) (ticks_left n here + one_later here (length at.before)) 1 left then_left fit few in
-    inl (Sent on.0 (subst (λ (k : ℕ). ticks_left n next + one_later next k + 1 ≤ then_left) (sym same) so))
+    let so = nearer (ticks_left next + one_later next (length at.before)) (ticks_left here + one_later here (length at.before)) 1 left then_left fit few in
+    inl (Sent on.0 (subst (λ (k : ℕ). ticks_left next + one_later next k + 1 ≤ then_left) (sym same) so))
 carry_or n session left then_left here next m later asks adds fits (Flies at few) =
     let on = stands_on (IsReport n session) (on_air m.outside.outer.air.frames) (on_air later.outside.outer.air.frames) adds at in
     let same : length on.0.before ≡ length at.before = ap (λ (fs : List Flown). length fs) on.1 in
     let fit = fits.joint (length at.before) (stands_within (IsReport n session) (on_air m.outside.outer.air.frames) at) in
-    let so = near (ticks_left n next + one_later next (length at.before)) (ticks_left n here + one_later here (length at.before)) left then_left fit few in
-    inl (Flies on.0 (subst (λ (k : ℕ). ticks_left n next + one_later next k ≤ then_left) (sym same) so))
+    let so = near (ticks_left next + one_later next (length at.before)) (ticks_left here + one_later here (length at.before)) left then_left fit few in
+    inl (Flies on.0 (subst (λ (k : ℕ). ticks_left next + one_later next k ≤ then_left) (sym same) so))
 carry_or n session left then_left here next m later asks adds fits (Told payload tells there few) = inr (record { payload = payload; tells = tells; has = there; few = few })
 
 pub carry : (n session left then_left : ℕ) (here next : Phase) (m later : Machine) → (IsAsking here → AsksFor n session m.host.state → 2 ≤ left → Coming n session then_left next later) → Adds m.outside.outer later.outside.outer
@@ -78,7 +78,7 @@ carry n session left then_left here next m later asks adds has fits comes = by (
   where
     by : Coming n session then_left next later ⊎ IsThere n session left here m → Coming n session then_left next later
     by (inl on) = on
-    by (inr there) = Told there.payload there.tells (has (brings n there.payload) there.has) (near (ticks_left n next) (ticks_left n here) left then_left fits.alone there.few)
+    by (inr there) = Told there.payload there.tells (has (brings n there.payload) there.has) (near (ticks_left next) (ticks_left here) left then_left fits.alone there.few)
 
 -- ---- a frame arrives
 
@@ -91,6 +91,12 @@ later_once place frames = by (nat_lt place frames) refl
     by : (b : Bool) → nat_lt place frames ≡ b → unless_one (nat_lt (suc place) (suc frames)) ≡ unless_one b
     by true is = ap unless_one (let so : nat_lt (suc place) (suc frames) ≡ true = grind (arith, nat_tests, is) in so)
     by false is = ap unless_one (let so : nat_lt (suc place) (suc frames) ≡ false = grind (arith, nat_tests, is) in so)
+
+nothing_more : (x left : ℕ) → x ≤ left → 0 + x ≤ left
+nothing_more x left few = omega (arith, few)
+
+nothing_then : (x left : ℕ) → x + 1 ≤ left → 0 + x + 1 ≤ left
+nothing_then x left few = omega (arith, few)
 
 at_most_one : (b : Bool) → unless_one b ≤ 1
 at_most_one true = omega arith
@@ -105,16 +111,17 @@ module _ (airs : Airs) (m : Machine) (is : Awaits m) (drawn : List ℕ) (route :
   flights_then = on_air then_there.outside.outer.air.frames
 
   module _ (hears : IsRequest n session at.frame → Stands (IsReport n session) flights_then) where
-    sends : (place : ℕ) → 1 + unless_one (nat_lt place (suc frames)) + 1 ≤ left → IsRequest n session at.frame ⊎ ((on : Stands (IsRequest n session) at.rest) × (place ≡ suc (length on.before))) → Coming n session left (Arriving frames ticks) then_there
+    sends : (place : ℕ) → unless_one (nat_lt place (suc frames)) + 1 ≤ left → IsRequest n session at.frame ⊎ ((on : Stands (IsRequest n session) at.rest) × (place ≡ suc (length on.before))) → Coming n session left (Arriving frames ticks) then_there
     sends place few (inl request) = let answer = hears request in let one = at_most_one (nat_lt (length answer.before) frames) in Flies answer (omega (arith, few, one))
     sends place few (inr (on, same)) =
         let there = stands_on (IsRequest n session) at.rest flights_then at.grows on in
         let as_far : unless_one (nat_lt (length on.before) frames) ≡ unless_one (nat_lt place (suc frames)) = sym (ap (λ (k : ℕ). unless_one (nat_lt k (suc frames))) same ∙ later_once (length on.before) frames) in
         Sent there.0
-        (subst (λ (k : ℕ). 1 + unless_one (nat_lt k frames) + 1 ≤ left) (sym (ap (λ (fs : List Flown). length fs) there.1))
-        (subst (λ (k : ℕ). 1 + k + 1 ≤ left) (sym as_far) few))
+        (nothing_then (unless_one (nat_lt (length there.0.before) frames)) left
+        (subst (λ (k : ℕ). unless_one (nat_lt k frames) + 1 ≤ left) (sym (ap (λ (fs : List Flown). length fs) there.1))
+        (subst (λ (k : ℕ). k + 1 ≤ left) (sym as_far) few)))
 
-    flies : (place : ℕ) → 1 + unless_one (nat_lt place (suc frames)) ≤ left → IsReport n session at.frame ⊎ ((on : Stands (IsReport n session) at.rest) × (place ≡ suc (length on.before))) → Coming n session left (Arriving frames ticks) then_there
+    flies : (place : ℕ) → unless_one (nat_lt place (suc frames)) ≤ left → IsReport n session at.frame ⊎ ((on : Stands (IsReport n session) at.rest) × (place ≡ suc (length on.before))) → Coming n session left (Arriving frames ticks) then_there
     flies place few (inl report) =
         Told at.frame.payload report.tells
         (subst (λ (k : ℕ). Has (brings k at.frame.payload) (unheard then_there.outside.outer)) report.node (report_comes m drawn route at.frame at.next report.home live report.tells.some report.tells.few given later_given room)) (omega (arith, few))
@@ -122,8 +129,9 @@ module _ (airs : Airs) (m : Machine) (is : Awaits m) (drawn : List ℕ) (route :
         let there = stands_on (IsReport n session) at.rest flights_then at.grows on in
         let as_far : unless_one (nat_lt (length on.before) frames) ≡ unless_one (nat_lt place (suc frames)) = sym (ap (λ (k : ℕ). unless_one (nat_lt k (suc frames))) same ∙ later_once (length on.before) frames) in
         Flies there.0
-        (subst (λ (k : ℕ). 1 + unless_one (nat_lt k frames) ≤ left) (sym (ap (λ (fs : List Flown). length fs) there.1))
-        (subst (λ (k : ℕ). 1 + k ≤ left) (sym as_far) few))
+        (nothing_more (unless_one (nat_lt (length there.0.before) frames)) left
+        (subst (λ (k : ℕ). unless_one (nat_lt k frames) ≤ left) (sym (ap (λ (fs : List Flown). length fs) there.1))
+        (subst (λ (k : ℕ). k ≤ left) (sym as_far) few)))
 
     -- it stands at the same place, with the frames as they were
     stood : (Is : Flown → Type 0) (stands : Stands Is (on_air m.outside.outer.air.frames)) → Is at.frame ⊎ ((on : Stands Is at.rest) × (length stands.before ≡ suc (length on.before)))
@@ -132,8 +140,8 @@ module _ (airs : Airs) (m : Machine) (is : Awaits m) (drawn : List ℕ) (route :
 
     pub arrives_comes : Coming n session left (Arriving (suc frames) ticks) m → Coming n session left (Arriving frames ticks) then_there
     arrives_comes (Asked asking asked two) = absurd asking
-    arrives_comes (Sent stands few) = sends (length stands.before) few (stood (IsRequest n session) stands)
-    arrives_comes (Flies stands few) = flies (length stands.before) few (stood (IsReport n session) stands)
+    arrives_comes (Sent stands few) = sends (length stands.before) (omega (arith, few)) (stood (IsRequest n session) stands)
+    arrives_comes (Flies stands few) = flies (length stands.before) (omega (arith, few)) (stood (IsReport n session) stands)
     arrives_comes (Told payload tells there few) = Told payload tells (arrives_has (brings n payload) m drawn route given later_given there) few
 
 -- ---- each node ticks once

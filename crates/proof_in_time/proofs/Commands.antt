@@ -37,7 +37,8 @@ use Rattle.proof_spoken.proofs.Orders.{IsNoOrder, SameOrders, event_kept}
 use Rattle.proof_spoken.proofs.Plain.{silent_none}
 use Rattle.proof_answered.specs.proof_calm.Resting.{IsEffect, LineAt}
 use Rattle.proof_answered.specs.proof_calm.proof_work.proof_walk.Phases.{Phase, Said_line, Doing, To_tick, Arriving, Giving, Ticking_devices, Ticking_chip, Ticking_decoder, Ticking_host, Sleeping, Submitting, Moving, Moved, Goes}
-use Rattle.proof_in_time.specs.Coming.{GoWhole, GoesWhole, IsMessage, IsPlainOrder, IsPlainStart, IsPlainly, is_layered}
+use Rattle.proof_in_time.specs.InStep.{IsNear, IsPlainly}
+use Rattle.proof_in_time.specs.Coming.{GoWhole, GoesWhole, IsMessage, IsPlainStart, is_layered}
 
 -- ---- they are kept
 
@@ -130,8 +131,12 @@ accepted_whole h order carriage accepted openly few = record {
 abbrev AreOpen : List Bool → HostState → Type 0
 AreOpen these h = (n : ℕ) → is_marked these n ≡ true → is_layered (node_of h n).classes ≡ false
 
-event_whole : (these : List Bool) (h : HostState) (event : HostEvent) → MayHost h event → AreOpen these h → IsPlainOrder these event → GoWhole these h.commands → GoWhole these (after h event).commands
-event_whole these h (Accepts order carriage) may bare plain go = more_whole these h.commands _ (λ marked. accepted_whole h order carriage may (bare order.node marked) (plain marked)) go
+-- an order for one of these nodes is for an end point that has a number on the wire
+abbrev AreNear : List Bool → HostEvent → Type 0
+AreNear these event = (n : ℕ) → is_marked these n ≡ true → IsNear n event
+
+event_whole : (these : List Bool) (h : HostState) (event : HostEvent) → MayHost h event → AreOpen these h → AreNear these event → GoWhole these h.commands → GoWhole these (after h event).commands
+event_whole these h (Accepts order carriage) may bare plain go = more_whole these h.commands _ (λ marked. accepted_whole h order carriage may (bare order.node marked) (plain order.node marked refl)) go
 event_whole these h event may bare plain go = same_whole these h.commands (after h event).commands (event_kept h event tt) go
 
 events_whole : (these : List Bool) (h : HostState) (events : List HostEvent) → AllByRecursion IsNoOrder events → GoWhole these h.commands → GoWhole these (after_all h events).commands
@@ -170,7 +175,7 @@ steady_of here next m event goes at = absurd goes
 machine_whole : (these : List Bool) (m : Machine) (event : Event) → IsSteady event → May m event → AreOpen these m.host.state → IsPlainly these m event → GoWhole these m.host.state.commands → GoWhole these (happens m event).host.state.commands
 unfolding happens May
 machine_whole these m (Outside_does event) steady may bare plainly go = go
-machine_whole these m (Host_does event) steady may bare plainly go = event_whole these m.host.state event may.0 bare plainly go
+machine_whole these m (Host_does event) steady may bare plainly go = event_whole these m.host.state event may.0 bare (λ n marked. (plainly n marked).near) go
 machine_whole these m (Host_takes count rest items events) steady may bare plainly go = events_whole these m.host.state events (silent_none m.host.state events (judged_silent m.host.state items events may.judged)) go
 machine_whole these m Decoder_ticks steady may bare plainly go = go
 machine_whole these m (Refuses line refusal) steady may bare plainly go = go

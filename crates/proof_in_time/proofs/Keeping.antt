@@ -1,5 +1,5 @@
 -- Where no entry says that the keeper failed, what the host judges was kept.
-use Rattle.std.proofs.Common.{◌≡◌, ℕ, Bool, true, false, List, [], ◌∷◌, ◌++◌, ◌||◌, refl, sym, ap, ◌∙◌}
+use Rattle.std.proofs.Common.{◌≡◌, ℕ, Bool, true, false, List, [], ◌∷◌, ◌++◌, ◌||◌, refl, sym, ap, ◌∙◌, subst}
 use Rattle.std.proofs.lemmas.Bool.{or_parts}
 use Rattle.std.specs.List.{AllByRecursion, list_any}
 use Rattle.zw_text.specs.declared.entry.Entry.{Entry}
@@ -8,7 +8,7 @@ use Rattle.serial_frame.specs.Stream.{Rest}
 use Rattle.serial_frame.specs.declared.item.Item.{Item}
 use Rattle.law_time.specs.Stretches.{is_keeper_fault}
 use Rattle.host_model.specs.Did.{outs_all}
-use Rattle.host_model.specs.Events.{HostEvent, Is_unkept}
+use Rattle.host_model.specs.Events.{HostEvent, Begin_unkept, Is_unkept}
 use Rattle.host_model.specs.After.{after}
 use Rattle.host_model.specs.Outs.{outs}
 use Rattle.host_model.specs.State.{HostState}
@@ -16,7 +16,7 @@ use Rattle.outside_model.specs.Did.{entries_all, happens_all}
 use Rattle.outside_model.specs.Events.{OuterEvent, outcome, ticked_entry}
 use Rattle.outside_model.specs.State.{Outside}
 use Rattle.outside_model.proofs.EventLists.{entries_all-append}
-use Rattle.world_model.specs.Events.{Host_takes, entries, fed}
+use Rattle.world_model.specs.Events.{Event, Host_does, Host_takes, entries, fed}
 use Rattle.world_model.specs.State.{Machine, routed}
 use Rattle.world_model.proofs.Hosting.{routed-append}
 use Rattle.proof_answered.proofs.Staffed.{worked_before}
@@ -54,6 +54,16 @@ all_kept w h (event ∷ events) none =
 pub judged_kept : (m : Machine) (count : ℕ) (rest : Rest) (items : List Item) (events : List HostEvent) → list_any is_keeper_fault (entries m (Host_takes count rest items events)) ≡ false → AllByRecursion IsKept events
 unfolding entries
 judged_kept m count rest items events none = all_kept (fed m count rest).outside (fed m count rest).host.state events none
+
+-- nor does it fail to keep a session
+pub none_unkept : (m : Machine) (event : Event) → list_any is_keeper_fault (entries m event) ≡ false → (k : ℕ) → event ≡ Host_does (Begin_unkept k) → ⊥
+unfolding entries outcome
+none_unkept m event none k is =
+    let told : list_any is_keeper_fault (entries m (Host_does (Begin_unkept k))) ≡ false = subst (λ (e : Event). list_any is_keeper_fault (entries m e) ≡ false) is none in
+    let first = (any_both is_keeper_fault ((ticked_entry m.outside.outer ++ entry.Unkept k ∷ []) ++ []) [] told).0 in
+    let stamped = (any_both is_keeper_fault (ticked_entry m.outside.outer ++ entry.Unkept k ∷ []) [] first).0 in
+    let wrong : true ≡ false = (any_both is_keeper_fault (ticked_entry m.outside.outer) (entry.Unkept k ∷ []) stamped).1 in
+    absurd cc
 
 pub told_kept : (these : List Bool) (past told : List Entry) → IsKeptFor these (past ++ told) → list_any is_keeper_fault told ≡ false
 told_kept these past told is = (any_both is_keeper_fault past told is.kept).1

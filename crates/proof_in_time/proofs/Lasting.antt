@@ -1,7 +1,7 @@
 -- From phase to phase no wait of an attempt runs out.
 use Rattle.std.proofs.Common.{◌≡◌, ◌≢◌, ◌≤◌, ◌<◌, ℕ, zero, suc, ◌+◌, ◌-◌, nat_lt, inl, inr, Bool, true, false, if◌then◌else◌, List, [], ◌∷◌, ◌++◌, length, refl, sym, ap, ◌∙◌, subst, arith}
 use Rattle.std.proofs.lemmas.Bool.Decides.{nat_tests}
-use Rattle.std.specs.Prelude.{◌⊎◌, Some, None}
+use Rattle.std.specs.Prelude.{◌⊎◌, Some, None, slice_index_or}
 use Rattle.std.specs.List.{AllByRecursion, list_any}
 use Rattle.law_time.specs.Stretches.{is_keeper_fault}
 use Rattle.zw_base.proofs.Each.{all-right}
@@ -20,6 +20,7 @@ use Rattle.host_requests.specs.Frames.{frame_of}
 use Rattle.host_requests.specs.declared.under_way.UnderWay.{UnderWay}
 use Rattle.host_node.specs.Facts.{NodeFacts}
 use Rattle.host_model.specs.Events.{Node_ticks}
+use Rattle.host_node.specs.declared.series.Series.TheVariants as series
 use Rattle.host_model.specs.State.{node_of}
 use Rattle.outside_model.specs.Events.{Chip_takes}
 use Rattle.world_model.specs.Events.{Event, Outside_does, Host_does, Host_takes, happens, entries, May}
@@ -34,6 +35,9 @@ use Rattle.proof_answered.specs.proof_calm.Calls.{answer_taken}
 use Rattle.proof_answered.specs.proof_calm.Resting.{LineAt, LineRests}
 use Rattle.proof_answered.specs.proof_calm.Routed.{IsRouted}
 use Rattle.proof_answered.specs.proof_calm.Tied.{Answers, At_chip, Brings, Called, Informs, IsOnWay, IsOf, IsPeopled, LeavesIt, LeaveIt, Nowhere, On_way, RoomAt, Tied, TieAt, TieOf, ends_of, on_line, unheard, unheard_by}
+use Rattle.proof_answered.specs.proof_calm.Networks.{Members, members}
+use Rattle.proof_answered.proofs.Links.{event_members}
+use Rattle.proof_answered.proofs.Peopled.{covers_of}
 use Rattle.proof_answered.proofs.Unmarked.{nothing_asked}
 use Rattle.proof_answered.specs.FirstAttempts.{IsInTime, KnowFirst}
 use Rattle.proof_answered.specs.Outward.{AllListen, IsSentTo}
@@ -41,9 +45,10 @@ use Rattle.proof_answered.specs.Workers.{IsWorkedFor, KnowStaff, KnowsWorkers}
 use Rattle.proof_answered.proofs.Outwards.{marked_within}
 use Rattle.proof_answered.proofs.Staffing.{sent_on}
 use Rattle.proof_answered.proofs.Walking.{none_given}
-use Rattle.proof_in_time.specs.Coming.{AllWaitFor, AsksFor, Asked, Coming, Flies, GoWhole, Has, IsAsking, IsKept, IsKeptFor, IsPlainly, KnowPlainly, KnowWaits, Sent, Told, WaitsFor, brings, one_later, ticks_left}
+use Rattle.proof_in_time.specs.Coming.{AllWaitFor, AreInAir, AreWaiting, AsksFor, Asked, Coming, Flies, GoWhole, Has, IsAsking, IsKept, IsKeptFor, KnowPlainly, KnowWaits, Sent, Told, WaitsFor, brings, one_later, ticks_left}
+use Rattle.proof_in_time.specs.InStep.{IsPlainly}
 use Rattle.proof_in_time.proofs.Aired.{request_airs}
-use Rattle.proof_in_time.proofs.Bounded.{Devices, arrives_wait, begins_waits, chip_waits, effect_waits, idle_lasts, lasts_of, line_waits, session_of, still_fits, tick_event, ticks_wait, turn_waits, unfinished_waits}
+use Rattle.proof_in_time.proofs.Bounded.{Devices, NoMore, arrives_wait, begins_waits, chip_waits, effect_waits, idle_lasts, lasts_of, later_waits, line_waits, session_of, still_fits, tick_event, ticks_wait, turn_waits, unfinished_waits}
 use Rattle.proof_in_time.proofs.Carried.{Fits, carry, many_on_air}
 use Rattle.proof_in_time.proofs.Commands.{on_whole, plain_start}
 use Rattle.proof_in_time.proofs.Grown.{same_adds}
@@ -61,7 +66,7 @@ no_payload id status n payload is = let no_function = ap (λ (f : FrameParts). f
 no_update : (id : ℕ) (status : TransmitStatus) (update : Update) → notice_frame (SendData id status) ≡ notice_frame (ApplicationUpdate update) → ⊥
 no_update id status update is = let no_function = ap (λ (f : FrameParts). f.func) is in absurd cc
 
-no_call : (joined : List Bool) (id : ℕ) (status : TransmitStatus) → LeavesIt joined (notice_frame (SendData id status)) → ⊥
+pub no_call : (joined : List Bool) (id : ℕ) (status : TransmitStatus) → LeavesIt joined (notice_frame (SendData id status)) → ⊥
 no_call joined id status (Answers is) = no_answer id status is
 no_call joined id status (Brings n payload member some is) = no_payload id status n payload is
 no_call joined id status (Informs update is) = no_update id status update is
@@ -97,34 +102,43 @@ rests_none : (m : Machine) → LineRests m → unheard m.outside.outer ≡ []
 rests_none m line = ap (λ (bs : List ℕ). unheard_by bs m.outside.outer.chip.state.port) line.at_chip.down_bytes ∙ line.at_chip.waiting
 
 -- ---- where the host judges, what it is told is kept
-abbrev KeepsAll : Event → Type 0
+abbrev pub KeepsAll : Event → Type 0
 KeepsAll (Host_takes count rest items events) = AllByRecursion IsKept events
 KeepsAll event = Unit {0}
 
 keeps_is : (event is : Event) → event ≡ is → KeepsAll event → KeepsAll is
 keeps_is event is same keeps = subst KeepsAll same keeps
 
-keeps : (m : Machine) (event : Event) → list_any is_keeper_fault (entries m event) ≡ false → KeepsAll event
+pub keeps : (m : Machine) (event : Event) → list_any is_keeper_fault (entries m event) ≡ false → KeepsAll event
 keeps m (Host_takes count rest items events) none = judged_kept m count rest items events none
 keeps m event none = tt
 
 -- ---- each node of these
 
-node_within : (these : List Bool) → length these ≡ 233 → is_marked these 0 ≡ false → (n : ℕ) → is_marked these n ≡ true → IsNode n
+pub node_within : (these : List Bool) → length these ≡ 233 → is_marked these 0 ≡ false → (n : ℕ) → is_marked these n ≡ true → IsNode n
 node_within these many none zero marked = absurd (let wrong : true ≡ false = sym marked ∙ none in cc)
 node_within these many none (suc n) marked = let less = marked_within these (suc n) marked in (omega arith, omega (arith, less, many))
 
-module _ (airs : Airs) (these : List Bool) (many : length these ≡ 233) (laws : Devices) (n : ℕ) (marked : is_marked these n ≡ true) (node : IsNode n) where
+-- as a tick begins one fewer is to begin
+abbrev pub most_then : ℕ → Phase → ℕ
+most_then most (To_tick (suc ticks)) = most - 1
+most_then most here = most
+
+module _ (airs : Airs) (these : List Bool) (many : length these ≡ 233) (laws : Devices) (n most : ℕ) (marked : is_marked these n ≡ true) (node : IsNode n) where
   below : n < 233
   below = let few = node.1 in omega (arith, few)
 
   -- ---- from phase to phase, by an event
 
-  abbrev Leads : Phase → Machine → Event → Type 0
-  Leads next m event = LineAt next (happens m event) → WaitsFor n next (happens m event)
+  -- then it is within these, or an attempt of it that was due has started
+  abbrev pub LaterOn : ℕ → Phase → Machine → Event → Type 0
+  LaterOn few next m event = WaitsFor n few next (happens m event) ⊎ (((node_of m.host.state n).series ≡ series.Due) × WaitsFor n 2 next (happens m event))
 
-  as_is : (next to : Phase) (m : Machine) (event is : Event) → event ≡ is → next ≡ to → Leads to m is → Leads next m event
-  as_is next to m event is event_is next_is leads = subst (λ (e : Event). Leads next m e) (sym event_is) (subst (λ (q : Phase). Leads q m is) (sym next_is) leads)
+  abbrev Leads : ℕ → Phase → Machine → Event → Type 0
+  Leads few next m event = LineAt next (happens m event) → LaterOn few next m event
+
+  as_is : (few : ℕ) (next to : Phase) (m : Machine) (event is : Event) → event ≡ is → next ≡ to → Leads few to m is → Leads few next m event
+  as_is few next to m event is event_is next_is leads = subst (λ (e : Event). Leads few next m e) (sym event_is) (subst (λ (q : Phase). Leads few q m is) (sym next_is) leads)
 
   may_is : (m : Machine) (event is : Event) → event ≡ is → May m event → May m is
   may_is m event is same may = subst (May m) same may
@@ -136,60 +150,63 @@ module _ (airs : Airs) (these : List Bool) (many : length these ≡ 233) (laws :
   sent_is m event is same sent = subst (IsSentTo these m) same sent
 
   pub event_waits : (here next : Phase) (m : Machine) (event : Event) → Goes here m event next → May m event → IsPlainly these m event → KeepsAll event → GoWhole these m.host.state.commands → LineAt here m → AwaitsAt here m → RoomAt here m → IsRouted m.outside.outer → TieAt here m → IsPeopled m
-      → AllListen these m → IsSentTo these m event → WaitsFor n here m → Leads next m event
-  event_waits (Said_line line) next m event (is, to) may plainly keeps go line_at awaits room routed tie peopled listen sent w = as_is next (Begun line) m event _ is to (λ later. line_waits airs these many laws n marked node line m w)
-  event_waits (Doing line (first ∷ left)) next m event (is, to) may plainly keeps go line_at awaits room routed tie peopled listen sent w =
-      as_is next (Doing line left) m event first is to (λ later. effect_waits airs these many laws n marked node line left m first line_at.0.0 awaits peopled.facts.nodes.places w)
-  event_waits (To_tick (suc ticks)) next m event (is, to) may plainly keeps go line_at awaits room routed tie peopled listen sent w = as_is next (Ticked ticks) m event _ is to (λ later. begins_waits airs these many laws n marked node ticks m w)
-  event_waits (Arriving (suc frames) ticks) next m event (drawn, route, is, to) may plainly keeps go line_at awaits room routed tie peopled listen sent w =
-      as_is next (Arriving frames ticks) m event _ is to
+      → AllListen these m → IsSentTo these m event → AreInAir these m → WaitsFor n most here m → Leads (most_then most here) next m event
+  event_waits (Said_line line) next m event (is, to) may plainly keeps go line_at awaits room routed tie peopled listen sent joined w = as_is most next (Begun line) m event _ is to (λ later. inl (line_waits airs these many laws n most marked node line m w))
+  event_waits (Doing line (first ∷ left)) next m event (is, to) may plainly keeps go line_at awaits room routed tie peopled listen sent joined w =
+      as_is most next (Doing line left) m event first is to (λ later. inl (effect_waits airs these many laws n most marked node line left m first line_at.0.0 awaits peopled.facts.nodes.places w))
+  event_waits (To_tick (suc ticks)) next m event (is, to) may plainly keeps go line_at awaits room routed tie peopled listen sent joined w = as_is (most - 1) next (Ticked ticks) m event _ is to (λ later. inl (begins_waits airs these many laws n most marked node ticks m w))
+  event_waits (Arriving (suc frames) ticks) next m event (drawn, route, is, to) may plainly keeps go line_at awaits room routed tie peopled listen sent joined w =
+      as_is most next (Arriving frames ticks) m event _ is to
       (λ later.
-      arrives_wait airs these many laws n marked node frames ticks m drawn route (may_is m event _ is may) (plain_is m event _ is plainly) awaits.awaits listen peopled.live line_at later (omega (arith, room)) w)
-  event_waits (Giving (suc results) ticks) next m event (route, is, to) may plainly keeps go line_at awaits room routed tie peopled listen sent w = absurd (none_given m results routed awaits.many)
-  event_waits (Ticking_devices place (suc count) ticks) next m event (drawn, route, is, to) may plainly keeps go line_at awaits room routed tie peopled listen sent w =
-      as_is next (Ticking_devices (place + 1) count ticks) m event _ is to (λ later. ticks_wait airs these many laws n marked node place count ticks m drawn route awaits.awaits w)
-  event_waits (Ticking_chip ticks) next m event (is, to) may plainly keeps go line_at awaits room routed tie peopled listen sent w =
-      as_is next (Ticking_decoder ticks) m event _ is to (λ later. chip_waits airs these many laws n marked node ticks m line_at later w)
-  event_waits (Ticking_decoder ticks) next m event (is, to) may plainly keeps go line_at awaits room routed tie peopled listen sent w = as_is next (Ticking_host _ ticks) m event _ is to (λ later. unfinished_waits airs these many laws n marked node ticks m w)
-  event_waits (Ticking_host (first ∷ events) ticks) next m event (is, to) may plainly keeps go line_at awaits room routed tie peopled listen sent w =
-      as_is next (Ticking_host events ticks) m event _ is to
+      inl (arrives_wait airs these many laws n most marked node frames ticks m drawn route (may_is m event _ is may) (plainly n marked).step (joined n marked) (peopled.facts.nodes.facts n) awaits.awaits listen peopled.live line_at later
+      (omega (arith, room)) w))
+  event_waits (Giving (suc results) ticks) next m event (route, is, to) may plainly keeps go line_at awaits room routed tie peopled listen sent joined w = absurd (none_given m results routed awaits.many)
+  event_waits (Ticking_devices place (suc count) ticks) next m event (drawn, route, is, to) may plainly keeps go line_at awaits room routed tie peopled listen sent joined w =
+      as_is most next (Ticking_devices (place + 1) count ticks) m event _ is to (λ later. inl (ticks_wait airs these many laws n most marked node place count ticks m drawn route awaits.awaits w))
+  event_waits (Ticking_chip ticks) next m event (is, to) may plainly keeps go line_at awaits room routed tie peopled listen sent joined w =
+      as_is most next (Ticking_decoder ticks) m event _ is to (λ later. inl (chip_waits airs these many laws n most marked node ticks m line_at later w))
+  event_waits (Ticking_decoder ticks) next m event (is, to) may plainly keeps go line_at awaits room routed tie peopled listen sent joined w = as_is most next (Ticking_host _ ticks) m event _ is to (λ later. inl (unfinished_waits airs these many laws n most marked node ticks m w))
+  event_waits (Ticking_host (first ∷ events) ticks) next m event (is, to) may plainly keeps go line_at awaits room routed tie peopled listen sent joined w =
+      as_is most next (Ticking_host events ticks) m event _ is to
       (λ later.
-      tick_event airs these many laws n marked node first events ticks m line_at.0.0 line_at.1.at_host.turn_is peopled.facts.nodes.places
-      (lasts_of n (Ticking_host (first ∷ events) ticks) m (peopled.facts.nodes.facts n) w) w)
-  event_waits (Sleeping passes ticks) next m event (k, wants, is, to) may plainly keeps go line_at awaits room routed tie peopled listen sent w =
-      as_is next (Sleeping passes ticks) m event _ is to (λ later. sleeps_wait airs these many n marked node below passes ticks m k peopled.facts.nodes.places w)
-  event_waits (Submitting passes ticks) next m event (asked, next_is, is, to) may plainly keeps go line_at awaits room routed tie peopled listen sent w =
-      as_is next (Submitting passes ticks) m event _ is to
-      (λ later. submits_wait airs these many n marked node below passes ticks m asked next_is (may_is m event _ is may) (plain_start these m asked (may_is m event (Host_does asked) is may) peopled.facts go) peopled.facts.nodes.places (peopled.facts.nodes.facts n) w)
-  event_waits (Moving passes ticks) next m event (rest, ways, is, to) may plainly keeps go line_at awaits room routed tie peopled listen sent w =
+      inl (tick_event airs these many laws n most marked node first events ticks m line_at.0.0 line_at.1.at_host.turn_is peopled.facts.nodes.places
+      (lasts_of n most (Ticking_host (first ∷ events) ticks) m (peopled.facts.nodes.facts n) w) w))
+  event_waits (Sleeping passes ticks) next m event (k, wants, is, to) may plainly keeps go line_at awaits room routed tie peopled listen sent joined w =
+      as_is most next (Sleeping passes ticks) m event _ is to (λ later. inl (sleeps_wait airs these many n most marked node below passes ticks m k peopled.facts.nodes.places w))
+  event_waits (Submitting passes ticks) next m event (asked, next_is, is, to) may plainly keeps go line_at awaits room routed tie peopled listen sent joined w =
+      as_is most next (Submitting passes ticks) m event _ is to
+      (λ later.
+      submits_wait airs these many n most marked node below passes ticks m asked next_is (may_is m event _ is may) (plain_start these m asked (may_is m event (Host_does asked) is may) peopled.facts go) peopled.facts.nodes.places
+      (peopled.facts.nodes.facts n) w)
+  event_waits (Moving passes ticks) next m event (rest, ways, is, to) may plainly keeps go line_at awaits room routed tie peopled listen sent joined w =
       let takes : Event = Outside_does (Chip_takes (length m.outside.outer.to_chip.bytes) rest ways) in
-      as_is next (Moved true passes ticks) m event _ is to
+      as_is most next (Moved true passes ticks) m event _ is to
       (λ later.
-      takes_wait airs these many n marked node below passes ticks m rest ways awaits (may_is m event takes is may) line_at room tie later (sent_is m event takes is sent)
-      (λ asks. request_airs airs m awaits n (session_of n m) below asks passes rest ways (may_is m event takes is may) line_at room tie peopled) w)
-  event_waits (Moved b passes ticks) next m event (rest, items, done, is, to) may plainly keeps go line_at awaits room routed tie peopled listen sent w =
+      inl (takes_wait airs these many n most marked node below passes ticks m rest ways awaits (may_is m event takes is may) line_at room tie later (sent_is m event takes is sent)
+      (λ asks. request_airs airs m awaits n (session_of n m) below asks passes rest ways (may_is m event takes is may) line_at room tie peopled) w))
+  event_waits (Moved b passes ticks) next m event (rest, items, done, is, to) may plainly keeps go line_at awaits room routed tie peopled listen sent joined w =
       let takes : Event = Host_takes (length m.outside.outer.to_host.bytes) rest items done in
-      as_is next (Sleeping passes ticks) m event _ is to
+      as_is most next (Sleeping passes ticks) m event _ is to
       (λ later.
-      judges_wait airs these many n marked node below b passes ticks m rest items done (may_is m event takes is may) line_at tie (keeps_is event takes is keeps) peopled.facts.nodes.places (peopled.facts.nodes.facts n) w)
-  event_waits here next m event goes may plainly keeps go line_at awaits room routed tie peopled listen sent w = absurd goes
+      inl (judges_wait airs these many n most marked node below b passes ticks m rest items done (may_is m event takes is may) line_at tie (keeps_is event takes is keeps) peopled.facts.nodes.places (peopled.facts.nodes.facts n) w))
+  event_waits here next m event goes may plainly keeps go line_at awaits room routed tie peopled listen sent joined w = absurd goes
 
   -- ---- and with no event
 
-  stays : (here next : Phase) (m : Machine) → (IsAsking here → ⊥) → ((left : ℕ) → Fits n (many_on_air m) here left next left) → WaitsFor n here m → WaitsFor n next m
-  stays here next m none fits w =
-      turn_waits n here next m
+  stays : (here next : Phase) (m : Machine) → NoMore n here next → (IsAsking here → ⊥) → ((left : ℕ) → Fits n (many_on_air m) here left next left) → WaitsFor n most here m → WaitsFor n most next m
+  stays here next m less none fits w =
+      turn_waits n most here next less m
       (λ left comes. carry n (session_of n m) left left here next m m (λ asking asks two. absurd (none asking)) (same_adds m.outside.outer m.outside.outer refl) (λ x has. has) (fits left) comes) w
 
-  to_is : (next to : Phase) (m : Machine) → next ≡ to → WaitsFor n to m → WaitsFor n next m
-  to_is next to m same w = subst (λ (q : Phase). WaitsFor n q m) (sym same) w
+  to_is : (next to : Phase) (m : Machine) → next ≡ to → WaitsFor n most to m → WaitsFor n most next m
+  to_is next to m same w = subst (λ (q : Phase). WaitsFor n most q m) (sym same) w
 
-  simply : (here next : Phase) (m : Machine) → (IsAsking here → ⊥) → ((place : ℕ) → ticks_left n next + one_later next place ≤ ticks_left n here + one_later here place) → ticks_left n next ≤ ticks_left n here → WaitsFor n here m → WaitsFor n next m
-  simply here next m none joint alone w = stays here next m none (λ left. still_fits n (many_on_air m) left here next joint alone) w
+  simply : (here next : Phase) (m : Machine) → (IsAsking here → ⊥) → ((place : ℕ) → ticks_left next + one_later next place ≤ ticks_left here + one_later here place) → ticks_left next ≤ ticks_left here → NoMore n here next → WaitsFor n most here m → WaitsFor n most next m
+  simply here next m none joint alone less w = stays here next m less none (λ left. still_fits n (many_on_air m) left here next joint alone) w
 
   -- a settling is over, and the line rests
-  pumped_waits : (passes ticks : ℕ) (m : Machine) → LineAt (after_pump passes ticks) m → WaitsFor n (Submitting passes ticks) m → WaitsFor n (after_pump passes ticks) m
-  pumped_waits zero ticks m rests w = turn_waits n (Submitting zero ticks) (To_tick ticks) m goes w
+  pumped_waits : (passes ticks : ℕ) (m : Machine) → LineAt (after_pump passes ticks) m → WaitsFor n most (Submitting passes ticks) m → WaitsFor n most (after_pump passes ticks) m
+  pumped_waits zero ticks m rests w = turn_waits n most (Submitting zero ticks) (To_tick ticks) (omega arith) m goes w
     where
       goes : (left : ℕ) → Coming n (session_of n m) left (Submitting zero ticks) m → Coming n (session_of n m) left (To_tick ticks) m
       goes left (Asked asking asks two) = absurd (let wrong = sym (ap on_line rests.at_host.turn_is) ∙ asks.frame in cc)
@@ -197,23 +214,23 @@ module _ (airs : Airs) (these : List Bool) (many : length these ≡ 233) (laws :
       goes left (Flies at few) = Flies at (omega (arith, few))
       goes left (Told payload tells has few) = absurd (subst (Has (brings n payload)) (rests_none m rests) has)
   pumped_waits (suc passes) ticks m rests w =
-      turn_waits n (Submitting (suc passes) ticks) (Moving passes ticks) m
+      turn_waits n most (Submitting (suc passes) ticks) (Moving passes ticks) (omega arith) m
       (λ left comes.
       carry n (session_of n m) left left (Submitting (suc passes) ticks) (Moving passes ticks) m m (λ asking asks two. Asked tt asks two) (same_adds m.outside.outer m.outside.outer refl) (λ x has. has)
       (still_fits n (many_on_air m) left (Submitting (suc passes) ticks) (Moving passes ticks) (λ place. omega arith) (omega arith)) comes)
       w
 
-  still_waits : (passes ticks : ℕ) (m : Machine) → TieOf true m (on_line m.host.state.side.turn) → TieOf true m [] → WaitsFor n (Moving passes ticks) m → WaitsFor n (Moved false passes ticks) m
+  still_waits : (passes ticks : ℕ) (m : Machine) → TieOf true m (on_line m.host.state.side.turn) → TieOf true m [] → WaitsFor n most (Moving passes ticks) m → WaitsFor n most (Moved false passes ticks) m
   still_waits passes ticks m tie later w =
-      turn_waits n (Moving passes ticks) (Moved false passes ticks) m
+      turn_waits n most (Moving passes ticks) (Moved false passes ticks) (omega arith) m
       (λ left comes.
       carry n (session_of n m) left left (Moving passes ticks) (Moved false passes ticks) m m (λ asking asks two. absurd (none_asked n (session_of n m) m asks tie later)) (same_adds m.outside.outer m.outside.outer refl) (λ x has. has)
       (still_fits n (many_on_air m) left (Moving passes ticks) (Moved false passes ticks) (λ place. omega arith) (omega arith)) comes)
       w
 
-  arriving_waits : (ticks : ℕ) (m : Machine) → Awaits m → WaitsFor n (Ticked ticks) m → WaitsFor n (Arriving (m.outside.outer.air.frames.sent - m.outside.outer.air.frames.landed) ticks) m
+  arriving_waits : (ticks : ℕ) (m : Machine) → Awaits m → WaitsFor n most (Ticked ticks) m → WaitsFor n most (Arriving (m.outside.outer.air.frames.sent - m.outside.outer.air.frames.landed) ticks) m
   arriving_waits ticks m is w =
-      stays (Ticked ticks) (Arriving (m.outside.outer.air.frames.sent - m.outside.outer.air.frames.landed) ticks) m (λ a. a)
+      stays (Ticked ticks) (Arriving (m.outside.outer.air.frames.sent - m.outside.outer.air.frames.landed) ticks) m (omega arith) (λ a. a)
       (λ left. record {
         joint = λ place less.
             let soon = sooner place (m.outside.outer.air.frames.sent - m.outside.outer.air.frames.landed)
@@ -223,33 +240,33 @@ module _ (airs : Airs) (these : List Bool) (many : length these ≡ 233) (laws :
       })
       w
 
-  giving_waits : (results ticks : ℕ) (m : Machine) → WaitsFor n (Arriving zero ticks) m → WaitsFor n (Giving results ticks) m
+  giving_waits : (results ticks : ℕ) (m : Machine) → WaitsFor n most (Arriving zero ticks) m → WaitsFor n most (Giving results ticks) m
   giving_waits results ticks m w =
-      stays (Arriving zero ticks) (Giving results ticks) m (λ a. a) (λ left. record { joint = λ place less. let late = never_sooner place in omega (arith, late); alone = omega arith }) w
+      stays (Arriving zero ticks) (Giving results ticks) m (omega arith) (λ a. a) (λ left. record { joint = λ place less. let late = never_sooner place in omega (arith, late); alone = omega arith }) w
 
-  pub turns_wait : (here next : Phase) (m : Machine) → Turns here m next → AwaitsAt here m → TieAt here m → LineAt next m → TieAt next m → WaitsFor n here m → WaitsFor n next m
-  turns_wait (Begun line) next m (inl (events, is, same)) awaits tie line_next tie_next w = to_is next (Doing line events) m same (simply (Begun line) (Doing line events) m (λ a. a) (λ place. omega arith) (omega arith) w)
-  turns_wait (Begun line) next m (inr (ticks, is, same)) awaits tie line_next tie_next w = to_is next (To_tick ticks) m same (simply (Begun line) (To_tick ticks) m (λ a. a) (λ place. omega arith) (omega arith) w)
-  turns_wait (Doing line []) next m same awaits tie line_next tie_next w = to_is next (Sleeping 64 0) m same (simply (Doing line []) (Sleeping 64 0) m (λ a. a) (λ place. omega arith) (omega arith) w)
-  turns_wait (To_tick zero) next m same awaits tie line_next tie_next w = to_is next Between m same (simply (To_tick zero) Between m (λ a. a) (λ place. omega arith) (omega arith) w)
+  pub turns_wait : (here next : Phase) (m : Machine) → Turns here m next → AwaitsAt here m → TieAt here m → LineAt next m → TieAt next m → WaitsFor n most here m → WaitsFor n most next m
+  turns_wait (Begun line) next m (inl (events, is, same)) awaits tie line_next tie_next w = to_is next (Doing line events) m same (simply (Begun line) (Doing line events) m (λ a. a) (λ place. omega arith) (omega arith) (omega arith) w)
+  turns_wait (Begun line) next m (inr (ticks, is, same)) awaits tie line_next tie_next w = to_is next (To_tick ticks) m same (simply (Begun line) (To_tick ticks) m (λ a. a) (λ place. omega arith) (omega arith) (omega arith) w)
+  turns_wait (Doing line []) next m same awaits tie line_next tie_next w = to_is next (Sleeping 64 0) m same (simply (Doing line []) (Sleeping 64 0) m (λ a. a) (λ place. omega arith) (omega arith) (omega arith) w)
+  turns_wait (To_tick zero) next m same awaits tie line_next tie_next w = to_is next Between m same (simply (To_tick zero) Between m (λ a. a) (λ place. omega arith) (omega arith) (omega arith) w)
   turns_wait (Ticked ticks) next m same awaits tie line_next tie_next w = to_is next (Arriving _ ticks) m same (arriving_waits ticks m awaits w)
   turns_wait (Arriving zero ticks) next m same awaits tie line_next tie_next w = to_is next (Giving _ ticks) m same (giving_waits _ ticks m w)
-  turns_wait (Giving zero ticks) next m same awaits tie line_next tie_next w = to_is next (Ticking_devices 0 _ ticks) m same (simply (Giving zero ticks) (Ticking_devices 0 _ ticks) m (λ a. a) (λ place. omega arith) (omega arith) w)
+  turns_wait (Giving zero ticks) next m same awaits tie line_next tie_next w = to_is next (Ticking_devices 0 _ ticks) m same (simply (Giving zero ticks) (Ticking_devices 0 _ ticks) m (λ a. a) (λ place. omega arith) (omega arith) (omega arith) w)
   turns_wait (Ticking_devices place zero ticks) next m same awaits tie line_next tie_next w =
-      to_is next (Ticking_chip ticks) m same (simply (Ticking_devices place zero ticks) (Ticking_chip ticks) m (λ a. a) (λ at. omega arith) (omega arith) w)
-  turns_wait (Ticking_host [] ticks) next m same awaits tie line_next tie_next w = to_is next (Sleeping 64 ticks) m same (simply (Ticking_host [] ticks) (Sleeping 64 ticks) m (λ a. a) (λ place. omega arith) (omega arith) w)
+      to_is next (Ticking_chip ticks) m same (simply (Ticking_devices place zero ticks) (Ticking_chip ticks) m (λ a. a) (λ at. omega arith) (omega arith) (omega arith) w)
+  turns_wait (Ticking_host [] ticks) next m same awaits tie line_next tie_next w = to_is next (Sleeping 64 ticks) m same (simply (Ticking_host [] ticks) (Sleeping 64 ticks) m (λ a. a) (λ place. omega arith) (omega arith) (omega arith) w)
   turns_wait (Sleeping passes ticks) next m (none, same) awaits tie line_next tie_next w =
-      to_is next (Submitting passes ticks) m same (simply (Sleeping passes ticks) (Submitting passes ticks) m (λ a. a) (λ place. omega arith) (omega arith) w)
+      to_is next (Submitting passes ticks) m same (simply (Sleeping passes ticks) (Submitting passes ticks) m (λ a. a) (λ place. omega arith) (omega arith) (omega arith) w)
   turns_wait (Submitting passes ticks) next m (pumped, same) awaits tie line_next tie_next w =
       to_is next (after_pump passes ticks) m same (pumped_waits passes ticks m (subst (λ (q : Phase). LineAt q m) same line_next) w)
   turns_wait (Moving passes ticks) next m (still, same) awaits tie line_next tie_next w =
       to_is next (Moved false passes ticks) m same (still_waits passes ticks m tie (subst (λ (q : Phase). TieAt q m) same tie_next) w)
   turns_wait (Moved b passes ticks) next m (still, same) awaits tie line_next tie_next w =
-      to_is next (Sleeping (passes_after b passes) ticks) m same (simply (Moved b passes ticks) (Sleeping (passes_after b passes) ticks) m (λ a. a) (λ place. omega arith) (omega arith) w)
+      to_is next (Sleeping (passes_after b passes) ticks) m same (simply (Moved b passes ticks) (Sleeping (passes_after b passes) ticks) m (λ a. a) (λ place. omega arith) (omega arith) (omega arith) w)
   turns_wait here next m turns awaits tie line_next tie_next w = absurd turns
 
-  pub said_waits : (line : Line) (m : Machine) → WaitsFor n Between m → WaitsFor n (Said_line line) m
-  said_waits line m w = simply Between (Said_line line) m (λ a. a) (λ place. omega arith) (omega arith) w
+  pub said_waits : (line : Line) (m : Machine) → WaitsFor n most Between m → WaitsFor n most (Said_line line) m
+  said_waits line m w = simply Between (Said_line line) m (λ a. a) (λ place. omega arith) (omega arith) (omega arith) w
 
 -- ---- the walk
 
@@ -261,7 +278,7 @@ marked_or these n = by (is_marked these n) refl
     by false is = inr is
 
 node_in_time : (these : List Bool) (here : Phase) (m : Machine) (n : ℕ) → NodeFacts (node_of m.host.state n) → AllWaitFor these here m → KnowsWorkers these m.host.state → (is_marked these n ≡ true) ⊎ (is_marked these n ≡ false) → (node_of m.host.state n).attempt_wait ≢ 1
-node_in_time these here m n facts all knows (inl marked) = lasts_of n here m facts (all n marked)
+node_in_time these here m n facts all knows (inl marked) = lasts_of n 2 here m facts (all n marked)
 node_in_time these here m n facts all knows (inr other) = idle_lasts (node_of m.host.state n) facts (knows.others n other).idle
 
 pub in_time : (these : List Bool) (here : Phase) (past : List Entry) (m : Machine) (event : Event) → IsKeptFor these past → KnowWaits these here past m → IsInTime m event
@@ -269,13 +286,26 @@ in_time these here past m (Host_does (Node_ticks n)) is known =
     let stretched = is.worked.stretched in
     let at = known.0 is.worked in
     let tied = (at.0.0 stretched).0.0.tied stretched.quiet in
-    node_in_time these here m n (tied.7.facts.nodes.facts n) (known.1 is).0 (at.0.1 stretched) (marked_or these n)
+    node_in_time these here m n (tied.7.facts.nodes.facts n) (known.1 is).waits (at.0.1 stretched) (marked_or these n)
 in_time these here past m (Host_does event) is known = tt
 in_time these here past m event is known = tt
 
 module _ (airs : Airs) (these : List Bool) (many : length these ≡ 233) (none : is_marked these 0 ≡ false) (laws : Devices) (staff : Walk AsksNothing (KnowStaff these)) where
+  joined_on : (here next : Phase) (m : Machine) (event : Event) → Goes here m event next → LineAt here m → May m event → AreInAir these m → AreInAir these (happens m event)
+  joined_on here next m event goes at may joined n marked =
+      let same : members (happens m event).outside.outer ≡ members m.outside.outer = event_members (members m.outside.outer) m event (covers_of here next m event goes at) may refl in
+      ap (λ (ms : Members). slice_index_or ms.in_air n false) same ∙ joined n marked
+
+  two_most : (here : Phase) → most_then 2 here ≤ 2
+  two_most (To_tick (suc ticks)) = omega arith
+  two_most here = omega arith
+
+  with_two : (n : ℕ) (here next : Phase) (m : Machine) (event : Event) → WaitsFor n (most_then 2 here) next (happens m event) ⊎ (((node_of m.host.state n).series ≡ series.Due) × WaitsFor n 2 next (happens m event)) → WaitsFor n 2 next (happens m event)
+  with_two n here next m event (inl w) = later_waits n (most_then 2 here) 2 next (happens m event) (two_most here) w
+  with_two n here next m event (inr (due, w)) = w
+
   all_on : (here next : Phase) (past : List Entry) (m : Machine) (event : Event) → Goes here m event next → May m event → IsPlainly these m event → IsKeptFor these (past ++ entries m event) → KnowWaits these here past m
-      → KnowStaff these next (past ++ entries m event) (happens m event) → AllWaitFor these next (happens m event) × GoWhole these (happens m event).host.state.commands
+      → KnowStaff these next (past ++ entries m event) (happens m event) → AreWaiting these next (happens m event)
   all_on here next past m event goes may plainly is known later =
       let before = kept_before these past (entries m event) is in
       let stretched = before.worked.stretched in
@@ -283,12 +313,15 @@ module _ (airs : Airs) (these : List Bool) (many : length these ≡ 233) (none :
       let tied = (at.0.0 stretched).0.0.tied stretched.quiet in
       let next_tied = ((later is.worked).0.0 is.worked.stretched).0.0.tied is.worked.stretched.quiet in
       let sent = sent_on these here next m event goes may tied.0 tied.6 (at.0.1 stretched) in
-      let was = known.1 before in (
-        λ n marked.
-            event_waits airs these many laws n marked (node_within these many none n marked) here next m event goes may plainly (keeps m event (told_kept these past (entries m event) is)) was.1 tied.0 tied.1 tied.2 tied.3 tied.6 tied.7
-            (at.0.0 stretched).1 sent (was.0 n marked) next_tied.0,
-        on_whole these here next m event goes tied.0 may (λ n marked. (was.0 n marked).openly) plainly was.1,
-      )
+      let was = known.1 before in
+      record {
+        waits = λ n marked.
+            with_two n here next m event
+            (event_waits airs these many laws n 2 marked (node_within these many none n marked) here next m event goes may plainly (keeps m event (told_kept these past (entries m event) is)) was.whole tied.0 tied.1 tied.2 tied.3 tied.6 tied.7
+            (at.0.0 stretched).1 sent was.joined (was.waits n marked) next_tied.0);
+        whole = on_whole these here next m event goes tied.0 may (λ n marked. (was.waits n marked).openly) plainly was.whole;
+        joined = joined_on here next m event goes tied.0 may was.joined;
+      }
 
   pub waits_walk : WalkWhere (IsPlainly these) AsksNothing (KnowWaits these)
   waits_walk = record {
@@ -298,7 +331,7 @@ module _ (airs : Airs) (these : List Bool) (many : length these ≡ 233) (none :
         (staff.said past m words line read known.0).1,
         λ is.
             let was = known.1 (kept_before these past (entry.Said words ∷ []) is) in
-            (λ n marked. said_waits airs these many laws n marked (node_within these many none n marked) line m (was.0 n marked), was.1),
+            record { waits = λ n marked. said_waits airs these many laws n 2 marked (node_within these many none n marked) line m (was.waits n marked); whole = was.whole; joined = was.joined },
       ),
     );
     event = λ here next past m event goes may plainly known.
@@ -311,7 +344,12 @@ module _ (airs : Airs) (these : List Bool) (many : length these ≡ 233) (none :
               let stretched = is.worked.stretched in
               let tied = ((known.0 is.worked).0.0 stretched).0.0.tied stretched.quiet in
               let next_tied = ((later is.worked).0.0 stretched).0.0.tied stretched.quiet in
-              (λ n marked. turns_wait airs these many laws n marked (node_within these many none n marked) here next m turns tied.1 tied.6 next_tied.0 next_tied.6 ((known.1 is).0 n marked), (known.1 is).1),
+              let was = known.1 is in
+              record {
+                waits = λ n marked. turns_wait airs these many laws n 2 marked (node_within these many none n marked) here next m turns tied.1 tied.6 next_tied.0 next_tied.6 (was.waits n marked);
+                whole = was.whole;
+                joined = was.joined;
+              },
         );
   }
 

@@ -36,7 +36,7 @@ abbrev first_name : List Setting → Name
 first_name [] = names.Switch
 first_name (one ∷ more) = one.property.name
 
-abbrev SetsLevel : Kind → Verdict → Type 0
+abbrev pub SetsLevel : Kind → Verdict → Type 0
 SetsLevel kind (Works made) = (first_name made ≡ names.Level) × (lists kind 0x26 ≡ true)
 SetsLevel kind (Makes made) = Unit {0}
 SetsLevel kind Fails = Unit {0}
@@ -96,12 +96,14 @@ unless_sets kind true no_batch verdict is = tt
 unless_sets kind false true verdict is = tt
 unless_sets kind false false verdict is = is
 
-message_sets : (device : State) (carriage : Carriage) (order : Order) → SetsLevel device.kind (verdict_on device carriage order)
+pub judged_sets : (device : State) (end : ℕ) (batch : Bool) (commands : List (List ℕ)) → SetsLevel device.kind (judged_message device.kind (value_of device) (last_level_of device) end batch commands)
 unfolding judged_message
-message_sets device carriage order =
-    unless_sets device.kind (not (has_end device.kind order.end))
-    (is_batch order.what && (not (lists device.kind 0x8F) || (length (commands_of carriage.actuator order.what) == 0))) _
-    (all_set device.kind (value_of device) (last_level_of device) order.end [] (commands_of carriage.actuator order.what))
+judged_sets device end batch commands =
+    unless_sets device.kind (not (has_end device.kind end)) (batch && (not (lists device.kind 0x8F) || (length commands == 0))) _
+    (all_set device.kind (value_of device) (last_level_of device) end [] commands)
+
+message_sets : (device : State) (carriage : Carriage) (order : Order) → SetsLevel device.kind (verdict_on device carriage order)
+message_sets device carriage order = judged_sets device order.end (is_batch order.what) (commands_of carriage.actuator order.what)
 
 -- ---- which orders set a level
 

@@ -1,4 +1,7 @@
+mod KeptByHearing
 mod Levels
+mod AtOnce
+mod Stepping
 mod Answered
 mod Reported
 mod NodeWaits
@@ -12,3 +15,10 @@ mod Aired
 mod Commands
 mod Keeping
 mod Lasting
+mod Spoken
+mod InHand
+mod Served
+mod InTurn
+mod Queued
+mod Nearing
+mod Accepted

@@ -28,7 +28,7 @@ use Rattle.host_node.specs.declared.attempt.Plan.{Plan}
 use Rattle.host_model.specs.After.{after, node_does}
 use Rattle.host_model.specs.Ends.{attempt_ended, PartEnd, Good, Passed_over, Bad, part_end}
 use Rattle.host_model.specs.Sessions.{open_command}
-use Rattle.host_model.specs.Events.{HostEvent, Requests_do, Interviews as Interviews_of, Line_ticks, Node_ticks, Starts as Starts_of}
+use Rattle.host_model.specs.Events.{HostEvent, Requests_do, Interviews as Interviews_of, Line_ticks, Node_ticks, Starts as Starts_of, Begins as Begins_of, Begin_unkept as Unkept_of, Cancels as Cancels_of}
 use Rattle.host_model.specs.State.{HostState, node_of}
 use Rattle.proof_answered.proofs.NodeSteps.{AllowsAt, AllowsEnd, AllowsEndIf, AllowsPart, IsFree, event_is}
 use Rattle.proof_answered.proofs.AttemptEnds.{again_tick_wait}
@@ -245,6 +245,9 @@ module _ (n : ℕ) where
   beside_allowed h (Interviews_of k listens classes update) is = inr is
   beside_allowed h (Node_ticks k) is = inr is
   beside_allowed h (Starts_of k plan more payload) is = inr is
+  beside_allowed h (Cancels_of command) is = inl tt
+  beside_allowed h (Begins_of k session command) is = inl tt
+  beside_allowed h (Unkept_of k) is = inl tt
   beside_allowed h Line_ticks is = is
   beside_allowed h event is = tt
 

@@ -43,8 +43,8 @@ use Rattle.proof_answered.proofs.Reading.{goods}
 use Rattle.proof_answered.proofs.Requested.{moved_frames}
 use Rattle.proof_answered.specs.Outward.{IsSentTo}
 use Rattle.proof_answered.proofs.Unheard.{chip_part_says, unheard_idle, unheard_judged}
-use Rattle.proof_in_time.specs.Coming.{AsksFor, Coming, Has, IsKept, IsMessage, IsOnAir, IsPlainStart, IsRequest, Sent, Stands, TellsEnd, Told, WaitsFor, brings, one_later, ticks_left, is_layered}
-use Rattle.proof_in_time.proofs.Bounded.{again_far, does_waits, either_node, host_stays, open_where, outer_waits, refuses_waits, session_of, start_waits, still_fits, waits_none}
+use Rattle.proof_in_time.specs.Coming.{AsksFor, Coming, Has, IsKept, IsMessage, IsOnAir, IsPlainStart, IsRequest, Sent, Stands, TellsEnd, Told, WaitsFor, brings, one_later, own_ticks, ticks_left, is_layered}
+use Rattle.proof_in_time.proofs.Bounded.{NoMore, again_far, does_waits, either_node, host_stays, open_where, outer_waits, refuses_waits, session_of, start_waits, still_fits, waits_none}
 use Rattle.proof_in_time.proofs.Carried.{Fits, IsThere, carry, carry_or, many_on_air}
 use Rattle.proof_in_time.proofs.Grown.{Adds, calm_adds, takes_add}
 use Rattle.proof_in_time.proofs.JudgedWaits.{Judges, Runs, units_judge}
@@ -53,15 +53,15 @@ use Rattle.proof_in_time.proofs.NodeWaits.{IsBeside}
 
 -- ---- a pump
 
-module _ (airs : Airs) (these : List Bool) (many : length these ≡ 233) (n : ℕ) (marked : is_marked these n ≡ true) (node : IsNode n) (within : n < 233) where
-  asks_still : (here next : Phase) (m : Machine) (event : HostEvent) → (AsksFor n (session_of n m) m.host.state → ⊥) → ((place : ℕ) → ticks_left n next + one_later next place ≤ ticks_left n here + one_later here place) → ticks_left n next ≤ ticks_left n here
-      → IsBeside n m.host.state event → length m.host.state.nodes ≡ 233 → WaitsFor n here m → WaitsFor n next (happens m (Host_does event))
-  asks_still here next m event none joint alone beside places w =
-      does_waits n within here next m event beside places (host_stays airs n here next m event (λ asking asks. none asks) (λ left. still_fits n (many_on_air m) left here next joint alone)) w
+module _ (airs : Airs) (these : List Bool) (many : length these ≡ 233) (n most : ℕ) (marked : is_marked these n ≡ true) (node : IsNode n) (within : n < 233) where
+  asks_still : (here next : Phase) (m : Machine) (event : HostEvent) → (AsksFor n (session_of n m) m.host.state → ⊥) → ((place : ℕ) → ticks_left next + one_later next place ≤ ticks_left here + one_later here place) → ticks_left next ≤ ticks_left here
+      → NoMore n here next → IsBeside n m.host.state event → length m.host.state.nodes ≡ 233 → WaitsFor n most here m → WaitsFor n most next (happens m (Host_does event))
+  asks_still here next m event none joint alone less beside places w =
+      does_waits n most within here next m event less beside places (host_stays airs n here next m event (λ asking asks. none asks) (λ left. still_fits n (many_on_air m) left here next joint alone)) w
 
-  pub sleeps_wait : (passes ticks : ℕ) (m : Machine) (k : ℕ) → length m.host.state.nodes ≡ 233 → WaitsFor n (Sleeping passes ticks) m → WaitsFor n (Sleeping passes ticks) (happens m (Host_does (no_more_event m.host.state k)))
+  pub sleeps_wait : (passes ticks : ℕ) (m : Machine) (k : ℕ) → length m.host.state.nodes ≡ 233 → WaitsFor n most (Sleeping passes ticks) m → WaitsFor n most (Sleeping passes ticks) (happens m (Host_does (no_more_event m.host.state k)))
   sleeps_wait passes ticks m k places w =
-      does_waits n within (Sleeping passes ticks) (Sleeping passes ticks) m (no_more_event m.host.state k) (no_more_is (IsBeside n m.host.state) (record { queues = λ j. tt; drops = λ j. tt }) m.host.state k) places
+      does_waits n most within (Sleeping passes ticks) (Sleeping passes ticks) m (no_more_event m.host.state k) (omega arith) (no_more_is (IsBeside n m.host.state) (record { queues = λ j. tt; drops = λ j. tt }) m.host.state k) places
       (host_stays airs n (Sleeping passes ticks) (Sleeping passes ticks) m (no_more_event m.host.state k) (λ asking asks. asking)
       (λ left. still_fits n (many_on_air m) left (Sleeping passes ticks) (Sleeping passes ticks) (λ place. omega arith) (omega arith))) w
 
@@ -90,16 +90,23 @@ module _ (airs : Airs) (these : List Bool) (many : length these ≡ 233) (n : �
   none_asks : (m : Machine) (event : HostEvent) → IsNext m.host.state event → AsksFor n (session_of n m) m.host.state → ⊥
   none_asks m event next asks = absurd (let wrong : Some asks.request ≡ None = sym asks.under_way ∙ next.0.none_under_way in cc)
 
+  -- then it is as it was, or an attempt of it that was due has started
+  abbrev Submitted : ℕ → ℕ → Machine → HostEvent → Type 0
+  Submitted passes ticks m event = WaitsFor n most (Submitting passes ticks) (happens m (Host_does event)) ⊎ (((node_of m.host.state n).series ≡ series.Due) × WaitsFor n 2 (Submitting passes ticks) (happens m (Host_does event)))
+
   pub submits_wait : (passes ticks : ℕ) (m : Machine) (event : HostEvent) → IsNext m.host.state event → May m (Host_does event) → IsPlainStart these m.host.state event → length m.host.state.nodes ≡ 233 → NodeFacts (node_of m.host.state n)
-      → WaitsFor n (Submitting passes ticks) m → WaitsFor n (Submitting passes ticks) (happens m (Host_does event))
+      → WaitsFor n most (Submitting passes ticks) m → Submitted passes ticks m event
   unfolding May
   submits_wait passes ticks m event next may plainly places facts w = by (asked_is m.host.state event next)
     where
-      by : IsBeside n m.host.state event ⊎ IsStartOf event → WaitsFor n (Submitting passes ticks) (happens m (Host_does event))
-      by (inl beside) = asks_still (Submitting passes ticks) (Submitting passes ticks) m event (none_asks m event next) (λ place. omega arith) (omega arith) beside places w
+      by : IsBeside n m.host.state event ⊎ IsStartOf event → Submitted passes ticks m event
+      by (inl beside) = inl (asks_still (Submitting passes ticks) (Submitting passes ticks) m event (none_asks m event next) (λ place. omega arith) (omega arith) (omega arith) beside places w)
       by (inr (plan, (more, (payload, is)))) =
-          subst (λ (e : HostEvent). WaitsFor n (Submitting passes ticks) (happens m (Host_does e))) (sym is)
-          (start_waits n within (Submitting passes ticks) (Submitting passes ticks) m plan more payload places none (subst (IsPlainStart these m.host.state) is plainly marked) tt w)
+          inr (
+            due,
+            subst (λ (e : HostEvent). WaitsFor n 2 (Submitting passes ticks) (happens m (Host_does e))) (sym is)
+                (start_waits n most within (Submitting passes ticks) (Submitting passes ticks) m plan more payload places none (subst (IsPlainStart these m.host.state) is plainly marked) tt (omega arith) w),
+          )
         where
           due : (node_of m.host.state n).series ≡ series.Due
           due = (subst (λ (e : HostEvent). MayHost m.host.state e) is may.0).2.0
@@ -115,9 +122,9 @@ module _ (airs : Airs) (these : List Bool) (many : length these ≡ 233) (n : �
 
   pub takes_wait : (passes ticks : ℕ) (m : Machine) (rest : Rest) (ways : List (Item × Option Route)) → Awaits m → ChipMayTake m rest ways → IsDone m ⊎ CanMove passes m → HasRoom m.outside.outer.chip.state
       → TieOf true m (on_line m.host.state.side.turn) → IsDone (chip_taken m rest ways) ⊎ HasMoved true passes (chip_taken m rest ways) → IsSentTo these m (Outside_does (Chip_takes (length m.outside.outer.to_chip.bytes) rest ways))
-      → ((asks : AsksFor n (session_of n m) m.host.state) → Stands (IsOnAir n asks.payload) (on_air (chip_taken m rest ways).outside.outer.air.frames)) → WaitsFor n (Moving passes ticks) m → WaitsFor n (Moved true passes ticks) (chip_taken m rest ways)
+      → ((asks : AsksFor n (session_of n m) m.host.state) → Stands (IsOnAir n asks.payload) (on_air (chip_taken m rest ways).outside.outer.air.frames)) → WaitsFor n most (Moving passes ticks) m → WaitsFor n most (Moved true passes ticks) (chip_taken m rest ways)
   takes_wait passes ticks m rest ways awaits may at room tie later sent airs_it w =
-      outer_waits n (Moving passes ticks) (Moved true passes ticks) m (Chip_takes (length m.outside.outer.to_chip.bytes) rest ways)
+      outer_waits n most (Moving passes ticks) (Moved true passes ticks) (omega arith) m (Chip_takes (length m.outside.outer.to_chip.bytes) rest ways)
       (λ left comes.
       carry n (session_of n m) left left (Moving passes ticks) (Moved true passes ticks) m (chip_taken m rest ways)
       (λ asking asks two. Sent (aired (session_of n m) asks.payload (on_air (chip_taken m rest ways).outside.outer.air.frames) asks.message (airs_it asks)) (omega (arith, two)))
@@ -131,20 +138,23 @@ module _ (airs : Airs) (these : List Bool) (many : length these ≡ 233) (n : �
   record Elsewhere (session wait : ℕ) (next : Phase) (later : Machine) : Type 0 where
     pub left : ℕ
     pub few : left ≤ 2
+    pub within_most : left ≤ most
     pub comes : Coming n session left next later
-    pub far : (wait ≡ 0) ⊎ (90 + left ≤ wait)
+    pub far : (wait ≡ 0) ⊎ (90 + left + 0 ≤ wait)
 
   -- by the host, which is that of the machine
   record BoundedBy (next : Phase) (later : Machine) (h : HostState) : Type 0 where
     pub left : ℕ
     pub few : left ≤ 2
+    pub within_most : left ≤ most
     pub comes : Coming n (begun_of (node_of h n).book) left next later
-    pub waits : ((node_of h n).attempt_wait ≡ 0) ⊎ (90 + left ≤ (node_of h n).attempt_wait)
+    pub waits : ((node_of h n).attempt_wait ≡ 0) ⊎ (90 + left + own_ticks n next ≤ (node_of h n).attempt_wait)
 
-  waits_by : (next : Phase) (later : Machine) (h : HostState) → later.host.state ≡ h → is_layered (node_of h n).classes ≡ false → ((node_of h n).series ≡ series.Running → BoundedBy next later h) → WaitsFor n next later
-  waits_by next later h same openly bounded = record {
+  waits_by : (next : Phase) (later : Machine) (h : HostState) → later.host.state ≡ h → own_ticks n next ≤ 1 → is_layered (node_of h n).classes ≡ false → ((node_of h n).series ≡ series.Running → BoundedBy next later h) → WaitsFor n most next later
+  waits_by next later h same once openly bounded = record {
+    once = once;
     openly = subst (λ (g : HostState). is_layered (node_of g n).classes ≡ false) (sym same) openly;
-    bounded = λ run. let b = subst (λ (g : HostState). (node_of g n).series ≡ series.Running → BoundedBy next later g) (sym same) bounded run in record { left = b.left; few = b.few; comes = b.comes; waits = b.waits };
+    bounded = λ run. let b = subst (λ (g : HostState). (node_of g n).series ≡ series.Running → BoundedBy next later g) (sym same) bounded run in record { left = b.left; few = b.few; within = b.within_most; comes = b.comes; waits = b.waits };
   }
 
   module _ (b : Bool) (passes ticks : ℕ) (m : Machine) (rest : Rest) (items : List Item) (events : List HostEvent) (may : May m (Host_takes (length m.outside.outer.to_host.bytes) rest items events)) where
@@ -157,9 +167,9 @@ module _ (airs : Airs) (these : List Bool) (many : length these ≡ 233) (n : �
     fits : (left : ℕ) → Fits n (many_on_air m) (Moved b passes ticks) left (Sleeping passes ticks) left
     fits left = still_fits n (many_on_air m) left (Moved b passes ticks) (Sleeping passes ticks) (λ place. omega arith) (omega arith)
 
-    idle_waits : (host turn : Turn) (frames : List FrameParts) → OnLine [] [] host turn frames m → WaitsFor n (Moved b passes ticks) m → WaitsFor n (Sleeping passes ticks) later
+    idle_waits : (host turn : Turn) (frames : List FrameParts) → OnLine [] [] host turn frames m → WaitsFor n most (Moved b passes ticks) m → WaitsFor n most (Sleeping passes ticks) later
     idle_waits host turn frames line w =
-        refuses_waits n (Moved b passes ticks) (Sleeping passes ticks) m (Host_takes (length m.outside.outer.to_host.bytes) rest items events) (host_idles m host turn frames rest items events line may).2
+        refuses_waits n most (Moved b passes ticks) (Sleeping passes ticks) (omega arith) m (Host_takes (length m.outside.outer.to_host.bytes) rest items events) (host_idles m host turn frames rest items events line may).2
         (λ left comes.
         carry n (session_of n m) left left (Moved b passes ticks) (Sleeping passes ticks) m later (λ asking asks two. absurd asking) adds
         (λ x has. subst (Has x) (sym (unheard_idle Any (Has x) (has_piled x) airs m rest items events host turn frames line may)) has) (fits left) comes)
@@ -167,8 +177,8 @@ module _ (airs : Airs) (these : List Bool) (many : length these ≡ 233) (n : �
 
     units_wait : (unit : LineUnit) (units : List LineUnit) (host turn : Turn) (frames : List FrameParts) → OnLine [] (unit ∷ units) host turn frames m → AllByRecursion IsPlain (unit ∷ units) → length (unit ∷ units) ≤ 99
         → unheard m.outside.outer ≡ frames_in (unit ∷ units) ++ m.outside.outer.chip.state.port.waiting → TieOf true m [] → AllByRecursion IsKept events → length m.host.state.nodes ≡ 233 → NodeFacts (node_of m.host.state n)
-        → WaitsFor n (Moved b passes ticks) m → WaitsFor n (Sleeping passes ticks) later
-    units_wait unit units host turn frames line plain few frames_are tie keeps places facts w = waits_by (Sleeping passes ticks) later (after_all m.host.state events) host_is after_judging.openly (λ run. bounded run (after_judging.runs run))
+        → WaitsFor n most (Moved b passes ticks) m → WaitsFor n most (Sleeping passes ticks) later
+    units_wait unit units host turn frames line plain few frames_are tie keeps places facts w = waits_by (Sleeping passes ticks) later (after_all m.host.state events) host_is (omega arith) after_judging.openly (λ run. bounded run (after_judging.runs run))
       where
         h : HostState
         h = m.host.state
@@ -188,12 +198,12 @@ module _ (airs : Airs) (these : List Bool) (many : length these ≡ 233) (n : �
         host_is : later.host.state ≡ after_all m.host.state events
         host_is = (host_turns airs m unit units host turn frames rest items events plain (omega (arith, few)) line may).3
 
-        comes_or : (left : ℕ) → left ≤ 2 → (wait ≡ 0) ⊎ (90 + left ≤ wait) → Coming n session left (Sleeping passes ticks) later ⊎ IsThere n session left (Moved b passes ticks) m
+        comes_or : (left : ℕ) → left ≤ 2 → left ≤ most → (wait ≡ 0) ⊎ (90 + left + 0 ≤ wait) → Coming n session left (Sleeping passes ticks) later ⊎ IsThere n session left (Moved b passes ticks) m
             → Elsewhere session wait (Sleeping passes ticks) later ⊎ ((payload : List ℕ) × (TellsEnd session payload × Has (brings n payload) (frames_in (unit ∷ units) ++ waiting)))
-        comes_or left two far (inl comes) = inl (record { left = left; few = two; comes = comes; far = far })
-        comes_or left two far (inr there) = inr (there.payload, (there.tells, subst (Has (brings n there.payload)) frames_are there.has))
+        comes_or left two few_more far (inl comes) = inl (record { left = left; few = two; within_most = few_more; comes = comes; far = far })
+        comes_or left two few_more far (inr there) = inr (there.payload, (there.tells, subst (Has (brings n there.payload)) frames_are there.has))
 
-        bound_of : (left : ℕ) → (wait ≡ 0) ⊎ (90 + left ≤ wait) → (wait ≡ 0) ⊎ (90 ≤ wait)
+        bound_of : (left : ℕ) → (wait ≡ 0) ⊎ (90 + left + 0 ≤ wait) → (wait ≡ 0) ⊎ (90 ≤ wait)
         bound_of left (inl none) = inl none
         bound_of left (inr more) = inr (omega (arith, more))
 
@@ -207,7 +217,7 @@ module _ (airs : Airs) (these : List Bool) (many : length these ≡ 233) (n : �
                 at = record { opened = open_where (node_of m.host.state n) facts run; begun = refl };
                 waits = inl refl;
                 bound = bound_of of.left of.waits;
-                report = comes_or of.left of.few of.waits
+                report = comes_or of.left of.few of.within of.waits
                     (carry_or n session of.left of.left (Moved b passes ticks) (Sleeping passes ticks) m later (λ asking asks two. absurd asking) adds (fits of.left) of.comes);
               };
         }
@@ -223,26 +233,33 @@ module _ (airs : Airs) (these : List Bool) (many : length these ≡ 233) (n : �
             in_session : (left : ℕ) → Coming n session left (Sleeping passes ticks) later → Coming n (begun_of (node_of (after_all h events) n).book) left (Sleeping passes ticks) later
             in_session left comes = subst (λ (s : ℕ). Coming n s left (Sleeping passes ticks) later) (sym is.at.begun) comes
 
-            no_more : (wait ≡ 0) ⊎ (90 ≤ wait) → (wait ≡ 0) ⊎ (90 + 0 ≤ wait)
+            no_more : (wait ≡ 0) ⊎ (90 ≤ wait) → (wait ≡ 0) ⊎ (90 + 0 + 0 ≤ wait)
             no_more (inl none) = inl none
             no_more (inr more) = inr (omega (arith, more))
 
             by : Elsewhere session wait (Sleeping passes ticks) later ⊎ ((payload : List ℕ) × (TellsEnd session payload × Has (brings n payload) waiting)) → BoundedBy (Sleeping passes ticks) later (after_all h events)
             by (inl other) =
-                record { left = other.left; few = other.few; comes = in_session other.left other.comes; waits = again_far (node_of (after_all h events) n).attempt_wait wait other.left other.few is.waits other.far }
+                record {
+                  left = other.left;
+                  few = other.few;
+                  within_most = other.within_most;
+                  comes = in_session other.left other.comes;
+                  waits = again_far (node_of (after_all h events) n).attempt_wait wait other.left 0 0 other.few (omega arith) (omega arith) is.waits other.far;
+                }
             by (inr (payload, (tells, has))) = record {
               left = 0;
               few = omega arith;
+              within_most = omega arith;
               comes = in_session 0
                   (Told payload tells
                   (subst (Has (brings n payload)) (sym (unheard_judged Any (Has (brings n payload)) (has_piled (brings n payload)) airs m rest items events unit units host turn frames line plain few may)) has) (omega arith));
-              waits = again_far (node_of (after_all h events) n).attempt_wait wait 0 (omega arith) is.waits (no_more is.bound);
+              waits = again_far (node_of (after_all h events) n).attempt_wait wait 0 0 0 (omega arith) (omega arith) (omega arith) is.waits (no_more is.bound);
             }
 
-    pub judges_wait : IsDone m ⊎ HasMoved b passes m → TieOf true m [] → AllByRecursion IsKept events → length m.host.state.nodes ≡ 233 → NodeFacts (node_of m.host.state n) → WaitsFor n (Moved b passes ticks) m → WaitsFor n (Sleeping passes ticks) later
+    pub judges_wait : IsDone m ⊎ HasMoved b passes m → TieOf true m [] → AllByRecursion IsKept events → length m.host.state.nodes ≡ 233 → NodeFacts (node_of m.host.state n) → WaitsFor n most (Moved b passes ticks) m → WaitsFor n most (Sleeping passes ticks) later
     judges_wait (inl done) tie keeps places facts w = idle_waits no_turn no_turn [] done.line w
     judges_wait (inr has) tie keeps places facts w = by has.down has.line has.plain has.few (moved_frames b passes m has)
       where
-        by : (down : List LineUnit) → OnLine [] down has.host has.turn has.frames m → AllByRecursion IsPlain down → length down ≤ 99 → unheard m.outside.outer ≡ frames_in down ++ m.outside.outer.chip.state.port.waiting → WaitsFor n (Sleeping passes ticks) later
+        by : (down : List LineUnit) → OnLine [] down has.host has.turn has.frames m → AllByRecursion IsPlain down → length down ≤ 99 → unheard m.outside.outer ≡ frames_in down ++ m.outside.outer.chip.state.port.waiting → WaitsFor n most (Sleeping passes ticks) later
         by [] line plain few frames_are = idle_waits has.host has.turn has.frames line w
         by (unit ∷ units) line plain few frames_are = units_wait unit units has.host has.turn has.frames line plain few frames_are tie keeps places facts w

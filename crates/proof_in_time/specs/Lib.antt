@@ -1,3 +1,5 @@
 pub mod Answering
 pub mod Reporting
+pub mod InStep
 pub mod Coming
+pub mod InHand

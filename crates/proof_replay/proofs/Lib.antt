@@ -11,3 +11,4 @@ mod Starting
 mod Orderly
 mod HeardEvents
 mod HeardLink
+mod Wholly

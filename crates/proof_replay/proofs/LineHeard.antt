@@ -46,7 +46,7 @@ use Rattle.world_model.specs.Refusals.{IsRefused}
 use Rattle.proof_asking.specs.proof_requests.proof_alone.Steps.{IsAskedBy}
 use Rattle.proof_asking.proofs.InOrder.{is_asked}
 use Rattle.proof_asking.specs.proof_line.proof_walk.ByLine.{IsAsked}
-use Rattle.proof_choice.proofs.HostNotes.{NoteOuts, all_outs_note}
+use Rattle.proof_noting.proofs.HostNotes.{NoteOuts, all_outs_note}
 use Rattle.proof_asking.proofs.Untimed.{AreUntimed, IsUntimed}
 use Rattle.proof_asking.specs.proof_line.proof_walk.Outside.{IsHostNote}
 use Rattle.proof_asking.specs.proof_line.Arrivals.{AreTexts}

@@ -11,7 +11,7 @@ use Rattle.host_model.specs.declared.out.HostOut.TheVariants.{Note, Write}
 use Rattle.outside_model.specs.State.{OuterState, first_outer}
 use Rattle.outside_model.specs.Events.{has_entered, stamp}
 use Rattle.run_replay.specs.Machine.{entries_of, entry_of, timed}
-use Rattle.proof_choice.proofs.Times.{time_of}
+use Rattle.proof_noting.proofs.Times.{time_of}
 use Rattle.proof_asking.specs.proof_requests.proof_alone.State.{HostMachine, host_machine}
 use Rattle.proof_asking.specs.proof_requests.proof_alone.Steps.{AreTold}
 use Rattle.proof_asking.specs.proof_requests.proof_alone.Phases.{Phase, Resting}

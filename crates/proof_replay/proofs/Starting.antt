@@ -3,12 +3,14 @@ use Rattle.std.proofs.Common.{◌≡◌, ℕ, Bool, true, false, List, [], ◌�
 use Rattle.std.specs.Prelude.{Option, Some, None, IfSome, IsSome, length}
 use Rattle.zw_base.proofs.Each.{all-append}
 use Rattle.s0_crypto.specs.declared.key_pair.Keys.{Keys}
+use Rattle.zw_text.specs.Transcript.{line_of}
 use Rattle.zw_text.specs.declared.line.Line.TheVariants as lines
 use Rattle.zw_text.specs.declared.entry.Entry.{Entry}
 use Rattle.zw_text.specs.declared.entry.Entry.TheVariants.{Said}
 use Rattle.host_keep.specs.Keeping.{OptAdds}
 use Rattle.host_keep.specs.Legal.{AreTextsOf}
 use Rattle.host_keep.specs.declared.record.Record.{Record}
+use Rattle.host_core.specs.Network.{keys_of}
 use Rattle.host_core.specs.Opening.{AreTold, Opens}
 use Rattle.host_model.specs.State.{HostParts, HostState, first_host}
 use Rattle.host_model.specs.Opening.{opened}
@@ -21,6 +23,7 @@ use Rattle.zw_words.specs.declared.side.Side.TheVariants.{Host}
 use Rattle.law_transcript.specs.Records.{KeepsRecords}
 use Rattle.law_wire.specs.Links.{KeepsLink}
 use Rattle.law_wire.specs.Serial.{ended}
+use Rattle.law_time.specs.Requests.{are_none}
 use Rattle.proof_asking.specs.proof_requests.law_host.Heard.{is_of_others}
 use Rattle.proof_asking.specs.proof_requests.proof_alone.Listening.{ListensAsTold}
 use Rattle.proof_asking.specs.proof_requests.proof_alone.State.{HostMachine, first_alone, host_machine}
@@ -32,15 +35,16 @@ use Rattle.proof_asking.specs.proof_requests.proof_alone.Careful.{CarefulRun, Fr
 use Rattle.proof_asking.proofs.Carefully.{found, stepped}
 use Rattle.proof_asking.specs.proof_known.Known.{AreForHost, AreSaidToHost, IsSaidToHost, KnowsRecords}
 use Rattle.proof_asking.proofs.ForHost.{said_for_host}
+use Rattle.proof_noting.specs.Sure.{ComeByReads}
 use Rattle.proof_replay.specs.HostSteps.{HaveHeard, HearsMore, HearsRun, Holds, IsRunSteps, StartsAfter, restart_word}
-use Rattle.proof_replay.specs.Laws.{HostsKeepLaws, KeepsFrom}
+use Rattle.proof_replay.specs.Laws.{HostsKeepLaws, IsLegalSoFar, KeepsFrom}
 use Rattle.proof_replay.specs.Linked.{KnowsLine, LineRests}
 use Rattle.proof_replay.proofs.Begun.{begun}
 use Rattle.proof_replay.proofs.From.{keeps_from}
 use Rattle.proof_replay.proofs.LineHeard.{HostsObey, first_rests, link_kept, open_kept, restart_line}
 use Rattle.proof_replay.proofs.Serving.{none_added, pump_part, restart_is, steps_go}
 use Rattle.proof_replay.proofs.Serving as serving
-use Rattle.proof_replay.proofs.Words.{never, run_said}
+use Rattle.proof_replay.proofs.Words.{HeardWell, never, reads_both, run_well}
 
 -- ---- records
 
@@ -66,7 +70,7 @@ holds_last many (Some texts) held some agrees = agrees
 -- nothing was heard before, where the keeper holds nothing
 pub none_before : HostsObey → (keys : Keys) (number : ℕ) (told : Option (List (List ℕ))) → Holds number told (Some []) → HaveHeard keys number told []
 none_before obey keys number told holds =
-    record { held = Some []; state = first_host keys; clock = 0; awaits = false; run = Begins; careful = tt; line = first_rests obey keys; holds = holds; said = tt }
+    record { held = Some []; state = first_host keys; clock = 0; awaits = false; run = Begins; careful = tt; line = first_rests obey keys; holds = holds; said = tt; reads = tt }
 
 none_of : (records : List Record) → length records ≡ 0 → AreTextsOf records []
 none_of [] none = tt
@@ -121,8 +125,30 @@ kept_as_told keys whole heard told held agrees laws = record {
   link = laws.link;
 }
 
+pub legal_as_told : (key : List ℕ) (whole : Bool) (heard : List Entry) (told held : Option (List (List ℕ))) → (whole ≡ true → Agrees told held) → IsLegalSoFar key whole heard held → IsLegalSoFar key whole heard told
+legal_as_told key whole heard told held agrees so = record {
+  taken = so.taken;
+  legal = record {
+    answers = so.legal.answers;
+    cancels = so.legal.cancels;
+    sessions = so.legal.sessions;
+    carries = so.legal.carries;
+    link = so.legal.link;
+    notes = so.legal.notes;
+    stores = so.legal.stores;
+    values = so.legal.values;
+    sends = so.legal.sends;
+    prompt = so.legal.prompt;
+    records_kept = λ is. told_kept told held heard (agrees is) (so.legal.records_kept is);
+  };
+  heeded = so.heeded;
+}
+
 module _ (laws : (keys : Keys) (whole : Bool) (here : Phase) (heard : List Entry) (m : HostMachine) → RunCarefully (first_alone keys (Some [])) here heard m → (whole ≡ true → (here ≡ Resting) × (m.left ≡ 0))
     → AreForHost heard → KeepsLink Host (ended whole heard) → HostsKeepLaws keys whole heard m.records)
+    (legal_so : (keys : Keys) (whole : Bool) (here : Phase) (heard : List Entry) (m : HostMachine) → RunCarefully (first_alone keys (Some [])) here heard m
+    → (whole ≡ true → (here ≡ Resting) × (m.left ≡ 0)) → AreForHost heard → KeepsLink Host (ended whole heard) → ComeByReads false heard → (key : List ℕ) → keys ≡ keys_of key
+    → IsLegalSoFar key whole heard m.records)
     (recorded : (keys : Keys) (heard : List Entry) (m : HostMachine) → Run (first_alone keys (Some [])) Open heard m → IfSome m.records (KnowsRecords heard m.state))
     (listening : (keys : Keys) (here : Phase) (heard : List Entry) (m : HostMachine) → Run (first_alone keys (Some [])) here heard m → ListensAsTold heard m.state)
     (obey : HostsObey) (keys : Keys) (number : ℕ) (told : Option (List (List ℕ))) (past : List Entry) (before : HaveHeard keys number told past) (place : Place) (opens : Opens keys number told place.host)
@@ -167,6 +193,9 @@ module _ (laws : (keys : Keys) (whole : Bool) (here : Phase) (heard : List Entry
   all_said : (heard : List Entry) → AreSaidToHost heard → AreSaidToHost (past ++ Said restart_word ∷ heard)
   all_said heard said = all-append IsSaidToHost past (Said restart_word ∷ heard) before.said (ap is_of_others restart_is, said)
 
+  all_reads : (heard : List Entry) → ((reading : Bool) → ComeByReads reading heard) → ComeByReads false (past ++ Said restart_word ∷ heard)
+  all_reads heard reads = reads_both past (Said restart_word ∷ heard) (λ reading. reads (are_none (line_of (Said restart_word)))) false before.reads
+
   from_start : (whole : Bool) (heard : List Entry) (last : Place) → HostsKeepLaws keys whole (past ++ Said restart_word ∷ heard) last.shelf.records
       → KeepsFrom keys restarted whole heard last.shelf.records
   from_start whole heard last keeps =
@@ -183,16 +212,22 @@ module _ (laws : (keys : Keys) (whole : Bool) (here : Phase) (heard : List Entry
       subst (λ (l : List Entry). LineRests l awaits m.clock 0 m.host.state) (all_heard heard) rest in
       let all : CarefulRun (first_alone keys (Some [])) stage Resting (past ++ Said restart_word ∷ heard) (host_machine keys held m.host.state [] m.clock 0 awaits) =
       subst (λ (l : List Entry). CarefulRun (first_alone keys (Some [])) stage Resting l (host_machine keys held m.host.state [] m.clock 0 awaits)) (all_heard heard) run in
-      let said : AreSaidToHost (past ++ Said restart_word ∷ heard) = all_said heard (run_said before.clock whole steps place last heard orderly hears) in
+      let well : HeardWell heard = run_well before.clock whole steps place last heard orderly hears in
+      let said : AreSaidToHost (past ++ Said restart_word ∷ heard) = all_said heard well.said in
+      let reads : ComeByReads false (past ++ Said restart_word ∷ heard) = all_reads heard well.reads in
       let link : KeepsLink Host (ended whole (past ++ Said restart_word ∷ heard)) = link_kept obey whole (past ++ Said restart_word ∷ heard) awaits m.clock m.host.state line in
+      let told_so : whole ≡ true → Agrees last.shelf.records held = λ is. subst (λ (r : Option (List (List ℕ))). Agrees r held) (records is) agrees in
+      let at_last : HostMachine = host_machine keys held m.host.state [] m.clock 0 awaits in
       let keeps : HostsKeepLaws keys whole (past ++ Said restart_word ∷ heard) last.shelf.records =
-      kept_as_told keys whole (past ++ Said restart_word ∷ heard) last.shelf.records held (λ is. subst (λ (r : Option (List (List ℕ))). Agrees r held) (records is) agrees)
-      (laws keys whole Resting (past ++ Said restart_word ∷ heard) (host_machine keys held m.host.state [] m.clock 0 awaits) (all.run, all.careful) (λ is. (refl, refl))
-      (said_for_host (past ++ Said restart_word ∷ heard) said) link) in
+      kept_as_told keys whole (past ++ Said restart_word ∷ heard) last.shelf.records held told_so
+      (laws keys whole Resting (past ++ Said restart_word ∷ heard) at_last (all.run, all.careful) (λ is. (refl, refl)) (said_for_host (past ++ Said restart_word ∷ heard) said) link) in
       record {
         heard = heard;
         hears = hears;
         keeps = keeps;
+        legal = λ key same.
+            legal_as_told key whole (past ++ Said restart_word ∷ heard) last.shelf.records held told_so
+            (legal_so keys whole Resting (past ++ Said restart_word ∷ heard) at_last (all.run, all.careful) (λ is. (refl, refl)) (said_for_host (past ++ Said restart_word ∷ heard) said) link reads key same);
         starts = starts_so;
         from = from_start whole heard last keeps;
         next = λ is many some. record {
@@ -203,8 +238,9 @@ module _ (laws : (keys : Keys) (whole : Bool) (here : Phase) (heard : List Entry
           run = all.run;
           careful = all.careful;
           line = line;
-          holds = holds_last many last.shelf.records held some (subst (λ (r : Option (List (List ℕ))). Agrees r held) (records is) agrees);
+          holds = holds_last many last.shelf.records held some (told_so is);
           said = said;
+          reads = reads;
         };
       }
 
@@ -223,6 +259,10 @@ module _ (laws : (keys : Keys) (whole : Bool) (here : Phase) (heard : List Entry
         heard = [];
         hears = (ran.0, refl);
         keeps = keeps;
+        legal = λ key same.
+            legal_as_told key whole (past ++ Said restart_word ∷ []) last.shelf.records held (λ is. absurd (never (sym none ∙ is)))
+            (legal_so keys whole Open (past ++ Said restart_word ∷ []) (host_machine keys held place.host.state [] before.clock 0 false) all (λ is. absurd (never (sym none ∙ is)))
+            (said_for_host (past ++ Said restart_word ∷ []) (all_said [] tt)) link (all_reads [] (λ reading. tt)) key same);
         starts = starts_so;
         from = from_start whole [] last keeps;
         next = λ is many some. absurd (never (sym none ∙ is));

@@ -14,7 +14,7 @@ ghost use Rattle.port_run.specs.Steps.{AllRan, Place, Step};
 ghost use Rattle.port_run.specs.Schedule.{CutRun, RunSteps, is_quiet};
 ghost use Rattle.proof_replay.specs.HostSteps.{HaveHeard, HearsMore, Holds, IsRunSteps, IsServedLine};
 
-use crate::replay::hosts_keep_laws;
+use crate::replay::{hosts_are_legal, hosts_keep_laws};
 use proof_asking::known::hosts_record_what_is_shown;
 use proof_asking::requests::alone::traffic::hosts_obey_the_line;
 use proof_asking::requests::hosts_listen_as_told;
@@ -32,6 +32,7 @@ pub fn served_steps_are_heard()
         CutRun is_quiet lines stop steps → IsRunSteps false steps }
 {
     hosts_keep_laws();
+    hosts_are_legal();
     hosts_record_what_is_shown();
     hosts_listen_as_told();
     hosts_obey_the_line();

@@ -1,6 +1,6 @@
 //! Lines of `replay`, as runs of a host alone.
 
-ghost use Rattle.std.specs.Prelude.{◌≡◌, Bool, true, Option, Some, List, [], ℕ};
+ghost use Rattle.std.specs.Prelude.{◌≡◌, Bool, false, true, Option, Some, List, [], ℕ};
 ghost use Rattle.std.specs.List.{AllByRecursion};
 ghost use Rattle.zw_text.specs.declared.line.ReplayLine.{ReplayLine};
 ghost use Rattle.zw_text.specs.declared.entry.Entry.{Entry};
@@ -15,23 +15,31 @@ ghost use Rattle.run_replay.specs.Machine.{first_replay, lone_of};
 ghost use Rattle.run_replay.specs.Replay.{LineRan, Point, point_of};
 ghost use Rattle.proof_asking.specs.proof_requests.proof_alone.State.{HostMachine, first_alone};
 ghost use Rattle.proof_asking.specs.proof_requests.proof_alone.Phases.{Phase, Resting};
-ghost use Rattle.proof_asking.specs.proof_requests.proof_alone.Careful.{RunCarefully};
+ghost use Rattle.proof_asking.specs.proof_requests.proof_alone.Careful.{Careful, RunCarefully};
+ghost use Rattle.proof_asking.specs.proof_requests.proof_alone.Runs.{Run};
+ghost use Rattle.proof_asking.specs.proof_requests.law_host.Heard.{heeds_alone};
 ghost use Rattle.proof_asking.specs.proof_known.Known.{AreForHost};
 ghost use Rattle.proof_replay.specs.Heard.{AreReplayed, IsReadSo, Replayed, heard_of, lone_after};
-ghost use Rattle.proof_replay.specs.Laws.{HearsLines, HostsKeepLaws, IsHeardAlone};
+ghost use Rattle.proof_replay.specs.Laws.{HearsLines, HostsKeepLaws, IsHeardAlone, IsLegalSoFar};
+ghost use Rattle.proof_noting.specs.Sure.{ComeByReads};
+ghost use Rattle.proof_noting.specs.proof_hearing.proof_queue.Heeding.{AllSteps, HeedsAs, HeedsSo};
+ghost use Rattle.law_time.specs.Prompt.{IsPrompt};
+ghost use Rattle.law_transcript.specs.Units.{Carried};
+ghost use Rattle.host_heard.specs.declared.told.Told.{Told};
 
 use proof_asking::known::waking::hosts_wake_as_told;
 use proof_asking::known::{hosts_do_as_is_said, hosts_note_what_was_told};
 use proof_asking::requests::alone::traffic::hosts_obey_the_line;
 use proof_asking::requests::alone::{hosts_keep_their_tables, hosts_tell_time};
 use proof_asking::requests::{hosts_answer_questions, hosts_end_interviews};
-use proof_asking::{hosts_ask_one_by_one, hosts_say_how_done, hosts_send_what_is_due};
-use proof_choice::ends::hosts_note_ends;
-use proof_choice::ends::nonces::{hosts_count_nonces, hosts_seal_once};
-use proof_choice::ends::notes::attempts::{hosts_fall_asleep_as_told, hosts_hold_as_asked};
-use proof_choice::ends::notes::{hosts_note_in_full, hosts_say_what_is_not_kept};
-use proof_choice::giving::queue::hosts_go_by_messages;
-use proof_choice::hosts_are_prompt;
+use proof_asking::{
+    errands_are_carried, hosts_ask_one_by_one, hosts_say_how_done, hosts_send_what_is_due,
+};
+use proof_noting::{
+    hosts_are_prompt, hosts_count_nonces, hosts_fall_asleep_as_told, hosts_go_by_messages,
+    hosts_hold_as_asked, hosts_note_ends, hosts_note_in_full, hosts_note_what_happens,
+    hosts_say_what_is_not_kept, hosts_seal_once,
+};
 
 /// Of any lines that are run whole, over any bytes and any keeper, what the host of `replay` heard is told by a run of a host alone that began without
 /// records and ends at rest. No line reads the records, so those of that run are added to what the keeper had.
@@ -41,6 +49,17 @@ pub fn replays_are_a_hosts()
         (heard_of (lone_of (first_replay key) records) lines) }
 {
     hosts_obey_the_line();
+}
+
+/// A host alone is prompt in each careful run, by messages that are heeded as it took them.
+pub fn runs_are_prompt()
+    ensures { (keys : Keys) (taken : List Entry → Carried → List Told) (whole : Bool) (here : Phase) (heard : List Entry) (m : HostMachine) →
+        (run : Run (first_alone keys (Some [])) here heard m) → Careful run → AllSteps (HeedsSo (heeds_alone taken)) run →
+        AllSteps (HeedsAs (heeds_alone taken)) run → (whole ≡ true → (here ≡ Resting) × (m.left ≡ 0)) → AreForHost heard →
+        IsPrompt whole (heeds_alone taken) heard }
+{
+    hosts_ask_one_by_one();
+    hosts_are_prompt();
 }
 
 /// A host alone that begins without records and judges what comes as programs do keeps these laws, over a keeper that tells its records, where no line is
@@ -66,9 +85,22 @@ pub fn hosts_keep_laws()
     hosts_note_ends();
     hosts_seal_once();
     hosts_count_nonces();
-    hosts_ask_one_by_one();
     hosts_go_by_messages();
-    hosts_are_prompt();
+    runs_are_prompt();
+}
+
+/// Where what its chip wrote came in reads it notes what happens besides, and nothing else: so with a network key it is legal, as it goes by messages that it
+/// took up.
+pub fn hosts_are_legal()
+    ensures { (keys : Keys) (whole : Bool) (here : Phase) (heard : List Entry) (m : HostMachine) → RunCarefully (first_alone keys (Some [])) here heard m →
+        (whole ≡ true → (here ≡ Resting) × (m.left ≡ 0)) → AreForHost heard → KeepsLink Host (ended whole heard) → ComeByReads false heard →
+        (key : List ℕ) → keys ≡ keys_of key → IsLegalSoFar key whole heard m.records }
+{
+    hosts_keep_laws();
+    hosts_go_by_messages();
+    runs_are_prompt();
+    errands_are_carried();
+    hosts_note_what_happens();
 }
 
 /// So the host of `replay` keeps them over what it heard of any texts that were run whole, each of which is read as its line by its words too, whatever its
@@ -80,4 +112,5 @@ pub fn texts_that_ran_are_heard()
 {
     replays_are_a_hosts();
     hosts_keep_laws();
+    hosts_are_legal();
 }

@@ -8,8 +8,7 @@ ghost use Rattle.proof_commands.specs.Mesh.{mesh};
 
 use crate::opening::{is_host, make_records, records_name, say_faults};
 use device_sim::Device;
-use proof_commands::run;
-use proof_commands::run_all::ChaChaDraw;
+use proof_commands::{ChaChaDraw, run};
 use run_devices::{FIRST, KEY, LAST, Made, make_device};
 use run_lines::Status;
 use run_records::Records;

@@ -13,7 +13,7 @@ use Rattle.proof_asking.proofs.ForHost.{said_for_host}
 use Rattle.proof_replay.specs.Heard.{heard_of, lone_after}
 use Rattle.proof_replay.proofs.LineHeard.{first_rests, link_kept, obeys}
 use Rattle.proof_replay.proofs.Replaying.{all_go}
-use Rattle.proof_replay.proofs.Words.{replayed_said}
+use Rattle.proof_replay.proofs.Words.{replayed_well}
 use Rattle.proof_replay.proofs.replay.replays_are_a_hosts.Goals as goal
 
 -- what the run holds was added to what the keeper had
@@ -39,8 +39,9 @@ returns c = λ key records lines are.
       run = run.run;
       careful = run.careful;
       over = refl;
-      for_host = said_for_host (heard_of m lines) (replayed_said m lines are);
+      for_host = said_for_host (heard_of m lines) (replayed_well m lines are).said;
       tells = tells;
       adds = adds;
       link = link_kept obey true (heard_of m lines) awaits (lone_after m lines).clock (lone_after m lines).host.state line;
+      reads = (replayed_well m lines are).reads false;
     }

@@ -1,0 +1,477 @@
+-- From phase to phase an open session comes nearer to its end, with each tick that begins.
+use Rattle.std.proofs.Common.{◌≡◌, ◌≢◌, ◌≤◌, ◌<◌, ℕ, suc, ◌+◌, ◌-◌, inl, inr, Bool, true, false, List, [], ◌∷◌, ◌++◌, length, refl, sym, ap, ◌∙◌, subst, arith}
+use Rattle.std.specs.Prelude.{◌⊎◌, Option, Some, None, IsSome}
+use Rattle.zw_text.specs.declared.entry.Entry.{Entry}
+use Rattle.zw_text.specs.declared.entry.Entry.TheVariants as entry
+use Rattle.zw_text.specs.declared.line.Line.{Line}
+use Rattle.supervision.specs.Host.{begun_of, open_session}
+use Rattle.chip_functions.specs.Field.{IsNode}
+use Rattle.chip_sim.specs.Nodes.{is_marked}
+use Rattle.host_node.specs.Search.{next_of}
+use Rattle.host_node.specs.Facts.{NodeFacts, SeriesFacts}
+use Rattle.host_node.specs.State.{NodeState}
+use Rattle.host_node.specs.declared.series.Series.{Series}
+use Rattle.host_node.specs.declared.series.Series.TheVariants as series
+use Rattle.host_model.specs.After.{after}
+use Rattle.host_model.specs.Events.{HostEvent, Begin_unkept}
+use Rattle.host_model.specs.Facts.{HostFacts}
+use Rattle.host_model.specs.May.{May as MayHost}
+use Rattle.host_model.specs.State.{HostState, node_of}
+use Rattle.outside_model.specs.Events.{OuterEvent, Wakes_device, Shows, Cuts}
+use Rattle.world_model.specs.Events.{Event, Outside_does, Host_does, happens, entries, May}
+use Rattle.world_model.specs.State.{Machine}
+use Rattle.proof_answered.specs.proof_calm.proof_work.Line.{HasOnLine}
+use Rattle.proof_answered.specs.proof_calm.proof_work.Phases.{AsksNothing}
+use Rattle.proof_answered.specs.proof_calm.proof_work.proof_walk.Phases.{Phase, Between, Said_line, Doing, To_tick, Arriving, Giving, Ticking_devices, Ticking_chip, Ticking_decoder, Ticking_host, Sleeping, Submitting, Moving, Moved, Goes, Turns}
+use Rattle.proof_answered.specs.proof_calm.proof_work.proof_walk.Walk.{WalkWhere}
+use Rattle.proof_answered.specs.proof_calm.Awaited.{AwaitsAt}
+use Rattle.proof_answered.specs.proof_calm.Resting.{IsEffect, IsOuterEffect, LineAt}
+use Rattle.proof_answered.specs.proof_calm.Routed.{IsRouted}
+use Rattle.proof_answered.specs.proof_calm.Tied.{IsPeopled, IsTied, PumpedAt, RoomAt, TieAt, unheard}
+use Rattle.proof_answered.specs.FirstAttempts.{IsInTime}
+use Rattle.proof_answered.specs.Heard.{AllSayHeard}
+use Rattle.proof_answered.proofs.AttemptEnds.{LastsAt}
+use Rattle.proof_answered.proofs.FirstWalk.{first_on}
+use Rattle.proof_answered.proofs.TurnOrder.{comes_no_later, turn_most}
+use Rattle.proof_answered.proofs.Unmarked.{nothing_asked}
+use Rattle.proof_answered.proofs.proof_traffic_Parts.{Airs}
+use Rattle.proof_answered.proofs.Staffing.{sent_on}
+use Rattle.proof_answered.specs.Turns.{turn_of}
+use Rattle.proof_answered.specs.Workers.{KnowsWorkers}
+use Rattle.proof_in_time.specs.Coming.{IsKeptFor, KnowPlainly, WaitsFor}
+use Rattle.proof_in_time.specs.InHand.{AllServe, ComesAfter, HasEnded, HearsNoTask, IsInHand, MayServe, Opened, Unopened, ticks_begun, ticks_enough, ticks_of_all}
+use Rattle.proof_in_time.specs.InStep.{IsPlainly}
+use Rattle.proof_in_time.proofs.Bounded.{Devices, either_node, some_left}
+use Rattle.proof_in_time.proofs.InHand.{Any, Due, Ended, Ends, Hand, HandAt, HasTurn, Idles, Runs, any_kept, ends_kept, event_hand, hand_as}
+use Rattle.proof_in_time.proofs.InTurn.{ComesTo, In_turn, IsOwed, Owed, no_part, owed_on, owed_turn, three_left}
+use Rattle.proof_in_time.proofs.Keeping.{kept_before, none_unkept, told_kept}
+use Rattle.proof_in_time.proofs.Queued.{queue_on}
+use Rattle.proof_in_time.proofs.Lasting.{LaterOn, event_waits, in_time, keeps, most_then, node_within, said_waits, turns_wait}
+use Rattle.proof_in_time.proofs.Served.{BeginsNone, BeginsNoTick, IsPartOf, ServesNext, event_clock, served_now, tick_clock}
+
+-- an attempt of the node runs, and what it waits for comes within so many ticks
+pub record RunsOn (n ticks : ℕ) (here : Phase) (m : Machine) : Type 0 where
+  pub most : ℕ
+  pub waits : WaitsFor n most here m
+  pub few : most + 1 ≤ ticks
+
+-- the session of the command is over within so many ticks: those of the sessions that are to follow the one that is to begin or is open come after that
+abbrev pub Soon : List Bool → ℕ → ℕ → ℕ → Phase → Machine → Type 0
+Soon these n command ticks here m =
+    Hand (Ends command (λ (more : ℕ). ComesTo these n (ticks - ticks_of_all these more) here m) (λ (more : ℕ). RunsOn n (ticks - ticks_of_all these more) here m)) (node_of m.host.state n)
+
+-- what is known beside: the host may serve each of them, and has no task of its own
+abbrev pub KnowServed : List Bool → Phase → List Entry → Machine → Type 0
+KnowServed these here past m = KnowPlainly these here past m × (IsKeptFor these past → AllServe these m.host.state)
+
+-- what is known beside: the session of the command is over within as many ticks as are left
+abbrev pub KnowSoon : List Bool → ℕ → ℕ → ℕ → Phase → List Entry → Machine → Type 0
+KnowSoon these n command most here past m = KnowServed these here past m × (IsKeptFor these past → Soon these n command (most - ticks_begun m) here m)
+
+-- what is assumed of each event
+abbrev pub HasAll : List Bool → Machine → Event → Type 0
+HasAll these m event = IsPlainly these m event × HearsNoTask m event
+
+-- ---- what is so of the host: a node that has work comes no later
+
+-- before an event: so it is of a node that had work, of one that ran, or of a session that was over then; with so many sessions to follow
+pub record Origins : Type 1 where
+  pub Turns_up : ℕ → Type 0
+  pub Ran : ℕ → Type 0
+  pub Left : ℕ → Type 0
+  pub turn_left : (more : ℕ) → Turns_up (suc more) → Left more
+  pub ran_left : (more : ℕ) → Ran (suc more) → Left more
+  pub left_left : (more : ℕ) → Left (suc more) → Left more
+
+module _ (facts_kept : (h : HostState) (event : HostEvent) → HostFacts h → MayHost h event → HostFacts (after h event)) (these : List Bool) (n : ℕ) (within : n < 233) (some : 1 ≤ n) (command turn : ℕ) (o : Origins) where
+  -- its turn is no later than it was
+  abbrev D : HostState → ℕ → Type 0
+  D h more = (o.Turns_up more × (turn_of these h.served n ≤ turn)) ⊎ o.Left more
+
+  abbrev R : ℕ → Type 0
+  R more = (o.Ran more ⊎ o.Turns_up more) ⊎ o.Left more
+
+  record On (h : HostState) : Type 0 where
+    pub facts : HostFacts h
+    pub hand : Hand (Ends command (D h) R) (node_of h n)
+
+  on_kept : (h : HostState) (event : HostEvent) → LastsAt h event → MayHost h event → On h → On (after h event)
+  on_kept h event lasts may on = record { facts = facts_kept h event on.facts may; hand = hand_as command D1 R (D (after h event)) R (node_of (after h event) n) due (λ more so r. r) later.hand }
+    where
+      D1 : ℕ → Type 0
+      D1 more = (HasTurn (node_of h n) × o.Turns_up more × (turn_of these h.served n ≤ turn)) ⊎ o.Left more
+
+      starts : (more : ℕ) → D1 more → R more
+      starts more (inl (has, a, few)) = inl (inr a)
+      starts more (inr left) = inr left
+
+      less : (more : ℕ) → D1 (suc more) → D1 more
+      less more (inl (has, a, few)) = inr (o.turn_left more a)
+      less more (inr left) = inr (o.left_left more left)
+
+      over : (more : ℕ) → R (suc more) → D1 more
+      over more (inl (inl ran)) = inr (o.ran_left more ran)
+      over more (inl (inr a)) = inr (o.turn_left more a)
+      over more (inr left) = inr (o.left_left more left)
+
+      as_turn : (more : ℕ) → HasTurn (node_of h n) → D h more → D1 more
+      as_turn more has (inl (a, few)) = inl (has, a, few)
+      as_turn more has (inr left) = inr left
+
+      later : HandAt (Ends command D1 R) (ends_kept command D1 R starts less over) n (after h event).nodes
+      later =
+          event_hand (Ends command D1 R) (ends_kept command D1 R starts less over) n within h event lasts may
+          (record { places = on.facts.nodes.places; hand = hand_as command (D h) R D1 R (node_of h n) as_turn (λ more so r. r) on.hand })
+
+      turned : HasTurn (node_of h n) → (node_of (after h event) n).series ≢ series.Running → turn_of these h.served n ≤ turn → ((after h event).served ≡ h.served) ⊎ ServesNext h event → turn_of these (after h event).served n ≤ turn
+      turned has then_rests few (inl same) = subst (λ (s : ℕ). turn_of these s n ≤ turn) (sym same) few
+      turned has then_rests few (inr next) = by (either_node n next.node)
+        where
+          by : (next.node ≡ n) ⊎ (next.node ≢ n) → turn_of these (after h event).served n ≤ turn
+          by (inl same) = absurd (no_part n within h event on.facts may (subst (λ (k : ℕ). IsPartOf event k) same next.part) has.0 then_rests)
+          by (inr other) =
+              let passed = comes_no_later these h.nodes h.served next.node n has.1 some (omega (arith, within)) (λ e. other (sym e)) next.is_next in
+              subst (λ (s : ℕ). turn_of these s n ≤ turn) (sym next.served) (omega (arith, passed, few))
+
+      due : (more : ℕ) → HasTurn (node_of (after h event) n) → D1 more → D (after h event) more
+      due more then_has (inl (has, a, few)) = inl (a, turned has then_has.0 few (served_now h event lasts may))
+      due more then_has (inr left) = inr left
+
+-- ---- from phase to phase
+
+abbrev pub ticks_then : ℕ → Phase → ℕ
+ticks_then ticks (To_tick (suc more)) = ticks - 1
+ticks_then ticks here = ticks
+
+module _ (airs : Airs) (these : List Bool) (many : length these ≡ 233) (laws : Devices) (facts_kept : (h : HostState) (event : HostEvent) → HostFacts h → MayHost h event → HostFacts (after h event))
+    (workers : (h : HostState) (k : ℕ) → KnowsWorkers these h → next_of h.nodes h.served ≡ Some k → is_marked these k ≡ true) (n : ℕ) (marked : is_marked these n ≡ true) (node : IsNode n) (command : ℕ) where
+  below : n < 233
+  below = let few = node.1 in omega (arith, few)
+
+  abbrev Tied_at : Phase → Machine → Type 0
+  Tied_at here m = LineAt here m × AwaitsAt here m × RoomAt here m × IsRouted m.outside.outer × HasOnLine m.host.state × PumpedAt here m × TieAt here m × IsPeopled m
+
+  few_on : (here : Phase) (most ticks : ℕ) (m : Machine) → WaitsFor n most here m → (node_of m.host.state n).series ≡ series.Running → most + 1 ≤ ticks → most_then most here + 1 ≤ ticks_then ticks here
+  few_on (To_tick (suc more)) most ticks m w so few =
+      let b = w.bounded so in
+      let some = some_left airs these many laws n most marked node more (begun_of (node_of m.host.state n).book) b.left m b.comes in
+      let within = b.within in
+      omega (arith, some, within, few)
+  few_on here most ticks m w so few = few
+
+  three_on : (here : Phase) (ticks : ℕ) (m : Machine) → ComesTo these n ticks here m → 3 ≤ ticks_then ticks here
+  three_on (To_tick (suc more)) ticks m (In_turn few) = omega (arith, few)
+  three_on (To_tick (suc more)) ticks m (Owed owed few) = absurd owed
+  three_on here ticks m comes = three_left these n ticks here m comes
+
+  begins_comes : (ticks more : ℕ) (next : Phase) (m : Machine) (event : Event) → Goes (To_tick (suc more)) m event next → turn_of these (happens m event).host.state.served n ≤ turn_of these m.host.state.served n
+      → ComesTo these n ticks (To_tick (suc more)) m → ComesTo these n (ticks - 1) next (happens m event)
+  begins_comes ticks more next m event (is, to) passed (In_turn few) = Owed (subst (λ (q : Phase). IsOwed q (happens m event)) (sym to) tt) (omega (arith, passed, few))
+  begins_comes ticks more next m event (is, to) passed (Owed owed few) = absurd owed
+
+  comes_as : (ticks : ℕ) (here next : Phase) (m : Machine) (event : Event) → turn_of these (happens m event).host.state.served n ≤ turn_of these m.host.state.served n
+      → (IsOwed here m → IsOwed next (happens m event) ⊎ (turn_of these (happens m event).host.state.served n + 1 ≤ turn_of these m.host.state.served n)) → ComesTo these n ticks here m → ComesTo these n ticks next (happens m event)
+  comes_as ticks here next m event passed owed_then (In_turn few) = In_turn (omega (arith, passed, few))
+  comes_as ticks here next m event passed owed_then (Owed owed few) = by (owed_then owed)
+    where
+      by : IsOwed next (happens m event) ⊎ (turn_of these (happens m event).host.state.served n + 1 ≤ turn_of these m.host.state.served n) → ComesTo these n ticks next (happens m event)
+      by (inl later) = Owed later (omega (arith, passed, few))
+      by (inr nearer) = In_turn (omega (arith, nearer, few))
+
+  comes_on : (ticks : ℕ) (here next : Phase) (m : Machine) (event : Event) → Goes here m event next → turn_of these (happens m event).host.state.served n ≤ turn_of these m.host.state.served n
+      → (IsOwed here m → IsOwed next (happens m event) ⊎ (turn_of these (happens m event).host.state.served n + 1 ≤ turn_of these m.host.state.served n)) → ComesTo these n ticks here m → ComesTo these n (ticks_then ticks here) next (happens m event)
+  comes_on ticks (To_tick (suc more)) next m event goes passed owed_then comes = begins_comes ticks more next m event goes passed comes
+  comes_on ticks here next m event goes passed owed_then comes = comes_as ticks here next m event passed owed_then comes
+
+  -- as many ticks are left for the sessions that follow
+  then_less : (ticks less : ℕ) (here : Phase) → ticks_then (ticks - less) here ≡ ticks_then ticks here - less
+  then_less ticks less (To_tick (suc more)) = omega arith
+  then_less ticks less here = refl
+
+  then_most : (ticks : ℕ) (here : Phase) → ticks ≤ ticks_then ticks here + 1
+  then_most ticks (To_tick (suc more)) = omega arith
+  then_most ticks here = omega arith
+
+  -- a session is over, and the ticks of another are left
+  abbrev HasMore : ℕ → ℕ → Type 0
+  HasMore ticks more = ticks_enough these + 1 ≤ ticks - ticks_of_all these more
+
+  has_more : (ticks more some : ℕ) → 1 ≤ some → some ≤ ticks - ticks_of_all these (suc more) → HasMore ticks more
+  has_more ticks more some least few = omega (arith, least, few)
+
+  soon_on : (ticks : ℕ) (here next : Phase) (m : Machine) (event : Event) → Goes here m event next → May m event → m.host.state.requests.queue ≡ [] → IsInTime m event → ((k : ℕ) → event ≡ Host_does (Begin_unkept k) → ⊥) → Tied_at here m
+      → AllSayHeard (unheard m.outside.outer) → KnowsWorkers these m.host.state → Tied_at next (happens m event) → WaitsFor n 2 next (happens m event)
+      → ((most : ℕ) → WaitsFor n most here m → LaterOn airs these many laws n most marked node (most_then most here) next m event) → Soon these n command ticks here m → Soon these n command (ticks_then ticks here) next (happens m event)
+  soon_on ticks here next m event goes may empty on_time kept at heard knows next_at two waits_on soon =
+      hand_as command (D facts_kept these n below node.0 command turn o (happens m event).host.state) (R facts_kept these n below node.0 command turn o)
+      (λ (more : ℕ). ComesTo these n (ticks_then ticks here - ticks_of_all these more) next (happens m event)) (λ (more : ℕ). RunsOn n (ticks_then ticks here - ticks_of_all these more) next (happens m event))
+      (node_of (happens m event).host.state n) due runs later.hand
+    where
+      turn : ℕ
+      turn = turn_of these m.host.state.served n
+
+      A : ℕ → Type 0
+      A more = HasTurn (node_of m.host.state n) × ComesTo these n (ticks - ticks_of_all these more) here m
+
+      B : ℕ → Type 0
+      B more = ((node_of m.host.state n).series ≡ series.Running) × RunsOn n (ticks - ticks_of_all these more) here m
+
+      turn_left : (more : ℕ) → A (suc more) → HasMore ticks more
+      turn_left more (has, comes) = has_more ticks more 3 (omega arith) (three_left these n (ticks - ticks_of_all these (suc more)) here m comes)
+
+      ran_left : (more : ℕ) → B (suc more) → HasMore ticks more
+      ran_left more (so, r) = let few = r.few in has_more ticks more (r.most + 1) (omega arith) few
+
+      left_left : (more : ℕ) → HasMore ticks (suc more) → HasMore ticks more
+      left_left more left = omega (arith, left)
+
+      o : Origins
+      o = record { Turns_up = A; Ran = B; Left = λ (more : ℕ). HasMore ticks more; turn_left = turn_left; ran_left = ran_left; left_left = left_left }
+
+      now : On facts_kept these n below node.0 command turn o m.host.state
+      now = record {
+        facts = at.7.facts;
+        hand = hand_as command (λ (more : ℕ). ComesTo these n (ticks - ticks_of_all these more) here m) (λ (more : ℕ). RunsOn n (ticks - ticks_of_all these more) here m)
+            (D facts_kept these n below node.0 command turn o m.host.state) (R facts_kept these n below node.0 command turn o) (node_of m.host.state n) (λ more has comes. inl ((has, comes), omega arith)) (λ more so runs_on. inl (inl (so, runs_on)))
+            soon;
+      }
+
+      later : On facts_kept these n below node.0 command turn o (happens m event).host.state
+      later =
+          first_on (On facts_kept these n below node.0 command turn o) (on_kept facts_kept these n below node.0 command turn o) airs here next m event goes may on_time at.0 at.1 at.6 heard (λ k same on. absurd (kept k same)) now
+
+      due : (more : ℕ) → HasTurn (node_of (happens m event).host.state n) → (A more × (turn_of these (happens m event).host.state.served n ≤ turn)) ⊎ HasMore ticks more
+          → ComesTo these n (ticks_then ticks here - ticks_of_all these more) next (happens m event)
+      due more then_has (inl ((has, comes), passed)) =
+          subst (λ (k : ℕ). ComesTo these n k next (happens m event)) (then_less ticks (ticks_of_all these more) here)
+          (comes_on (ticks - ticks_of_all these more) here next m event goes passed
+          (λ owed. owed_on airs these n marked node here next m event goes may at.0 at.2 at.6 next_at.0 next_at.6 empty at.7.facts (λ k is_next. workers m.host.state k knows is_next) has then_has.0 owed) comes)
+      due more then_has (inr left) =
+          let most = turn_most these (happens m event).host.state.served n node.1 in
+          let one = then_most ticks here in
+          In_turn (omega (arith, left, most, one))
+
+      runs : (more : ℕ) → (node_of (happens m event).host.state n).series ≡ series.Running → (B more ⊎ A more) ⊎ HasMore ticks more → RunsOn n (ticks_then ticks here - ticks_of_all these more) next (happens m event)
+      runs more then_runs (inl (inr (has, comes))) =
+          record { most = 2; waits = two; few = subst (λ (k : ℕ). 3 ≤ k) (then_less ticks (ticks_of_all these more) here) (three_on here (ticks - ticks_of_all these more) m comes) }
+      runs more then_runs (inl (inl (so, runs_on))) = by (waits_on runs_on.most runs_on.waits)
+        where
+          few : most_then runs_on.most here + 1 ≤ ticks_then ticks here - ticks_of_all these more
+          few = subst (λ (k : ℕ). most_then runs_on.most here + 1 ≤ k) (then_less ticks (ticks_of_all these more) here) (few_on here runs_on.most (ticks - ticks_of_all these more) m runs_on.waits so runs_on.few)
+
+          by : LaterOn airs these many laws n runs_on.most marked node (most_then runs_on.most here) next m event → RunsOn n (ticks_then ticks here - ticks_of_all these more) next (happens m event)
+          by (inl w) = record { most = most_then runs_on.most here; waits = w; few = few }
+          by (inr (was_due, w)) = absurd (let wrong : series.Due ≡ series.Running = sym was_due ∙ so in cc)
+      runs more then_runs (inr left) = let one = then_most ticks here in record { most = 2; waits = two; few = omega (arith, left, one) }
+
+  tied_before : (next : Phase) (m : Machine) → Tied_at next m → (ticks : ℕ) → next ≡ To_tick ticks → IsTied m
+  tied_before next m at ticks is =
+      let x : Tied_at (To_tick ticks) m = subst (λ (q : Phase). Tied_at q m) is at in
+      record { rests = x.0; awaits = x.1; routed = x.3; on_line = x.4; pumped = x.5; tie = x.6; peopled = x.7 }
+
+  soon_turn : (ticks : ℕ) (here next : Phase) (m : Machine) → Turns here m next → Tied_at here m → Tied_at next m → Soon these n command ticks here m → Soon these n command ticks next m
+  soon_turn ticks here next m turns at next_at soon =
+      hand_as command (λ (more : ℕ). ComesTo these n (ticks - ticks_of_all these more) here m) (λ (more : ℕ). RunsOn n (ticks - ticks_of_all these more) here m) (λ (more : ℕ). ComesTo these n (ticks - ticks_of_all these more) next m)
+      (λ (more : ℕ). RunsOn n (ticks - ticks_of_all these more) next m) (node_of m.host.state n) due runs soon
+    where
+      due : (more : ℕ) → HasTurn (node_of m.host.state n) → ComesTo these n (ticks - ticks_of_all these more) here m → ComesTo these n (ticks - ticks_of_all these more) next m
+      due more has (In_turn few) = In_turn few
+      due more has (Owed owed few) = Owed (owed_turn airs these n marked node here next m turns at.0 at.1 (tied_before next m next_at) has owed) few
+
+      runs : (more : ℕ) → (node_of m.host.state n).series ≡ series.Running → RunsOn n (ticks - ticks_of_all these more) here m → RunsOn n (ticks - ticks_of_all these more) next m
+      runs more so r = record { most = r.most; waits = turns_wait airs these many laws n r.most marked node here next m turns at.1 at.6 next_at.0 next_at.6 r.waits; few = r.few }
+
+  soon_said : (ticks : ℕ) (line : Line) (m : Machine) → Soon these n command ticks Between m → Soon these n command ticks (Said_line line) m
+  soon_said ticks line m soon =
+      hand_as command (λ (more : ℕ). ComesTo these n (ticks - ticks_of_all these more) Between m) (λ (more : ℕ). RunsOn n (ticks - ticks_of_all these more) Between m)
+      (λ (more : ℕ). ComesTo these n (ticks - ticks_of_all these more) (Said_line line) m) (λ (more : ℕ). RunsOn n (ticks - ticks_of_all these more) (Said_line line) m) (node_of m.host.state n) due runs soon
+    where
+      due : (more : ℕ) → HasTurn (node_of m.host.state n) → ComesTo these n (ticks - ticks_of_all these more) Between m → ComesTo these n (ticks - ticks_of_all these more) (Said_line line) m
+      due more has (In_turn few) = In_turn few
+      due more has (Owed owed few) = absurd owed
+
+      runs : (more : ℕ) → (node_of m.host.state n).series ≡ series.Running → RunsOn n (ticks - ticks_of_all these more) Between m → RunsOn n (ticks - ticks_of_all these more) (Said_line line) m
+      runs more so r = record { most = r.most; waits = said_waits airs these many laws n r.most marked node line m r.waits; few = r.few }
+
+  -- ---- ticks that have begun
+
+  same_ticks : (most : ℕ) (m : Machine) (event is : Event) → event ≡ is → BeginsNoTick is → most - ticks_begun m ≡ most - ticks_begun (happens m event)
+  same_ticks most m event is same none = subst (λ (e : Event). most - ticks_begun m ≡ most - ticks_begun (happens m e)) (sym same) (ap (λ (k : ℕ). most - k) (sym (event_clock m is none)))
+
+  effect_none : (event : Event) → IsEffect event → BeginsNoTick event
+  effect_none (Outside_does event) is = outer_none event is
+    where
+      outer_none : (e : OuterEvent) → IsOuterEffect e → BeginsNone e
+      outer_none (Wakes_device k route) effect = tt
+      outer_none (Shows k) effect = tt
+      outer_none (Cuts size) effect = tt
+      outer_none e effect = absurd effect
+  effect_none event is = tt
+
+  ticks_on : (most : ℕ) (here next : Phase) (m : Machine) (event : Event) → Goes here m event next → LineAt here m → ticks_then (most - ticks_begun m) here ≡ most - ticks_begun (happens m event)
+  ticks_on most (Said_line line) next m event (is, to) at = same_ticks most m event _ is tt
+  ticks_on most (Doing line (first ∷ left)) next m event (is, to) at = same_ticks most m event first is (effect_none first at.0.0)
+  ticks_on most (To_tick (suc ticks)) next m event (is, to) at =
+      let one = tick_clock m in
+      subst (λ (e : Event). (most - ticks_begun m) - 1 ≡ most - ticks_begun (happens m e)) (sym is) (omega (arith, one))
+  ticks_on most (Arriving (suc frames) ticks) next m event (drawn, route, is, to) at = same_ticks most m event _ is tt
+  ticks_on most (Giving (suc results) ticks) next m event (route, is, to) at = same_ticks most m event _ is tt
+  ticks_on most (Ticking_devices place (suc count) ticks) next m event (drawn, route, is, to) at = same_ticks most m event _ is tt
+  ticks_on most (Ticking_chip ticks) next m event (is, to) at = same_ticks most m event _ is tt
+  ticks_on most (Ticking_decoder ticks) next m event (is, to) at = same_ticks most m event _ is tt
+  ticks_on most (Ticking_host (first ∷ events) ticks) next m event (is, to) at = same_ticks most m event _ is tt
+  ticks_on most (Sleeping passes ticks) next m event (k, wants, is, to) at = same_ticks most m event _ is tt
+  ticks_on most (Submitting passes ticks) next m event (asked, next_so, is, to) at = same_ticks most m event _ is tt
+  ticks_on most (Moving passes ticks) next m event (rest, ways, is, to) at = same_ticks most m event _ is tt
+  ticks_on most (Moved b passes ticks) next m event (rest, items, done, is, to) at = same_ticks most m event _ is tt
+  ticks_on most here next m event goes at = absurd goes
+
+  -- ---- the walk
+
+  module _ (none : is_marked these 0 ≡ false) (most : ℕ) (served : WalkWhere (HasAll these) AsksNothing (KnowServed these)) where
+    soon_all : (here next : Phase) (past : List Entry) (m : Machine) (event : Event) → Goes here m event next → May m event → HasAll these m event → IsKeptFor these (past ++ entries m event) → KnowSoon these n command most here past m
+        → KnowServed these next (past ++ entries m event) (happens m event) → Soon these n command (most - ticks_begun (happens m event)) next (happens m event)
+    soon_all here next past m event goes may has is known later =
+        let before = kept_before these past (entries m event) is in
+        let stretched = before.worked.stretched in
+        let staff = known.0.0.0.0 before.worked in
+        let tied = (staff.0.0 stretched).0.0.tied stretched.quiet in
+        let next_tied = ((later.0.0.0 is.worked).0.0 is.worked.stretched).0.0.tied is.worked.stretched.quiet in
+        let sent = sent_on these here next m event goes may tied.0 tied.6 (staff.0.1 stretched) in
+        let was = known.0.0.0.1 before in
+        let waits_then = later.0.0.1 is in
+        subst (λ (ticks : ℕ). Soon these n command ticks next (happens m event)) (ticks_on most here next m event goes tied.0)
+        (soon_on (most - ticks_begun m) here next m event goes may (known.0.1 before).no_task (in_time these here past m event before known.0.0.0) (none_unkept m event (told_kept these past (entries m event) is)) tied (staff.0.0 stretched).0.1 (staff.0.1 stretched) next_tied
+        (waits_then.waits n marked)
+        (λ few w.
+        event_waits airs these many laws n few marked node here next m event goes may has.0 (keeps m event (told_kept these past (entries m event) is)) was.whole tied.0 tied.1 tied.2 tied.3 tied.6 tied.7 (staff.0.0 stretched).1 sent
+        was.joined w next_tied.0) (known.1 before))
+
+    pub soon_walk : WalkWhere (HasAll these) AsksNothing (KnowSoon these n command most)
+    soon_walk = record {
+      said = λ past m words line read known. (
+        tt,
+        (
+          (served.said past m words line read known.0).1,
+          λ is. soon_said (most - ticks_begun m) line m (known.1 (kept_before these past (entry.Said words ∷ []) is)),
+        ),
+      );
+      event = λ here next past m event goes may has known.
+          let later = (served.event here next past m event goes may has known.0).1 in
+          (nothing_asked past (entries m event), (later, λ is. soon_all here next past m event goes may has is known later));
+      turn = λ here next past m turns known.
+          let later = served.turn here next past m turns known.0 in (
+            later,
+            λ is.
+                let stretched = is.worked.stretched in
+                let tied = ((known.0.0.0.0 is.worked).0.0 stretched).0.0.tied stretched.quiet in
+                let next_tied = ((later.0.0.0 is.worked).0.0 stretched).0.0.tied stretched.quiet in
+                soon_turn (most - ticks_begun m) here next m turns tied next_tied (known.1 is),
+          );
+    }
+
+-- ---- the host may serve these nodes
+
+module _ (airs : Airs) (these : List Bool) (many : length these ≡ 233) (none : is_marked these 0 ≡ false) (plainly : WalkWhere (IsPlainly these) AsksNothing (KnowPlainly these)) where
+  serves_on : (here next : Phase) (past : List Entry) (m : Machine) (event : Event) → Goes here m event next → May m event → IsKeptFor these (past ++ entries m event) → KnowServed these here past m → (n : ℕ) → is_marked these n ≡ true → MayServe (node_of (happens m event).host.state n)
+  serves_on here next past m event goes may is known n marked =
+      let before = kept_before these past (entries m event) is in
+      let stretched = before.worked.stretched in
+      let staff = known.0.0.0 before.worked in
+      let tied = (staff.0.0 stretched).0.0.tied stretched.quiet in
+      let served = (known.1 before).each n marked in
+      let node = node_within these many none n marked in
+      let below : n < 233 = (let few = node.1 in omega (arith, few)) in
+      let later = first_on (λ (h : HostState). HandAt Any any_kept n h.nodes) (λ h e lasts may_it at. event_hand Any any_kept n below h e lasts may_it at) airs here next m event goes may
+      (in_time these here past m event before known.0.0) tied.0 tied.1 tied.6 (staff.0.0 stretched).0.1 (λ k same on. absurd (none_unkept m event (told_kept these past (entries m event) is) k same))
+      (record { places = tied.7.facts.nodes.places; hand = record { listens = served.listens; unblocked = served.unblocked; ends = tt } }) in
+      record { listens = later.hand.listens; unblocked = later.hand.unblocked }
+
+  task_on : (here next : Phase) (past : List Entry) (m : Machine) (event : Event) → Goes here m event next → HearsNoTask m event → IsKeptFor these (past ++ entries m event) → KnowServed these here past m → (happens m event).host.state.requests.queue ≡ []
+  task_on here next past m event goes hears is known =
+      let before = kept_before these past (entries m event) is in
+      let stretched = before.worked.stretched in
+      let staff = known.0.0.0 before.worked in
+      let tied = (staff.0.0 stretched).0.0.tied stretched.quiet in
+      queue_on these here next m event goes tied.0 tied.6 hears (known.1 before) (staff.0.1 stretched) (known.1 before).no_task
+
+  pub served_walk : WalkWhere (HasAll these) AsksNothing (KnowServed these)
+  served_walk = record {
+    said = λ past m words line read known. (tt, ((plainly.said past m words line read known.0).1, λ is. known.1 (kept_before these past (entry.Said words ∷ []) is)));
+    event = λ here next past m event goes may has known. (
+      nothing_asked past (entries m event),
+      ((plainly.event here next past m event goes may has.0 known.0).1, λ is. record { each = serves_on here next past m event goes may is known; no_task = task_on here next past m event goes has.1 is known }),
+    );
+    turn = λ here next past m turns known. (plainly.turn here next past m turns known.0, known.1);
+  }
+
+-- ---- at the beginning, and in the end
+
+series_or : (s : Series) → s ≢ series.Idle → (s ≡ series.Due) ⊎ (s ≡ series.Running)
+series_or series.Idle busy = absurd (busy refl)
+series_or series.Due busy = inl refl
+series_or series.Running busy = inr refl
+
+-- where none is open, none is due or runs
+pub idle_of : (x : NodeState) → NodeFacts x → open_session x.book ≡ None → x.series ≡ series.Idle
+idle_of x facts none = by x.series refl facts.series
+  where
+    no : IsSome (open_session x.book) → ⊥
+    no some = absurd (let wrong : false ≡ true = subst (λ (o : Option ℕ). IsSome o) none some in cc)
+
+    by : (s : Series) → x.series ≡ s → SeriesFacts s x.book x.attempt_wait x.again_wait x.next_segment x.segments x.text x.pending → x.series ≡ series.Idle
+    by series.Idle so is = so
+    by series.Due so is = absurd (no is.0.is_open)
+    by series.Running so is = absurd (no is.0.is_open)
+
+soon_first : (these : List Bool) (n command more ticks : ℕ) (m : Machine) → IsNode n → NodeFacts (node_of m.host.state n) → MayServe (node_of m.host.state n) → IsInHand command more (node_of m.host.state n) → WaitsFor n 2 Between m
+    → ticks_of_all these (suc more) ≤ ticks → Soon these n command ticks Between m
+soon_first these n command more ticks m node facts serves is waits enough = record { listens = serves.listens; unblocked = serves.unblocked; ends = by is }
+  where
+    x : NodeState
+    x = node_of m.host.state n
+
+    left : ticks_enough these ≤ ticks - ticks_of_all these more
+    left = omega (arith, enough)
+
+    comes : ComesTo these n (ticks - ticks_of_all these more) Between m
+    comes = let most = turn_most these m.host.state.served n node.1 in In_turn (omega (arith, most, left))
+
+    goes : RunsOn n (ticks - ticks_of_all these more) Between m
+    goes = record { most = 2; waits = waits; few = omega (arith, left) }
+
+    E : Type 0
+    E = Ends command (λ (k : ℕ). ComesTo these n (ticks - ticks_of_all these k) Between m) (λ (k : ℕ). RunsOn n (ticks - ticks_of_all these k) Between m) (node_of m.host.state n)
+
+    opened : (session : ℕ) → open_session (node_of m.host.state n).book ≡ Some session → ComesAfter more command session (node_of m.host.state n) → ((node_of m.host.state n).series ≡ series.Due) ⊎ ((node_of m.host.state n).series ≡ series.Running) → E
+    opened session opens after_it (inl due) = Due more session opens due after_it comes
+    opened session opens after_it (inr run) = Runs more session opens run after_it goes
+
+    by : IsInHand command more (node_of m.host.state n) → E
+    by (Opened session opens busy after_it) = opened session opens after_it (series_or (node_of m.host.state n).series busy)
+    by (Unopened none at) = Idles more none (idle_of (node_of m.host.state n) facts none) at comes
+
+-- and so it is where that is known of the machine
+pub soon_then : (these : List Bool) (n command more ticks : ℕ) (past : List Entry) (m : Machine) → is_marked these n ≡ true → IsNode n → KnowServed these Between past m → IsInHand command more (node_of m.host.state n) → ticks_of_all these (suc more) ≤ ticks
+    → IsKeptFor these past → Soon these n command ticks Between m
+soon_then these n command more ticks past m marked node known is enough kept =
+    let stretched = kept.worked.stretched in
+    let staff = known.0.0.0 kept.worked in
+    let tied = (staff.0.0 stretched).0.0.tied stretched.quiet in
+    soon_first these n command more ticks m node (tied.7.facts.nodes.facts n) ((known.1 kept).each n marked) is ((known.0.0.1 kept).waits n marked) enough
+
+pub soon_past : (these : List Bool) (n command : ℕ) (m : Machine) → Soon these n command 0 Between m → HasEnded command (node_of m.host.state n).book
+soon_past these n command m soon = by soon.ends
+  where
+    none_comes : (more : ℕ) → ComesTo these n (0 - ticks_of_all these more) Between m → ⊥
+    none_comes more (In_turn few) = absurd (omega (arith, few))
+    none_comes more (Owed owed few) = absurd owed
+
+    none_runs : (more : ℕ) → RunsOn n (0 - ticks_of_all these more) Between m → ⊥
+    none_runs more r = let few = r.few in absurd (omega (arith, few))
+
+    by : Ends command (λ (k : ℕ). ComesTo these n (0 - ticks_of_all these k) Between m) (λ (k : ℕ). RunsOn n (0 - ticks_of_all these k) Between m) (node_of m.host.state n) → HasEnded command (node_of m.host.state n).book
+    by (Ended is) = is
+    by (Idles more none idle at d) = absurd (none_comes more d)
+    by (Due more session opened so at d) = absurd (none_comes more d)
+    by (Runs more session opened so at r) = absurd (none_runs more r)

@@ -1,0 +1,212 @@
+-- No task of the host waits, where none waited and the host queues none as it takes bytes: these nodes listen, and the others are still.
+use Rattle.std.proofs.Common.{◌≡◌, ℕ, Bool, true, false, ◌&&◌, List, [], ◌∷◌, length, suc, refl, sym, ap, ◌∙◌, subst}
+use Rattle.std.specs.Prelude.{Option, Some, None}
+use Rattle.std.specs.List.{AllByRecursion}
+use Rattle.serial_link.specs.State.{turn_ticked}
+use Rattle.chip_sim.specs.Nodes.{is_marked}
+use Rattle.host_requests.specs.Events.{RequestsEvent, end_at, task_begun}
+use Rattle.host_requests.specs.Events.RequestsEvent.{Pushes, PushesInterview, PushesProbe, BeginsAbort, BeginsPrefix, BeginsAttempt, IsSent, Fails, Responds, CallsBack, Updates, Ticks, Forgets}
+use Rattle.host_requests.specs.Next.{next_from}
+use Rattle.host_requests.specs.State.{RequestsState}
+use Rattle.host_requests.specs.declared.end.End.{End}
+use Rattle.host_requests.specs.declared.end.How.{How}
+use Rattle.host_requests.specs.declared.end.How.TheVariants.{LinkFailed}
+use Rattle.host_requests.specs.declared.next.Next.{Next}
+use Rattle.host_requests.specs.declared.next.Next.TheVariants as next
+use Rattle.host_requests.specs.declared.task.Purpose.{Purpose}
+use Rattle.host_requests.specs.declared.task.Purpose.TheVariants.{Housekeeping, Attempt, Abort}
+use Rattle.host_requests.specs.declared.task.Task.{Task}
+use Rattle.host_requests.specs.declared.task.Task.TheVariants.{NoMore}
+use Rattle.host_requests.specs.declared.under_way.UnderWay.{UnderWay}
+use Rattle.host_node.specs.Events.NodeEvent.{Ticks as node_ticks}
+use Rattle.host_node.specs.Search.{first_wanting}
+use Rattle.host_node.specs.State.{NodeState, is_false, wants_no_more}
+use Rattle.host_node.specs.Steps.{after_attempt_end, attempt_end, tick_end}
+use Rattle.host_node.specs.declared.attempt.AttemptEnd.{AttemptEnd}
+use Rattle.host_node.specs.declared.attempt.AttemptEnd.TheVariants.{NoneRan, Again, Unanswered}
+use Rattle.host_node.specs.declared.attempt.Moment.{Moment}
+use Rattle.host_model.specs.After.{after, failing_if, finishing, gives_up, holding, is_held, line_ticked, node_does, requests_do}
+use Rattle.host_model.specs.Did.{after_all}
+use Rattle.host_model.specs.Ends.{attempt_ended, PartEnd, Good, Passed_over, Bad, after_end, after_end_if, after_part, after_task, part_end}
+use Rattle.host_model.specs.Events.{HostEvent, Accepts, Queues, Queues_interview, Queues_probe, Requests_do, Interviews, Interview_unkept, Finishes, Offers, Gives, Resends, Line_ticks, Node_ticks, Queues_no_more, Submits_front}
+use Rattle.host_model.specs.Sessions.{open_command}
+use Rattle.host_model.specs.State.{HostState, node_of, with_node}
+use Rattle.host_node.proofs.Searches.{what_is_least}
+use Rattle.host_node.specs.TableState.{node_of as node_among}
+use Rattle.host_model.proofs.Submitted.{SubmittedAre, next_is}
+use Rattle.outside_model.specs.Events.{OuterEvent, Begins_line, Begins_tick, Arrives, Gives as outer_gives, Device_ticks, Chip_ticks, Chip_takes}
+use Rattle.serial_frame.specs.Stream.{Rest}
+use Rattle.serial_frame.specs.declared.item.Item.{Item}
+use Rattle.proof_answered.specs.proof_calm.Tied.{All, IsNodeTick, Nodes, Request, TickLeft, TieAt}
+use Rattle.host_node.specs.declared.attempt.Moment.TheVariants.{BeforeItsTick}
+use Rattle.world_model.specs.Events.{Event, Outside_does, Host_does, Host_takes, Decoder_ticks, Refuses, Shows_values, happens}
+use Rattle.world_model.specs.State.{Machine}
+use Rattle.proof_answered.specs.proof_calm.Resting.{IsEffect, LineAt}
+use Rattle.proof_answered.specs.proof_calm.proof_work.proof_walk.Phases.{Phase, Said_line, Doing, To_tick, Arriving, Giving, Ticking_devices, Ticking_chip, Ticking_decoder, Ticking_host, Sleeping, Submitting, Moving, Moved, Goes}
+use Rattle.proof_answered.specs.Workers.{KnowsWorkers}
+use Rattle.proof_in_time.specs.InHand.{AllServe, AsksNoTask, HearsNoTask, QueuesNone}
+
+-- ---- an event of the host
+
+abbrev pub queue_of : HostState → List Task
+queue_of h = h.requests.queue
+
+next_queue : (s : RequestsState) (step : UnderWay → Next) (u : Option UnderWay) → (next_from s step u).queue ≡ s.queue
+next_queue s step None = refl
+next_queue s step (Some u) = by (step u)
+  where
+    by : (n : Next) → (next_from s (λ (w : UnderWay). n) (Some u)).queue ≡ s.queue
+    by (next.GoesOn progress) = refl
+    by (next.Ends how) = refl
+
+request_queue : (h : HostState) (event : RequestsEvent) → AsksNoTask event → queue_of h ≡ [] → queue_of (requests_do h event) ≡ []
+request_queue h (Pushes task) none empty = absurd none
+request_queue h (PushesInterview n) none empty = absurd none
+request_queue h PushesProbe none empty = absurd none
+request_queue h BeginsAbort none empty = empty
+request_queue h BeginsPrefix none empty = ap (λ (tasks : List Task). (task_begun h.requests tasks).queue) empty ∙ empty
+request_queue h (BeginsAttempt n more payload) none empty = empty
+request_queue h IsSent none empty = next_queue h.requests _ h.requests.under_way ∙ empty
+request_queue h Fails none empty = next_queue h.requests (λ (u : UnderWay). next.Ends LinkFailed) h.requests.under_way ∙ empty
+request_queue h (Responds response) none empty = next_queue h.requests _ h.requests.under_way ∙ empty
+request_queue h (CallsBack id status) none empty = next_queue h.requests _ h.requests.under_way ∙ empty
+request_queue h (Updates update) none empty = next_queue h.requests _ h.requests.under_way ∙ empty
+request_queue h Ticks none empty = next_queue h.requests _ h.requests.under_way ∙ empty
+request_queue h Forgets none empty = refl
+
+ended_queue : (h : HostState) (end : AttemptEnd) (command : Option ℕ) → queue_of (attempt_ended h end command) ≡ queue_of h
+ended_queue h NoneRan command = refl
+ended_queue h Again command = refl
+ended_queue h (Unanswered fell) None = refl
+ended_queue h (Unanswered fell) (Some command) = refl
+
+part_queue : (h : HostState) (n : ℕ) (end : PartEnd) (moment : Moment) → queue_of (after_part h n end moment) ≡ queue_of h
+part_queue h n Good moment = refl
+part_queue h n Passed_over moment = refl
+part_queue h n Bad moment = ended_queue (with_node h n (after_attempt_end (node_of h n) moment)) (attempt_end (node_of h n)) (open_command (node_of h n))
+
+task_queue : (h : HostState) (task : Task) → queue_of (after_task h task) ≡ queue_of h
+task_queue h (NoMore n) = refl
+task_queue h task = refl
+
+end_queue : (h : HostState) (purpose : Purpose) (how : How) (moment : Moment) → queue_of (after_end h (record { purpose = purpose; how = how }) moment) ≡ queue_of h
+end_queue h (Attempt n more payload) how moment = part_queue h n (part_end more how) moment
+end_queue h (Housekeeping task) how moment = task_queue h task
+end_queue h Abort how moment = refl
+
+end_if_queue : (h : HostState) (end : Option End) (moment : Moment) → queue_of (after_end_if h end moment) ≡ queue_of h
+end_if_queue h None moment = refl
+end_if_queue h (Some end) moment = end_queue h end.purpose end.how moment
+
+holding_queue : (h : HostState) (n : ℕ) (held : Bool) → queue_of (holding h n held) ≡ queue_of h
+holding_queue h n true = refl
+holding_queue h n false = refl
+
+failing_queue : (b : Bool) (h : HostState) → queue_of h ≡ [] → queue_of (failing_if b h) ≡ []
+failing_queue true h empty = end_if_queue (requests_do h Fails) (end_at h.requests Fails) BeforeItsTick ∙ request_queue h Fails tt empty
+failing_queue false h empty = empty
+
+pub event_queue : (h : HostState) (event : HostEvent) → QueuesNone event → queue_of h ≡ [] → queue_of (after h event) ≡ []
+event_queue h (Queues task) none empty = absurd none
+event_queue h (Queues_interview n) none empty = absurd none
+event_queue h Queues_probe none empty = absurd none
+event_queue h (Requests_do event moment) none empty = end_if_queue (requests_do h event) (end_at h.requests event) moment ∙ request_queue h event none empty
+event_queue h (Interviews n listens classes update) none empty = request_queue h (Updates update) tt empty
+event_queue h (Interview_unkept n update) none empty = request_queue h (Updates update) tt empty
+event_queue h (Finishes n session id command status wake) none empty = holding_queue (finishing h n id command status) n (is_held h n wake) ∙ empty
+event_queue h (Offers n) none empty = absurd none
+event_queue h (Gives n drawn) none empty = absurd none
+event_queue h (Resends n payload) none empty = absurd none
+event_queue h Line_ticks none empty = failing_queue (gives_up h.side.turn (turn_ticked h.side.turn)) (line_ticked h) empty
+event_queue h (Node_ticks n) none empty = ended_queue (node_does h n node_ticks) (tick_end (node_of h n)) (open_command (node_of h n)) ∙ empty
+event_queue h (Queues_no_more n) none empty = absurd none
+event_queue h Submits_front none empty = request_queue h BeginsPrefix tt empty
+event_queue h event none empty = empty
+
+events_queue : (h : HostState) (events : List HostEvent) → AllByRecursion QueuesNone events → queue_of h ≡ [] → queue_of (after_all h events) ≡ []
+events_queue h [] none empty = empty
+events_queue h (event ∷ events) none empty = events_queue (after h event) events none.1 (event_queue h event none.0 empty)
+
+-- ---- none is to be told that there is no more for it
+
+wants : (nodes : List NodeState) (n : ℕ) → first_wanting nodes ≡ Some n → wants_no_more (node_among nodes n) ≡ true
+wants nodes n is = (what_is_least (λ (node : ℕ). wants_no_more (node_among nodes node)) 0 n is).is_one
+
+wants_parts : (x : NodeState) (awake listens : Bool) → wants_no_more (record x { awake = awake; listens = listens }) ≡ true → (awake ≡ true) × (listens ≡ false)
+wants_parts x true false is = (refl, refl)
+wants_parts x true true is = absurd (let wrong : false ≡ true = is in cc)
+wants_parts x false listens is = absurd (let wrong : false ≡ true = is in cc)
+
+none_wants : (these : List Bool) (h : HostState) (n : ℕ) → AllServe these h → KnowsWorkers these h → first_wanting h.nodes ≡ Some n → ⊥
+none_wants these h n serves knows is = by (is_marked these n) refl
+  where
+    parts : ((node_of h n).awake ≡ true) × ((node_of h n).listens ≡ false)
+    parts = wants_parts (node_of h n) (node_of h n).awake (node_of h n).listens (wants h.nodes n is)
+
+    by : (b : Bool) → is_marked these n ≡ b → ⊥
+    by true marked = absurd (let wrong : true ≡ false = sym (serves.each n marked).listens ∙ parts.1 in cc)
+    by false other =
+        let rests = (knows.others n other).rests in
+        absurd (let wrong : true ≡ false = sym (ap (λ (a : Bool). a && is_false (node_of h n).listens) parts.0 ∙ ap is_false parts.1) ∙ rests in cc)
+
+-- ---- from phase to phase
+
+abbrev Empty : Machine → Type 0
+Empty m = queue_of m.host.state ≡ []
+
+outer_empty : (m : Machine) (event : OuterEvent) → Empty m → Empty (happens m (Outside_does event))
+unfolding happens
+outer_empty m event empty = empty
+
+does_empty : (m : Machine) (event : HostEvent) → QueuesNone event → Empty m → Empty (happens m (Host_does event))
+unfolding happens
+does_empty m event none empty = event_queue m.host.state event none empty
+
+takes_empty : (m : Machine) (count : ℕ) (rest : Rest) (items : List Item) (events : List HostEvent) → AllByRecursion QueuesNone events → Empty m → Empty (happens m (Host_takes count rest items events))
+unfolding happens
+takes_empty m count rest items events none empty = events_queue m.host.state events none empty
+
+decoder_empty : (m : Machine) → Empty m → Empty (happens m Decoder_ticks)
+unfolding happens
+decoder_empty m empty = empty
+
+effect_empty : (m : Machine) (event : Event) → IsEffect event → Empty m → Empty (happens m event)
+unfolding happens
+effect_empty m (Outside_does event) is empty = empty
+effect_empty m (Host_does (Accepts order carriage)) is empty = empty
+effect_empty m (Host_does event) is empty = absurd is
+effect_empty m (Refuses line refusal) is empty = empty
+effect_empty m (Shows_values node) is empty = empty
+effect_empty m event is empty = absurd is
+
+empty_as : (m : Machine) (event is : Event) → event ≡ is → Empty (happens m is) → Empty (happens m event)
+empty_as m event is same empty = subst (λ (e : Event). Empty (happens m e)) (sym same) empty
+
+node_tick : (event : HostEvent) → IsNodeTick event → QueuesNone event
+node_tick (Node_ticks n) is = tt
+node_tick event is = absurd is
+
+tick_none : (counted : Bool) (first : HostEvent) (events : List HostEvent) → TickLeft counted (first ∷ events) → QueuesNone first
+tick_none counted first events (All nodes are is none) = let one : first ≡ Line_ticks = cc in subst QueuesNone (sym one) tt
+tick_none counted first events (Request nodes are is none) = let one : first ≡ Requests_do Ticks BeforeItsTick = cc in subst QueuesNone (sym one) tt
+tick_none counted first events (Nodes nodes done) = node_tick first nodes.0
+
+submitted_none : SubmittedAre QueuesNone
+submitted_none = record { abort = tt; front = tt; starts = λ n plan more payload. tt; text = λ n payload. tt; segment = λ n more payload. tt; begins = λ n session command. tt; unkept = λ n. tt }
+
+pub queue_on : (these : List Bool) (here next : Phase) (m : Machine) (event : Event) → Goes here m event next → LineAt here m → TieAt here m → HearsNoTask m event → AllServe these m.host.state → KnowsWorkers these m.host.state → Empty m → Empty (happens m event)
+queue_on these (Said_line line) next m event (is, to) at tie hears serves knows empty = empty_as m event _ is (outer_empty m Begins_line empty)
+queue_on these (Doing line (first ∷ left)) next m event (is, to) at tie hears serves knows empty = empty_as m event first is (effect_empty m first at.0.0 empty)
+queue_on these (To_tick (suc ticks)) next m event (is, to) at tie hears serves knows empty = empty_as m event _ is (outer_empty m Begins_tick empty)
+queue_on these (Arriving (suc frames) ticks) next m event (drawn, route, is, to) at tie hears serves knows empty = empty_as m event _ is (outer_empty m (Arrives drawn route) empty)
+queue_on these (Giving (suc results) ticks) next m event (route, is, to) at tie hears serves knows empty = empty_as m event _ is (outer_empty m (outer_gives route) empty)
+queue_on these (Ticking_devices place (suc count) ticks) next m event (drawn, route, is, to) at tie hears serves knows empty = empty_as m event _ is (outer_empty m (Device_ticks place drawn route) empty)
+queue_on these (Ticking_chip ticks) next m event (is, to) at tie hears serves knows empty = empty_as m event _ is (outer_empty m Chip_ticks empty)
+queue_on these (Ticking_decoder ticks) next m event (is, to) at tie hears serves knows empty = empty_as m event _ is (decoder_empty m empty)
+queue_on these (Ticking_host (first ∷ events) ticks) next m event (is, to) at tie hears serves knows empty = empty_as m event _ is (does_empty m first (tick_none tie.counted first events tie.left) empty)
+queue_on these (Sleeping passes ticks) next m event (n, first, is, to) at tie hears serves knows empty = absurd (none_wants these m.host.state n serves knows first)
+queue_on these (Submitting passes ticks) next m event (asked, next_so, is, to) at tie hears serves knows empty = empty_as m event _ is (does_empty m asked (next_is QueuesNone submitted_none m.host.state asked next_so) empty)
+queue_on these (Moving passes ticks) next m event (rest, ways, is, to) at tie hears serves knows empty = empty_as m event _ is (outer_empty m (Chip_takes (length m.outside.outer.to_chip.bytes) rest ways) empty)
+queue_on these (Moved b passes ticks) next m event (rest, items, events, is, to) at tie hears serves knows empty =
+    empty_as m event _ is (takes_empty m (length m.outside.outer.to_host.bytes) rest items events (subst (HearsNoTask m) is hears) empty)
+queue_on these here next m event goes at tie hears serves knows empty = absurd goes

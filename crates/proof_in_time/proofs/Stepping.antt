@@ -1,0 +1,121 @@
+-- The device of a node is in step with the host at each event of lines, and the orders for it are for end points that have numbers on the wire.
+use Rattle.std.proofs.Common.{◌≡◌, ◌≤◌, ◌<◌, ℕ, ◌+◌, nat_lt, inl, inr, Bool, true, false, List, [], ◌∷◌, length, refl, sym, ap, ◌∙◌, subst, arith}
+use Rattle.std.proofs.lemmas.Bool.Decides.{nat_tests}
+use Rattle.std.specs.Prelude.{◌⊎◌}
+use Rattle.std.specs.List.{AllByRecursion}
+use Rattle.supervision.specs.Host.{begun_of}
+use Rattle.supervision.specs.Device.{Taken}
+use Rattle.serial_frame.specs.declared.item.Item.{Item}
+use Rattle.device_kinds.specs.Kind.{lists}
+use Rattle.device_kinds.specs.declared.kind.Kind.{Kind}
+use Rattle.device_sim.specs.State.{State}
+use Rattle.host_model.specs.Events.{HostEvent, Accepts}
+use Rattle.host_model.specs.Facts.{HostFacts}
+use Rattle.host_model.specs.State.{node_of}
+use Rattle.world_model.specs.Did.{AllAlong, MayAll}
+use Rattle.world_model.specs.Events.{Event, Host_does, happens, May}
+use Rattle.world_model.specs.State.{Machine}
+use Rattle.proof_course.specs.Sessions.{Course, first_course}
+use Rattle.proof_spoken.specs.Restarts.{AllKeepWell, IsHeld, KeepsWell, StartsWell}
+use Rattle.proof_spoken.specs.proof_device.GoingOn.{AreSame, GoesOn, GoOn, IsSame}
+use Rattle.proof_spoken.specs.proof_serial.Line.{AllAtRest, AllWriteWell, IsAtRest, WritesWell}
+use Rattle.proof_spoken.proofs.DevicePlaces.{go_then}
+use Rattle.proof_course_plain.specs.Host.{AsksPlainly}
+use Rattle.proof_course_plain.specs.Meaning.{Asked}
+use Rattle.proof_course_plain.specs.Mesh.{HasDevice}
+use Rattle.proof_course_plain.specs.OnAir.{AlwaysFew, EventStaysFew}
+use Rattle.proof_course_plain.specs.World.{EndsByHearing, IsPlainly as IsAskedPlainly, WorldFollows, WorldGoes}
+use Rattle.proof_course_plain.proofs.Replies.{one_place, one_stands}
+use Rattle.proof_answered.proofs.Listeners.{same_place, stands_now}
+use Rattle.proof_in_time.specs.Answering.{IsDone, IsInStep, Last, Next}
+use Rattle.proof_in_time.specs.InStep.{GoesInStep, HasInStep, IsAtOnce, IsNear, IsNearAt}
+use Rattle.proof_in_time.proofs.AtOnce.{events_at_once}
+
+-- ---- the number of sessions
+
+next_or_last : (taken begun : ℕ) → taken ≤ begun → begun ≤ taken + 1 → (begun ≡ taken + 1) ⊎ (begun ≡ taken)
+next_or_last taken begun ahead after = by (nat_lt taken begun) refl
+  where
+    by : (b : Bool) → nat_lt taken begun ≡ b → (begun ≡ taken + 1) ⊎ (begun ≡ taken)
+    by true e = let less : taken < begun = grind (arith, nat_tests, e) in inl (omega (arith, less, after))
+    by false e = let most : begun ≤ taken = grind (arith, nat_tests, e) in inr (omega (arith, most, ahead))
+
+steps_in : (device : State) (begun : ℕ) → device.sessions.taken ≤ begun → begun ≤ device.sessions.taken + 1 → 1 ≤ begun → IsDone device → IsInStep begun device
+steps_in device begun ahead after some done = by (next_or_last device.sessions.taken begun ahead after)
+  where
+    by : (begun ≡ device.sessions.taken + 1) ⊎ (begun ≡ device.sessions.taken) → IsInStep begun device
+    by (inl next) = Next next done
+    by (inr last) = Last last some (inl done)
+
+-- ---- orders
+
+near : (n : ℕ) (event : HostEvent) → AsksPlainly n event → IsNear n event
+near n (Accepts order carriage) plain = λ own. (plain own).1
+near n event plain = tt
+
+near_at : (n : ℕ) (event : Event) → IsAskedPlainly n event → IsNearAt n event
+near_at n (Host_does event) plain = near n event plain
+near_at n event plain = tt
+
+-- ---- over events
+
+-- what is proved of the course of a node, of records and of devices
+pub record Laws : Type 0 where
+  pub event : (n : ℕ) (orders : List Asked) (c : Course) (up down : List Item) (m : Machine) (event : Event) → n < 233 → WorldFollows n orders c up down m → IsHeld m.host.state m.records → May m event → IsAtRest m event → WritesWell m event →
+      EventStaysFew m event → KeepsWell m event → IsAskedPlainly n event → EndsByHearing n event → WorldGoes n c (happens m event)
+  pub held : (m : Machine) (event : Event) → HostFacts m.host.state → IsHeld m.host.state m.records → May m event → KeepsWell m event → StartsWell m event × IsHeld (happens m event).host.state (happens m event).records
+  pub go : (m : Machine) (event : Event) → GoOn m.outside.devices (happens m event).outside.devices
+  pub same : (olds news : List State) → GoOn olds news → AreSame olds news
+
+-- a device without levels is at no work
+record Rests (device : State) : Type 0 where
+  pub at_once : lists device.kind 0x26 ≡ false
+  pub is_done : IsDone device
+
+module _ (laws : Laws) (n : ℕ) (within : n < 233) (devices : List State) (has : HasDevice n first_course devices) (none : lists has.device.kind 0x26 ≡ false) (once : IsAtOnce has.device) where
+  -- the device of the course, where devices went on to here
+  now_is : (c : Course) (m : Machine) (now : HasDevice n c m.outside.devices) → GoOn devices m.outside.devices → Rests now.device
+  now_is c m now go =
+      let same : AreSame devices m.outside.devices = laws.same devices m.outside.devices go in
+      let place : has.place ≡ now.place = one_place n m.outside.devices has.place now.place (same_place n devices m.outside.devices same ∙ has.first) now.first in
+      let kept = stands_now IsSame devices m.outside.devices same has.place has.device has.stands in
+      let went = stands_now GoesOn devices m.outside.devices go has.place has.device has.stands in
+      let is_kept : kept.0 ≡ now.device = one_stands m.outside.devices has.place now.place kept.0 now.device kept.1.0 now.stands place in
+      let is_now : went.0 ≡ now.device = one_stands m.outside.devices has.place now.place went.0 now.device went.1.0 now.stands place in
+      let kind : has.device.kind ≡ now.device.kind = sym (ap (λ (d : State). d.kind) (sym is_kept) ∙ kept.1.1.kind) in
+      let at_once : lists now.device.kind 0x26 ≡ false = subst (λ (k : Kind). lists k 0x26 ≡ false) kind none in
+      let still : IsAtOnce now.device = subst IsAtOnce is_now (subst IsAtOnce (sym went.1.1.1) (events_at_once has.device went.1.1.0 once)) in
+      let no_work : now.device.work_left ≡ 0 = still at_once in
+      record { at_once = at_once; is_done = record { over = now.at.ended.at_rest no_work; no_work = no_work } }
+
+  pub follows_in_step : (orders : List Asked) (c : Course) (up down : List Item) (m : Machine) → WorldFollows n orders c up down m → GoOn devices m.outside.devices → HasInStep n m
+  follows_in_step orders c up down m follows go =
+      let now : HasDevice n c m.outside.devices = follows.outside.mesh.device in
+      let is : Rests now.device = now_is c m now go in
+      let begun : begun_of (node_of m.host.state n).book ≡ begun_of c.host = ap (λ (l : List ℕ). length l) follows.host.node_as.0 in
+      let taken : now.device.sessions.taken ≡ c.device.taken = ap (λ (t : Taken). t.taken) now.at.sessions in
+      let ahead = follows.course.agree.not_ahead in
+      let after = follows.course.agree.one_after in
+      record {
+        place = now.place;
+        device = now.device;
+        first = now.first;
+        stands = now.stands;
+        hears = λ some. record {
+          openly = now.at.is_open;
+          at_once = is.at_once;
+          step = steps_in now.device (begun_of (node_of m.host.state n).book) (omega (arith, begun, taken, ahead)) (omega (arith, begun, taken, after)) some is.is_done;
+          is_done = is.is_done;
+        };
+      }
+
+  pub along : (orders : List Asked) (c : Course) (up down : List Item) (m : Machine) (events : List Event) → WorldFollows n orders c up down m → IsHeld m.host.state m.records → MayAll m events → AllAtRest m events → AllWriteWell m events
+      → AlwaysFew m events → AllKeepWell m events → AllByRecursion (IsAskedPlainly n) events → AllByRecursion (EndsByHearing n) events → GoOn devices m.outside.devices → AllAlong (GoesInStep n) m events
+  along orders c up down m [] follows held may rests well few keeps plain ends go = tt
+  along orders c up down m (event ∷ events) follows held may rests well few keeps plain ends go =
+      let one : WorldGoes n c (happens m event) = laws.event n orders c up down m event within follows held may.0 rests.0 well.0 few.1 keeps.0 plain.0 ends.0 in
+      let next : StartsWell m event × IsHeld (happens m event).host.state (happens m event).records = laws.held m event follows.facts held may.0 keeps.0 in (
+        record { step = follows_in_step orders c up down m follows go; near = near_at n event plain.0 },
+        along one.orders one.later one.up one.down (happens m event) events one.follows next.1 may.1 rests.1 well.1 few.2 keeps.1 plain.1 ends.1
+            (go_then devices m.outside.devices (happens m event).outside.devices go (laws.go m event)),
+      )

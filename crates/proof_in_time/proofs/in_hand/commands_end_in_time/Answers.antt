@@ -1,0 +1,161 @@
+-- Over the first lines the host may serve each of these nodes; from then on, one walk counts down the ticks of a command.
+use Rattle.std.proofs.Common.{◌≡◌, ◌≤◌, ◌<◌, ℕ, suc, ◌+◌, ◌-◌, Bool, true, false, List, [], ◌++◌, length, Some, sym, ap, ◌∙◌, subst, arith}
+use Rattle.chip_sim.specs.Nodes.{is_marked}
+use Rattle.host_node.specs.Search.{next_of}
+use Rattle.host_model.specs.After.{after}
+use Rattle.host_model.specs.Events.{HostEvent}
+use Rattle.host_model.specs.Facts.{HostFacts}
+use Rattle.host_model.specs.May.{May as MayHost}
+use Rattle.host_model.specs.State.{Command, HostState, command_at, node_of}
+use Rattle.world_model.specs.Did.{AllAlong}
+use Rattle.world_model.specs.Events.{Event}
+use Rattle.world_model.specs.State.{Machine, first_machine}
+use Rattle.world_lines.specs.Spoken.{Spoken, after_all, transcript_of}
+use Rattle.world_lines.specs.Done.{AreDone, events_of}
+use Rattle.world_lines.specs.Whole.{AreWhole}
+use Rattle.proof_course_plain.specs.proof_host.Tables.{taken_at, taken_by}
+use Rattle.proof_answered.specs.proof_calm.proof_work.proof_walk.Walk.{WalkWhere}
+use Rattle.proof_answered.specs.Workers.{KnowsWorkers}
+use Rattle.proof_in_time.proofs.Accepted.{KnowAccepted, accepted_walk, none_yet, soon_of}
+use Rattle.proof_spoken.proofs.SpokenLines.{all_after}
+use Rattle.proof_answered.proofs.Where.{along_parts, where_whole}
+use Rattle.proof_answered.specs.proof_calm.proof_work.Phases.{AsksNothing}
+use Rattle.proof_answered.proofs.proof_traffic_Parts.{Airs}
+use Rattle.proof_answered.proofs.HeardCalls.{rests_heard}
+use Rattle.proof_answered.proofs.Walking.{begins_known}
+use Rattle.proof_answered.proofs.Outwards.{marked_within}
+use Rattle.proof_answered.specs.proof_calm.proof_work.proof_walk.Phases.{Between}
+use Rattle.proof_in_time.specs.Coming.{IsKeptFor, IsReadyFor, KnowPlainly}
+use Rattle.proof_in_time.specs.InHand.{AllServe, HasEnded, HearsNoTask, IsInHand, ticks_begun, ticks_of_all}
+use Rattle.proof_in_time.specs.InStep.{IsPlainly}
+use Rattle.proof_in_time.proofs.Bounded.{Devices}
+use Rattle.proof_in_time.proofs.Lasting.{node_within}
+use Rattle.proof_in_time.proofs.Nearing.{HasAll, KnowSoon, Soon, served_walk, soon_past, soon_then, soon_walk}
+use Rattle.proof_in_time.proofs.Spoken.{after_both, both_along, done_later, each_along, events_both, told_both, whole_parts}
+use Rattle.proof_in_time.proofs.in_hand.commands_end_in_time.Goals as goal
+
+below : (these : List Bool) → length these ≡ 233 → (n : ℕ) → is_marked these n ≡ true → n < 233
+below these many n marked = let less = marked_within these n marked in omega (arith, less, many)
+
+along_later : (Has : Machine → Event → Type 0) (m : Machine) (before lines : List Spoken) → AllAlong Has m (events_of (before ++ lines)) → AllAlong Has (after_all m before) (events_of lines)
+along_later Has m before lines all =
+    subst (λ (x : Machine). AllAlong Has x (events_of lines)) (sym (all_after m before))
+    (along_parts Has m (events_of before) (events_of lines) (subst (λ (es : List Event). AllAlong Has m es) (events_both before lines) all)).1
+
+none_left : (enough begun : ℕ) → enough ≤ begun → enough - begun ≡ 0
+none_left enough begun more = omega (arith, more)
+
+as_many : (begun more : ℕ) → more ≤ (begun + more) - begun
+as_many begun more = omega arith
+
+-- lines of a stretch, and those behind: at the first moment it is known what waits, and that these nodes are served; in the end the command has ended
+module _ (airs : Airs) (devices_of : Devices) (facts_kept : (h : HostState) (event : HostEvent) → HostFacts h → MayHost h event → HostFacts (after h event)) (these : List Bool) (many : length these ≡ 233) (none : is_marked these 0 ≡ false)
+    (workers : (h : HostState) (k : ℕ) → KnowsWorkers these h → next_of h.nodes h.served ≡ Some k → is_marked these k ≡ true) (plainly : WalkWhere (IsPlainly these) AsksNothing (KnowPlainly these)) (start : Machine) (before first lines : List Spoken)
+    (are : AreDone start (before ++ (first ++ lines))) (whole : AreWhole (after_all start before) (first ++ lines)) (all : AllAlong (IsPlainly these) start (events_of (before ++ (first ++ lines))))
+    (kept : IsKeptFor these (transcript_of (after_all start before) (first ++ lines))) (ready : IsReadyFor these (after_all start before)) (serves : AllServe these (after_all start before).host.state)
+    (hears : AllAlong HearsNoTask (after_all start before) (events_of (first ++ lines))) where
+  abbrev ready_at : Machine
+  ready_at = after_all start before
+
+  abbrev then_at : Machine
+  then_at = after_all ready_at first
+
+  done : AreDone ready_at (first ++ lines)
+  done = done_later start before (first ++ lines) are
+
+  parts : AreDone ready_at first × AreWhole ready_at first × AreWhole then_at lines
+  parts = whole_parts ready_at first lines done whole
+
+  of_stretch : AllAlong (HasAll these) ready_at (events_of (first ++ lines))
+  of_stretch = both_along (IsPlainly these) HearsNoTask ready_at (events_of (first ++ lines)) (along_later (IsPlainly these) start before (first ++ lines) all) hears
+
+  of_first : AllAlong (HasAll these) ready_at (events_of first)
+  of_first = (along_parts (HasAll these) ready_at (events_of first) (events_of lines) (subst (λ (es : List Event). AllAlong (HasAll these) ready_at es) (events_both first lines) of_stretch)).0
+
+  known : KnowAccepted these (length ready_at.host.state.commands) Between (transcript_of ready_at first) then_at
+  known =
+      where_whole (HasAll these) AsksNothing (KnowAccepted these (length ready_at.host.state.commands))
+      (accepted_walk airs these many none facts_kept (length ready_at.host.state.commands) (served_walk airs these many none plainly)) [] ready_at first parts.0 parts.1 of_first (
+        (
+          (((λ is. (((λ stretched. ((begins_known ready_at ready.tied ready.few, rests_heard ready_at ready.tied.rests), ready.listen)), λ stretched. ready.knows), record { lines = tt; speak = ready.speak })), λ is. ready.waiting), λ is. ready.first),
+          λ is. serves,
+        ),
+        λ is n marked. none_yet n ready_at.host.state,
+      )
+
+  there : after_all start (before ++ first) ≡ then_at
+  there = after_both start before first
+
+  ended : (n command most : ℕ) → is_marked these n ≡ true → (IsKeptFor these (transcript_of ready_at first) → Soon these n command (most - ticks_begun then_at) Between then_at)
+      → most ≤ ticks_begun (after_all start (before ++ (first ++ lines))) → HasEnded command (node_of (after_all start (before ++ (first ++ lines))).host.state n).book
+  ended n command most marked soon enough =
+      let node = node_within these many none n marked in
+      let later : Machine = after_all then_at lines in
+      let told : IsKeptFor these (transcript_of ready_at first ++ transcript_of then_at lines) = subst (IsKeptFor these) (told_both ready_at first lines) kept in
+      let known_then = where_whole (HasAll these) AsksNothing (KnowSoon these n command most) (soon_walk airs these many devices_of facts_kept workers n marked node command none most (served_walk airs these many none plainly)) (transcript_of ready_at first) then_at lines
+      (done_later ready_at first lines done) parts.2 (along_later (HasAll these) ready_at first lines of_stretch)
+      (known.0, soon) in
+      let last : after_all start (before ++ (first ++ lines)) ≡ later = after_both start before (first ++ lines) ∙ after_both ready_at first lines in
+      let over : most ≤ ticks_begun later = subst (λ (x : Machine). most ≤ ticks_begun x) last enough in
+      let at_last : Soon these n command 0 Between later = subst (λ (ticks : ℕ). Soon these n command ticks Between later) (none_left most (ticks_begun later) over) (known_then.1 told) in
+      subst (λ (x : Machine). HasEnded command (node_of x.host.state n).book) (sym last) (soon_past these n command later at_last)
+
+  was_in_hand : (n command more : ℕ) → is_marked these n ≡ true → IsInHand command more (node_of (after_all start (before ++ first)).host.state n)
+      → ticks_begun (after_all start (before ++ first)) + ticks_of_all these (suc more) ≤ ticks_begun (after_all start (before ++ (first ++ lines))) → HasEnded command (node_of (after_all start (before ++ (first ++ lines))).host.state n).book
+  was_in_hand n command more marked hand enough =
+      let most : ℕ = ticks_begun then_at + ticks_of_all these (suc more) in
+      let in_hand : IsInHand command more (node_of then_at.host.state n) = subst (λ (x : Machine). IsInHand command more (node_of x.host.state n)) there hand in
+      ended n command most marked
+      (λ is. soon_then these n command more (most - ticks_begun then_at) (transcript_of ready_at first) then_at marked (node_within these many none n marked) known.0 in_hand (as_many (ticks_begun then_at) (ticks_of_all these (suc more))) is)
+      (subst (λ (x : Machine). ticks_begun x + ticks_of_all these (suc more) ≤ ticks_begun (after_all start (before ++ (first ++ lines)))) there enough)
+
+  was_accepted : (n command : ℕ) (found : Command) → is_marked these n ≡ true → command_at (after_all start (before ++ first)).host.state.commands command ≡ Some found → found.order.node ≡ n → length ready_at.host.state.commands + 1 ≤ command
+      → ticks_begun (after_all start (before ++ first)) + ticks_of_all these 18 ≤ ticks_begun (after_all start (before ++ (first ++ lines)))
+      → HasEnded command (node_of (after_all start (before ++ (first ++ lines))).host.state n).book
+  was_accepted n command found marked is for_node since enough =
+      let most : ℕ = ticks_begun then_at + ticks_of_all these 18 in
+      let taken : taken_at then_at.host.state.commands command ≡ Some (record { order = found.order; carriage = found.carriage }) =
+      ap taken_by (subst (λ (x : Machine). command_at x.host.state.commands command ≡ Some found) there is) in
+      ended n command most marked
+      (λ kept_first.
+      soon_of these n command (most - ticks_begun then_at) (record { order = found.order; carriage = found.carriage }) (length ready_at.host.state.commands) (transcript_of ready_at first) then_at marked (node_within these many none n marked) known taken
+      for_node since (as_many (ticks_begun then_at) (ticks_of_all these 18)) kept_first)
+      (subst (λ (x : Machine). ticks_begun x + ticks_of_all these 18 ≤ ticks_begun (after_all start (before ++ (first ++ lines)))) there enough)
+
+pub returns-clause-in_hand : goal.returns-clause-in_hand
+returns-clause-in_hand c = λ these n command more keys devices before first lines many none marked idle plain are whole hears kept ready serves hand enough.
+    let start : Machine = first_machine keys (Some []) devices in
+    was_in_hand airs devices_of c.facts_are_kept.ensures.each these many none (c.nodes_are_served_in_turn.ensures.workers these) (c.waits_never_run_out.ensures.first these many none) start before first lines are whole
+    (each_along these start (events_of (before ++ (first ++ lines)))
+    (λ k of_these. c.nodes_stay_in_step.ensures.along k keys devices (before ++ (first ++ lines)) (below these many k of_these) (plain k of_these) idle are)) kept ready serves hears n command more marked hand enough
+  where
+    airs : Airs
+    airs = record {
+      goes = c.frames_fly_in_order.ensures.goes;
+      next = c.frames_fly_in_order.ensures.next;
+      lands = c.frames_fly_in_order.ensures.lands;
+      count = c.frames_fly_in_order.ensures.count;
+      begins = c.frames_fly_in_order.ensures.begins;
+    }
+
+    devices_of : Devices
+    devices_of = record { heard = c.messages_are_answered.ensures.heard; at_once = c.messages_are_answered.ensures.at_once }
+
+pub returns-clause-accepted : goal.returns-clause-accepted
+returns-clause-accepted c = λ these n command found keys devices before first lines many none marked idle plain are whole hears kept ready serves is for_node since enough.
+    let start : Machine = first_machine keys (Some []) devices in
+    was_accepted airs devices_of c.facts_are_kept.ensures.each these many none (c.nodes_are_served_in_turn.ensures.workers these) (c.waits_never_run_out.ensures.first these many none) start before first lines are whole
+    (each_along these start (events_of (before ++ (first ++ lines)))
+    (λ k of_these. c.nodes_stay_in_step.ensures.along k keys devices (before ++ (first ++ lines)) (below these many k of_these) (plain k of_these) idle are)) kept ready serves hears n command found marked is for_node since enough
+  where
+    airs : Airs
+    airs = record {
+      goes = c.frames_fly_in_order.ensures.goes;
+      next = c.frames_fly_in_order.ensures.next;
+      lands = c.frames_fly_in_order.ensures.lands;
+      count = c.frames_fly_in_order.ensures.count;
+      begins = c.frames_fly_in_order.ensures.begins;
+    }
+
+    devices_of : Devices
+    devices_of = record { heard = c.messages_are_answered.ensures.heard; at_once = c.messages_are_answered.ensures.at_once }

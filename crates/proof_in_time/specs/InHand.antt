@@ -1,0 +1,94 @@
+-- Commands that wait for a node, or whose session is open, are in hand until that session is over (this project's own rule), and within how many ticks it is.
+use Rattle.std.specs.Prelude.{◌≡◌, ◌≢◌, ◌⊎◌, ℕ, zero, suc, ◌+◌, ◌≤◌, Bool, true, false, List, [], ◌∷◌, ◌++◌, length, Some, None}
+use Rattle.supervision.specs.Host.{HostBook, begun_of, command_at, open_session}
+use Rattle.chip_sim.specs.Nodes.{is_marked}
+use Rattle.host_node.specs.State.{NodeState}
+use Rattle.host_node.specs.declared.series.Series.TheVariants.{Idle}
+use Rattle.host_model.specs.State.{HostState, node_of}
+use Rattle.host_requests.specs.Events.{RequestsEvent}
+use Rattle.host_requests.specs.Events.RequestsEvent.{Pushes, PushesInterview, PushesProbe}
+use Rattle.host_model.specs.Events.{HostEvent, Queues, Queues_interview, Queues_probe, Requests_do, Offers, Gives, Resends, Queues_no_more}
+use Rattle.std.specs.List.{AllByRecursion}
+use Rattle.world_model.specs.Events.{Event, Host_takes}
+use Rattle.world_model.specs.State.{Machine}
+use Rattle.proof_answered.specs.Turns.{marked_to}
+
+-- ---- a command of a node
+
+-- it waits, behind so many others
+pub record StandsAt (command place : ℕ) (waiting : List ℕ) : Type 0 where
+  pub before : List ℕ
+  pub behind : List ℕ
+  pub are : waiting ≡ before ++ command ∷ behind
+  pub place_is : length before ≡ place
+
+-- while a session is open, so many are to be over before that of the command begins: it is the one that is open, or waits behind that
+abbrev pub ComesAfter : ℕ → ℕ → ℕ → NodeState → Type 0
+ComesAfter zero command session x = command_at x.book.commands session ≡ Some command
+ComesAfter (suc place) command session x = StandsAt command place x.waiting
+
+-- so many sessions of the node are to be over before that of the command begins; the one that is open has a series that is due or runs
+pub data IsInHand (command more : ℕ) (x : NodeState) : Type 0 where
+  Opened : (session : ℕ) → open_session x.book ≡ Some session → x.series ≢ Idle → ComesAfter more command session x → IsInHand command more x
+  Unopened : open_session x.book ≡ None → StandsAt command more x.waiting → IsInHand command more x
+
+-- the host may serve the node at any time: it listens, and no record of a session of it failed to be kept since its last tick
+pub record MayServe (x : NodeState) : Type 0 where
+  pub listens : x.listens ≡ true
+  pub unblocked : x.blocked ≡ false
+
+-- so it is of each of these nodes, and no task of its own comes before them
+pub record AllServe (these : List Bool) (h : HostState) : Type 0 where
+  pub each : (n : ℕ) → is_marked these n ≡ true → MayServe (node_of h n)
+  pub no_task : h.requests.queue ≡ []
+
+-- a session has its final outcome: the last one, or a later one has begun, which only then does
+abbrev pub IsPast : ℕ → HostBook → Type 0
+IsPast session book = (session + 1 ≤ begun_of book) ⊎ ((begun_of book ≡ session) × (open_session book ≡ None))
+
+-- so it is of the session of the command
+pub record HasEnded (command : ℕ) (book : HostBook) : Type 0 where
+  pub session : ℕ
+  pub was : command_at book.commands session ≡ Some command
+  pub past : IsPast session book
+
+-- ---- ticks
+
+-- those of a session, from the end of the one before it on: one for each of these nodes, whose turn may come before, one until the message is on the air, two
+-- until the report comes, and one more
+abbrev pub ticks_enough : List Bool → ℕ
+ticks_enough these = marked_to these 232 + 4
+
+-- those of so many sessions
+abbrev pub ticks_of_all : List Bool → ℕ → ℕ
+ticks_of_all these zero = 0
+ticks_of_all these (suc sessions) = ticks_enough these + ticks_of_all these sessions
+
+-- how many ticks have begun
+abbrev pub ticks_begun : Machine → ℕ
+ticks_begun m = m.outside.outer.clock
+
+-- ---- what is assumed of events
+
+-- an event of the host's requests, or of the host, by which no task comes to wait
+abbrev pub AsksNoTask : RequestsEvent → Type 0
+AsksNoTask (Pushes task) = ⊥
+AsksNoTask (PushesInterview n) = ⊥
+AsksNoTask PushesProbe = ⊥
+AsksNoTask event = Unit {0}
+
+abbrev pub QueuesNone : HostEvent → Type 0
+QueuesNone (Queues task) = ⊥
+QueuesNone (Queues_interview n) = ⊥
+QueuesNone Queues_probe = ⊥
+QueuesNone (Requests_do event moment) = AsksNoTask event
+QueuesNone (Offers n) = ⊥
+QueuesNone (Gives n drawn) = ⊥
+QueuesNone (Resends n payload) = ⊥
+QueuesNone (Queues_no_more n) = ⊥
+QueuesNone event = Unit {0}
+
+-- what the host is told asks it for no nonce and no segment
+abbrev pub HearsNoTask : Machine → Event → Type 0
+HearsNoTask m (Host_takes count rest items events) = AllByRecursion QueuesNone events
+HearsNoTask m event = Unit {0}

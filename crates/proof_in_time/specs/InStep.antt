@@ -1,0 +1,68 @@
+-- The device of a node in step with the host (this project's own rule): what is assumed of it as it hears a message, and from which devices and orders that follows.
+use Rattle.std.specs.Prelude.{◌≡◌, ℕ, ◌≤◌, Bool, true, false, List, Some, slice_get}
+use Rattle.std.specs.List.{AllByRecursion}
+use Rattle.supervision.specs.Host.{begun_of}
+use Rattle.chip_sim.specs.Nodes.{is_marked}
+use Rattle.mesh_sim.specs.Fates.{place_of}
+use Rattle.device_kinds.specs.Kind.{lists}
+use Rattle.device_sim.specs.State.{State}
+use Rattle.host_model.specs.Events.{HostEvent, Accepts}
+use Rattle.host_model.specs.State.{node_of}
+use Rattle.world_model.specs.Events.{Event, Host_does}
+use Rattle.world_model.specs.State.{Machine}
+use Rattle.proof_course.specs.Sessions.{first_course}
+use Rattle.proof_course_plain.specs.Mesh.{HasDevice}
+use Rattle.proof_course_plain.specs.World.{OrdersPlain}
+use Rattle.proof_messages.specs.Asking.{takes_openly}
+use Rattle.proof_in_time.specs.Answering.{IsDone, IsInStep}
+
+-- ---- a device
+
+-- one without levels is at no work
+abbrev pub IsAtOnce : State → Type 0
+IsAtOnce device = lists device.kind 0x26 ≡ false → device.work_left ≡ 0
+
+-- a device without levels, which takes what is not sealed, is in step with the host, at no work
+pub record HearsInStep (session : ℕ) (device : State) : Type 0 where
+  pub openly : takes_openly device.kind ≡ true
+  pub at_once : lists device.kind 0x26 ≡ false
+  pub step : IsInStep session device
+  pub is_done : IsDone device
+
+-- so is the first device of a node, once the host has begun a session
+pub record HasInStep (n : ℕ) (m : Machine) : Type 0 where
+  pub place : ℕ
+  pub device : State
+  pub first : place_of n m.outside.devices ≡ Some place
+  pub stands : slice_get m.outside.devices place ≡ Some device
+  pub hears : 1 ≤ begun_of (node_of m.host.state n).book → HearsInStep (begun_of (node_of m.host.state n).book) device
+
+-- ---- what is assumed of events
+
+-- an order for the node is for an end point that has a number on the wire
+abbrev pub IsNear : ℕ → HostEvent → Type 0
+IsNear n (Accepts order carriage) = order.node ≡ n → order.end ≤ 127
+IsNear n event = Unit {0}
+
+abbrev pub IsNearAt : ℕ → Event → Type 0
+IsNearAt n (Host_does event) = IsNear n event
+IsNearAt n event = Unit {0}
+
+pub record GoesInStep (n : ℕ) (m : Machine) (event : Event) : Type 0 where
+  pub step : HasInStep n m
+  pub near : IsNearAt n event
+
+-- so it is of each of these nodes
+abbrev pub IsPlainly : List Bool → Machine → Event → Type 0
+IsPlainly these m event = (n : ℕ) → is_marked these n ≡ true → GoesInStep n m event
+
+-- ---- from what that follows
+
+-- the first device of a node is as its maker left it, takes what is not sealed and has no levels; and over these events its orders go unsealed
+pub record IsPlainOver (devices : List State) (events : List Event) (n : ℕ) : Type 0 where
+  pub at_first : HasDevice n first_course devices
+  pub at_once : lists at_first.device.kind 0x26 ≡ false
+  pub orders : AllByRecursion (OrdersPlain n) events
+
+abbrev pub ArePlainOver : List Bool → List State → List Event → Type 0
+ArePlainOver these devices events = (n : ℕ) → is_marked these n ≡ true → IsPlainOver devices events n

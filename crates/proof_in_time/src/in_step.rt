@@ -1,0 +1,39 @@
+//! Devices without levels, in step with the host.
+
+ghost use Rattle.std.specs.Prelude.{◌<◌, List, Some, [], ℕ};
+ghost use Rattle.s0_crypto.specs.declared.key_pair.Keys.{Keys};
+ghost use Rattle.device_sim.specs.Event.{DeviceEvent, device_after};
+ghost use Rattle.device_sim.specs.State.{State};
+ghost use Rattle.world_model.specs.Did.{AllAlong};
+ghost use Rattle.world_model.specs.State.{first_machine};
+ghost use Rattle.world_lines.specs.Spoken.{Spoken};
+ghost use Rattle.world_lines.specs.Done.{AreDone, events_of};
+ghost use Rattle.proof_answered.specs.Few.{AreIdle};
+ghost use Rattle.proof_in_time.specs.InStep.{GoesInStep, IsAtOnce, IsPlainOver};
+
+use proof_course_plain::device_proofs::{devices_go_on, devices_stay_the_same};
+use proof_course_plain::serial::{hosts_write_well, units_are_judged_whole};
+use proof_course_plain::traffic::at_most_two_are_on_the_air;
+use proof_course_plain::worlds::{lines_keep_and_ask_well, restarts_go_on};
+use proof_course_plain::{lines_ask_plainly, lines_have_a_course, worlds_follow_the_course};
+
+/// A device without levels is at no work, whatever happens to it. So over any lines from the first machine on, whatever is lost, repeated or changed and
+/// however often the host starts again: where the first device of a node is one, takes what is not sealed, and the orders for the node go unsealed, at each
+/// event it is at no work and in step with the host: the host's last session of it is the last that it took, or the next one. And each order for the node is
+/// for an end point up to 127.
+pub fn nodes_stay_in_step()
+    ensures at_once { (device : State) (event : DeviceEvent) → IsAtOnce device → IsAtOnce (device_after device event) }
+    ensures along { (n : ℕ) (keys : Keys) (devices : List State) (lines : List Spoken) → n < 233 → IsPlainOver devices (events_of lines) n → AreIdle devices →
+        AreDone (first_machine keys (Some []) devices) lines → AllAlong (GoesInStep n) (first_machine keys (Some []) devices) (events_of lines) }
+{
+    at_most_two_are_on_the_air();
+    devices_go_on();
+    devices_stay_the_same();
+    hosts_write_well();
+    lines_ask_plainly();
+    lines_have_a_course();
+    lines_keep_and_ask_well();
+    restarts_go_on();
+    units_are_judged_whole();
+    worlds_follow_the_course();
+}

@@ -1,0 +1,55 @@
+pub mod Surely
+pub mod Lately
+pub mod Quietly
+pub mod Choosing
+mod Fitted
+mod Grounding
+mod Whole
+mod LeftNodes
+mod TickBooks
+mod TickChosen
+mod Ascending
+mod TickEnds
+mod TickEnded
+mod TickNoted
+mod TickGround
+mod TickNodes
+mod TickRequests
+mod TickLines
+mod TickSteps
+mod Aborts
+mod AsksSealed
+mod Risen
+mod Sendings
+mod Requested
+mod Becoming
+mod Going
+mod Leaving
+mod Onwards
+mod Others
+mod Lines
+mod Begun
+mod Rested
+mod NewlyAsked
+mod NewRequests
+mod StartsAgain
+pub use Rattle.proof_choice.proofs.HostNotes
+pub use Rattle.proof_choice.proofs.Times
+mod Followers
+mod Unopened
+mod Acknowledged
+mod PayloadMiddle
+mod PayloadJudged
+mod PayloadEvent
+mod PayloadOver
+mod PayloadFits
+mod ByAnswers
+mod ByRefusals
+mod EndBooks
+mod EndCourse
+mod EndNotes
+mod EndedBooks
+mod FramesGo
+mod GoneSo
+mod ItemsFit
+mod ItemsGo

@@ -1,0 +1,10 @@
+pub mod Sure
+pub mod Following
+pub mod Behind
+pub mod Ticking
+pub mod Noting
+pub mod Ground
+pub mod Steps
+pub use Rattle.proof_choice.specs as proof_choice
+pub use Rattle.proof_hearing.specs as proof_hearing
+pub use Rattle.proof_following.specs as proof_following

@@ -1,0 +1,46 @@
+//! A host alone notes what happens, and nothing else.
+
+ghost use Rattle.std.specs.Prelude.{◌≡◌, Bool, List, true, false, ℕ};
+ghost use Rattle.std.specs.List.{AllByRecursion};
+ghost use Rattle.zw_text.specs.declared.entry.Entry.{Entry};
+ghost use Rattle.host_heard.specs.declared.told.Told.{Told};
+ghost use Rattle.law_transcript.specs.Units.{Carried};
+ghost use Rattle.proof_hearing.specs.proof_queue.Heeding.{AllSteps, HeedsAs, HeedsSo};
+ghost use Rattle.proof_hearing.specs.proof_queue.proof_attempts.proof_requests.law_host.Heard.{heeds_alone};
+ghost use Rattle.proof_hearing.specs.proof_queue.proof_attempts.proof_requests.law_host.HostLegal.{IsHeeded};
+ghost use Rattle.proof_hearing.specs.proof_queue.proof_attempts.proof_requests.law_host.Notes.{NotesWhatHappens, course_of, first_start};
+ghost use Rattle.proof_hearing.specs.proof_queue.proof_attempts.proof_requests.proof_alone.Careful.{Careful};
+ghost use Rattle.proof_hearing.specs.proof_queue.proof_attempts.proof_requests.proof_alone.Phases.{Phase, Resting};
+ghost use Rattle.proof_hearing.specs.proof_queue.proof_attempts.proof_requests.proof_alone.Runs.{Run};
+ghost use Rattle.proof_hearing.specs.proof_queue.proof_attempts.proof_requests.proof_alone.State.{HostMachine};
+ghost use Rattle.proof_noting.specs.Ground.{ErrandsAlong};
+ghost use Rattle.proof_noting.specs.Steps.{NotesInFull, first_of};
+ghost use Rattle.proof_noting.specs.Sure.{ComeByReads};
+
+use crate::beside::notes_go_beside;
+use crate::items::notes_go_with_items;
+use crate::payloads::notes_go_with_payloads;
+use crate::requests::notes_go_with_requests;
+use crate::ticks::notes_go_with_ticks;
+use proof_choice::giving::hosts_count_attempts;
+use proof_choice::hosts_know_what_they_choose;
+
+/// Along each careful run of a host alone, over a keeper that tells its records and has none at first, by messages that are heeded as the host took them
+/// (`hosts_go_by_messages` of `proof_queue` has some for each run), where what the chip wrote came in reads, as `replay` and `host` hear it: after each event
+/// stand exactly the notes that it makes, in order, and none stands elsewhere, and the nonces of its course are used as they should. Where the run ends at
+/// rest, with no tick of its line to come, nothing is left to be noted, and by each payload it goes as far as it took up its messages. Which nodes the last
+/// request carries a Set or Get of a line to is asked for: it is proved of any run (`errands_are_carried` of `proof_asking`).
+pub fn hosts_note_what_happens()
+    ensures { (key : List ℕ) (taken : List Entry → Carried → List Told) (whole : Bool) (here : Phase) (told : List Entry) (m : HostMachine) →
+        (run : Run (first_of key) here told m) → Careful run → AllSteps (HeedsSo (heeds_alone taken)) run →
+        AllSteps (HeedsAs (heeds_alone taken)) run → ComeByReads false told → (whole ≡ true → (here ≡ Resting) × (m.left ≡ 0)) → ErrandsAlong key →
+        NotesInFull key taken whole told }
+{
+    hosts_count_attempts();
+    hosts_know_what_they_choose();
+    notes_go_beside();
+    notes_go_with_requests();
+    notes_go_with_items();
+    notes_go_with_payloads();
+    notes_go_with_ticks();
+}
