@@ -50,11 +50,11 @@ use Rattle.proof_hearing.specs.proof_queue.proof_attempts.proof_requests.Asking.
 use Rattle.proof_hearing.specs.proof_queue.proof_attempts.proof_requests.Ends.{EndsBy, EndsFrom}
 use Rattle.proof_hearing.specs.proof_queue.proof_attempts.proof_requests.Saying.{frame_next as host_next, kind_next, notice_next}
 use Rattle.proof_hearing.specs.proof_queue.proof_attempts.proof_requests.Walking.{Ground as RequestsGround}
-use Rattle.proof_hearing.specs.proof_queue.proof_attempts.proof_requests.law_host.Course.{Course, course_from, with_heeded}
+use Rattle.proof_hearing.specs.proof_queue.proof_attempts.proof_requests.law_host.Course.{Course, with_heeded}
 use Rattle.proof_hearing.specs.proof_queue.proof_attempts.proof_requests.law_host.Following.{after as followed, comes_to, course_after, is_note}
 use Rattle.proof_hearing.specs.proof_queue.proof_attempts.proof_requests.law_host.Heard.{heeds_alone}
 use Rattle.proof_hearing.specs.proof_queue.proof_attempts.proof_requests.law_host.Nonces.{is_late}
-use Rattle.proof_hearing.specs.proof_queue.proof_attempts.proof_requests.law_host.Notes.{course_of, first_start}
+use Rattle.proof_hearing.specs.proof_queue.proof_attempts.proof_requests.law_host.Notes.{Start, course_of}
 use Rattle.proof_hearing.specs.proof_queue.proof_attempts.proof_requests.proof_alone.State.{HostMachine, done}
 use Rattle.proof_hearing.specs.proof_queue.proof_attempts.proof_requests.proof_alone.Steps.{IsOfUnit, Judges}
 use Rattle.proof_hearing.specs.proof_queue.proof_attempts.proof_requests.proof_alone.Phases.{Behind, IsJudgedNow, May, Open}
@@ -65,7 +65,6 @@ use Rattle.proof_hearing.proofs.Spelled.{source_is}
 use Rattle.proof_hearing.proofs.proof_requests_Growing.{asked_on}
 use Rattle.proof_following.specs.Quiet.{acknowledges}
 use Rattle.proof_following.proofs.Acks.{ack_after, frame_next_is, judges_payload}
-use Rattle.proof_following.proofs.Entering.{course_both}
 use Rattle.proof_following.proofs.Framing.{none_ends}
 use Rattle.proof_following.proofs.proof_ends_Walking.{ShowsOpen}
 use Rattle.proof_noting.specs.Behind.{AtOpen, InPayload}
@@ -73,15 +72,16 @@ use Rattle.proof_noting.specs.Ground.{GroundAlong, NotingGround}
 use Rattle.proof_noting.specs.Steps.{BringsFrame, BringsNotice, first_of}
 use Rattle.proof_noting.specs.Sure.{SureRun, SureStep}
 use Rattle.proof_noting.specs.Ticking.{OverSo}
+use Rattle.proof_noting.proofs.Choosing.{course_on, split_on}
 use Rattle.proof_noting.proofs.Aborts.{abort_unending}
 use Rattle.proof_noting.proofs.Becoming.{BecomesLevel, becomes_heeded, comes_level, level_books, level_over}
 use Rattle.proof_noting.proofs.Lately.{late_on}
 use Rattle.proof_noting.proofs.Requested.{IsFrameNext}
 use Rattle.proof_noting.proofs.Surely.{sure_step}
 
-module _ (key : List ℕ) (taken : List Entry → Carried → List Told) (ground : GroundAlong taken (first_of key)) (shows : ShowsOpen) (past : List Entry) (m : HostMachine) (f : FrameParts) (rest : List LineUnit) (behind : List HostEvent)
+module _ (key : List ℕ) (taken : List Entry → Carried → List Told) (from : Start) (ground : GroundAlong taken (first_of key)) (shows : ShowsOpen) (past : List Entry) (m : HostMachine) (f : FrameParts) (rest : List LineUnit) (behind : List HostEvent)
     (told marks : List Entry) (sure : SureRun taken (first_of key) Open past m) (well : SureStep taken sure.run (Judges (Good (Framed f)) rest behind told)) (now : IsJudgedNow m (Good (Framed f)) rest behind told)
-    (known : AtOpen key taken past m) (waits : Waits (queue_before (heeds_alone taken) past (Written Host (unit_text Ack))) m.state.requests.queue [])
+    (known : AtOpen key taken from past m) (waits : Waits (queue_before (heeds_alone taken) past (Written Host (unit_text Ack))) m.state.requests.queue [])
     (are : told ≡ acknowledges ∷ marks) (marked : AllByRecursion IsOfUnit marks) where
   abbrev heeds : Heeds
   heeds = heeds_alone taken
@@ -224,14 +224,14 @@ module _ (key : List ℕ) (taken : List Entry → Carried → List Told) (ground
         ∙ judges_payload heeds past frame later carried (choosing keepings texts d) bears (none_ends heeds later m.state m.state.requests.last_id (record (choosing keepings texts d) { put = 0 }) unended)
 
     begins : (keepings : List Bool) (texts : List (Option (List ℕ)))
-        → course_of heeds first_start later (record { keepings = known.of.kept ++ keepings; texts = known.of.opened ++ texts })
+        → course_of heeds from (known.of.heard ++ acknowledges ∷ []) (record { keepings = known.of.kept ++ keepings; texts = known.of.opened ++ texts })
         ≡ with_heeded later carried (finishes (hearing_at taken past later source payload) Whole (choosing keepings texts begun))
     begins keepings texts =
-        course_both heeds [] past (acknowledges ∷ []) (course_from [] (record { keepings = known.of.kept ++ keepings; texts = known.of.opened ++ texts })) refl
+        course_on heeds from past known.of.heard (acknowledges ∷ []) (record { keepings = known.of.kept ++ keepings; texts = known.of.opened ++ texts }) known.of.split refl
         ∙ ap (λ (x : Course). course_after heeds past (acknowledges ∷ []) x) (known.of.is keepings texts)
         ∙ acked keepings texts
 
-    payload_judged : InPayload key taken (first_of key) (past ++ told) next behind
+    payload_judged : InPayload key taken from (first_of key) (past ++ told) next behind
     payload_judged = record {
       before = past;
       marks = marks;
@@ -245,6 +245,8 @@ module _ (key : List ℕ) (taken : List Entry → Carried → List Told) (ground
       begun = begun;
       kept = known.of.kept;
       opened = known.of.opened;
+      heard = known.of.heard ++ acknowledges ∷ [];
+      split = split_on heeds from past known.of.heard (acknowledges ∷ []) known.of.split;
       begins = begins;
       untaken = refl;
       none_due = it.0.none_due;
@@ -271,11 +273,11 @@ module _ (key : List ℕ) (taken : List Entry → Carried → List Told) (ground
   -- ---- by what is read of it
 
   notice_judged : f.kind ≡ kind.Request → (read : Result Notice BodyFault) → notice_of f.func f.body ≡ read → BringsNotice read → (is : NoticeEvents heard read behind)
-      → ((carried : Carried) → taken later carried ≡ heeded_notice heard read behind is) → InPayload key taken (first_of key) (past ++ told) next behind
+      → ((carried : Carried) → taken later carried ≡ heeded_notice heard read behind is) → InPayload key taken from (first_of key) (past ++ told) next behind
   notice_judged kind_is (Ok (ApplicationCommandHandler status source payload)) reads brings is heeded = payload_judged status source payload kind_is reads is heeded
   notice_judged kind_is read reads brings is heeded = absurd brings
 
   pub kind_judged : (k : Kind) → f.kind ≡ k → BringsFrame k (notice_of f.func f.body) → (is : FrameEvents heard k f.func f.body behind)
-      → ((carried : Carried) → taken later carried ≡ heeded_frame heard k f.func f.body behind is) → InPayload key taken (first_of key) (past ++ told) next behind
+      → ((carried : Carried) → taken later carried ≡ heeded_frame heard k f.func f.body behind is) → InPayload key taken from (first_of key) (past ++ told) next behind
   kind_judged kind.Response kind_is brings is heeded = absurd brings
   kind_judged kind.Request kind_is brings is heeded = notice_judged kind_is (notice_of f.func f.body) refl brings is heeded

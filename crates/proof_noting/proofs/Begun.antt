@@ -50,6 +50,7 @@ use Rattle.proof_hearing.specs.proof_queue.proof_attempts.proof_requests.law_hos
 use Rattle.proof_hearing.specs.proof_queue.proof_attempts.proof_requests.law_host.Following.{comes_to, is_before_host, is_of_host, may_begin, may_stand}
 use Rattle.proof_hearing.specs.proof_queue.proof_attempts.proof_requests.law_host.Heard.{heeds_alone}
 use Rattle.proof_hearing.specs.proof_queue.proof_attempts.proof_requests.law_host.Nonces.{is_late}
+use Rattle.proof_hearing.specs.proof_queue.proof_attempts.proof_requests.law_host.Notes.{Start}
 use Rattle.proof_hearing.specs.proof_queue.proof_attempts.proof_requests.proof_alone.Phases.{Phase, Sleeping, Submitting, GoesBy}
 use Rattle.proof_hearing.specs.proof_queue.proof_attempts.proof_requests.proof_alone.State.{HostMachine, done}
 use Rattle.proof_hearing.specs.proof_queue.proof_attempts.proof_requests.proof_alone.Steps.{AreTold, Does}
@@ -186,19 +187,19 @@ pumping_idle taken Sleeping pumping = tt
 pumping_idle taken Submitting pumping = tt
 pumping_idle taken here pumping = absurd pumping
 
-module _ (key : List ℕ) (taken : List Entry → Carried → List Told) (shows : ShowsOpen) where
+module _ (key : List ℕ) (taken : List Entry → Carried → List Told) (from : Start) (shows : ShowsOpen) where
   abbrev heeds : Heeds
   heeds = heeds_alone taken
 
   abbrev Knows : Phase → List Entry → HostMachine → Type 0
-  Knows here past m = KnowsCourse key taken (first_of key) here past m
+  Knows here past m = KnowsCourse key taken from (first_of key) here past m
 
-  as_rest : (here : Phase) (past : List Entry) (m : HostMachine) → IsPumping here → Knows here past m → AtRest key taken past m
+  as_rest : (here : Phase) (past : List Entry) (m : HostMachine) → IsPumping here → Knows here past m → AtRest key taken from past m
   as_rest Sleeping past m pumping known = known
   as_rest Submitting past m pumping known = known
   as_rest here past m pumping known = absurd pumping
 
-  goes_next : (here next : Phase) (later : List Entry) (h : HostState) (event : HostEvent) (k : HostMachine) → IsPumping here → GoesBy here h event next → AtRest key taken later k → Knows next later k
+  goes_next : (here next : Phase) (later : List Entry) (h : HostState) (event : HostEvent) (k : HostMachine) → IsPumping here → GoesBy here h event next → AtRest key taken from later k → Knows next later k
   goes_next Sleeping next later h event k pumping by at = subst (λ (p : Phase). Knows p later k) (sym by.3) at
   goes_next Submitting next later h event k pumping by at = subst (λ (p : Phase). Knows p later k) (sym by.1) at
   goes_next here next later h event k pumping by at = absurd pumping
@@ -206,7 +207,7 @@ module _ (key : List ℕ) (taken : List Entry → Carried → List Told) (shows 
   -- an entry of the host
   module _ (here : Phase) (past : List Entry) (m : HostMachine) (event : HostEvent) (e : Entry) (pumping : IsPumping here) (ground : NotingGround taken here past m) (awaits : m.awaits ≡ false)
       (own : OwnSo past e) (books : BooksGo key heeds past (past ++ e ∷ []) m (done m event)) (under : (done m event).state.requests.under_way ≡ m.state.requests.under_way)
-      (stays : is_data (asked past).frame ≡ true → Stays past (past ++ e ∷ [])) (at : AtRest key taken past m) where
+      (stays : is_data (asked past).frame ≡ true → Stays past (past ++ e ∷ [])) (at : AtRest key taken from past m) where
     b : BecomesLevel key taken past m (comes_to heeds past e) at.course
     b =
         comes_level key taken shows here past m ground (pumping_idle taken here pumping) (now_is taken here past m ground awaits) e (plainly_within e own.plainly) at.course (inl at.frames) at.follows
@@ -217,10 +218,10 @@ module _ (key : List ℕ) (taken : List Entry → Carried → List Told) (shows 
         is_level_on key heeds past (past ++ e ∷ []) m (done m event) books under b.0.next
         (λ lags. stays (read_framed (asked past).frame (request_of lags.purpose lags.id) lags.request)) b.2
 
-    own_on : AtRest key taken (past ++ e ∷ []) (done m event)
+    own_on : AtRest key taken from (past ++ e ∷ []) (done m event)
     own_on = record {
       course = b.0.next;
-      of = course_goes heeds past (e ∷ []) at.course b.0.next own.fresh at.of
+      of = course_goes heeds from past (e ∷ []) at.course b.0.next own.fresh at.of
           (goes_plain heeds past e at.course b.0.next own.plainly own.unmarked own.stands at.follows.fits b.0.fits b.0.none_due b.0.goes);
       follows = record {
         fits = b.0.fits;
@@ -245,7 +246,7 @@ module _ (key : List ℕ) (taken : List Entry → Carried → List Told) (shows 
 
   -- a session begins
   begin_on : (here : Phase) (past : List Entry) (m : HostMachine) (n session command : ℕ) → IsPumping here → NotingGround taken here past m → m.awaits ≡ false
-      → MayHost m.state (Begins n session command) → AtRest key taken past m → AtRest key taken (past ++ entry.Begin n session command ∷ []) (done m (Begins n session command))
+      → MayHost m.state (Begins n session command) → AtRest key taken from past m → AtRest key taken from (past ++ entry.Begin n session command ∷ []) (done m (Begins n session command))
   begin_on here past m n session command pumping ground awaits may at =
       own_on here past m (Begins n session command) (entry.Begin n session command) pumping ground awaits
       (record { plainly = tt; unmarked = refl; of_host = refl; behind = refl; stands = refl; fresh = refl })
@@ -267,8 +268,8 @@ module _ (key : List ℕ) (taken : List Entry → Carried → List Told) (shows 
   unkept_may here next past m n pumping by ground awaits may = absurd pumping
 
   unkept_on : (here next : Phase) (past : List Entry) (m : HostMachine) (n : ℕ) → IsPumping here → NotingGround taken here past m
-      → NotingGround taken next (past ++ entry.Unkept n ∷ []) (done m (Begin_unkept n)) → m.awaits ≡ false → may_begin n past ≡ true → AtRest key taken past m
-      → AtRest key taken (past ++ entry.Unkept n ∷ []) (done m (Begin_unkept n))
+      → NotingGround taken next (past ++ entry.Unkept n ∷ []) (done m (Begin_unkept n)) → m.awaits ≡ false → may_begin n past ≡ true → AtRest key taken from past m
+      → AtRest key taken from (past ++ entry.Unkept n ∷ []) (done m (Begin_unkept n))
   unkept_on here next past m n pumping ground after_it awaits may at =
       own_on here past m (Begin_unkept n) (entry.Unkept n) pumping ground awaits
       (record { plainly = tt; unmarked = refl; of_host = refl; behind = refl; stands = may; fresh = refl })
@@ -277,8 +278,8 @@ module _ (key : List ℕ) (taken : List Entry → Carried → List Told) (shows 
 
   -- No More Information is dropped
   dropped_on : (here next : Phase) (past : List Entry) (m : HostMachine) (n : ℕ) → IsPumping here → NotingGround taken here past m
-      → NotingGround taken next (past ++ entry.QueueFull n ∷ []) (done m (Drops_no_more n)) → m.awaits ≡ false → AtRest key taken past m
-      → AtRest key taken (past ++ entry.QueueFull n ∷ []) (done m (Drops_no_more n))
+      → NotingGround taken next (past ++ entry.QueueFull n ∷ []) (done m (Drops_no_more n)) → m.awaits ≡ false → AtRest key taken from past m
+      → AtRest key taken from (past ++ entry.QueueFull n ∷ []) (done m (Drops_no_more n))
   dropped_on here next past m n pumping ground after_it awaits at =
       own_on here past m (Drops_no_more n) (entry.QueueFull n) pumping ground awaits
       (record { plainly = tt; unmarked = refl; of_host = refl; behind = refl; stands = refl; fresh = refl })
@@ -287,10 +288,10 @@ module _ (key : List ℕ) (taken : List Entry → Carried → List Told) (shows 
 
   -- it waits
   queued_on : (here next : Phase) (past : List Entry) (m : HostMachine) (n : ℕ) → NotingGround taken here past m → NotingGround taken next (past ++ []) (done m (Queues_no_more n))
-      → AtRest key taken past m → AtRest key taken (past ++ []) (done m (Queues_no_more n))
+      → AtRest key taken from past m → AtRest key taken from (past ++ []) (done m (Queues_no_more n))
   queued_on here next past m n ground after_it at = record {
     course = at.course;
-    of = course_goes heeds past [] at.course at.course refl at.of (goes_nowhere heeds past at.course);
+    of = course_goes heeds from past [] at.course at.course refl at.of (goes_nowhere heeds past at.course);
     follows = record {
       fits = at.follows.fits;
       none_due = at.follows.none_due;
@@ -312,11 +313,11 @@ module _ (key : List ℕ) (taken : List Entry → Carried → List Told) (shows 
   module _ (along : GroundAlong taken (first_of key)) where
     -- what stands there, with what is known of it
     to_told : (next : Phase) (past told these : List Entry) (k : HostMachine) → told ≡ these → NotingGround taken next (past ++ told) k
-        → (NotingGround taken next (past ++ these) k → AtRest key taken (past ++ these) k) → AtRest key taken (past ++ told) k
+        → (NotingGround taken next (past ++ these) k → AtRest key taken from (past ++ these) k) → AtRest key taken from (past ++ told) k
     to_told next past told these k is ground on =
-        subst (λ (l : List Entry). AtRest key taken (past ++ l) k) (sym is) (on (subst (λ (l : List Entry). NotingGround taken next (past ++ l) k) is ground))
+        subst (λ (l : List Entry). AtRest key taken from (past ++ l) k) (sym is) (on (subst (λ (l : List Entry). NotingGround taken next (past ++ l) k) is ground))
 
-    pub pumps : (here next : Phase) (past told : List Entry) (m : HostMachine) (event : HostEvent) → IsPumping here → IsUnsent event → StepFollows key taken here past m (Does event told) next
+    pub pumps : (here next : Phase) (past told : List Entry) (m : HostMachine) (event : HostEvent) → IsPumping here → IsUnsent event → StepFollows key taken from here past m (Does event told) next
     pumps here next past told m (Begins n session command) pumping unsent sure so may known =
         let e : Entry = entry.Begin n session command in
         let k : HostMachine = done m (Begins n session command) in

@@ -68,6 +68,7 @@ use Rattle.proof_hearing.specs.proof_queue.proof_attempts.proof_requests.proof_a
 use Rattle.proof_hearing.specs.proof_queue.proof_attempts.proof_requests.proof_alone.Steps.{AreFrames, Judges, IsFramed}
 use Rattle.proof_hearing.specs.proof_queue.proof_attempts.proof_requests.proof_alone.Phases.{Behind, IsJudgedNow, Open, Phase}
 use Rattle.proof_hearing.specs.proof_queue.proof_attempts.proof_requests.law_host.Ends.{ends_sealing}
+use Rattle.proof_hearing.specs.proof_queue.proof_attempts.proof_requests.law_host.Notes.{Start}
 use Rattle.proof_hearing.specs.proof_queue.proof_attempts.proof_work.Doing.{IsTold}
 use Rattle.proof_hearing.proofs.Alike.{same_alike}
 use Rattle.proof_hearing.proofs.BooksGo.{books_on}
@@ -163,9 +164,9 @@ nil_right : (a b : List Entry) → a ++ b ≡ [] → b ≡ []
 nil_right [] b is = is
 nil_right (x ∷ a) b is = absurd (let bad : x ∷ (a ++ b) ≡ [] = is in cc)
 
-module _ (key : List ℕ) (taken : List Entry → Carried → List Told) (shows : ShowsOpen) (asking : AlongRuns (keys_of key) (KnowsSince AsksAreSo)) (ground : GroundAlong taken (first_of key)) (past : List Entry) (m : HostMachine)
+module _ (key : List ℕ) (taken : List Entry → Carried → List Told) (from : Start) (shows : ShowsOpen) (asking : AlongRuns (keys_of key) (KnowsSince AsksAreSo)) (ground : GroundAlong taken (first_of key)) (past : List Entry) (m : HostMachine)
     (unit : LineUnit) (rest : List LineUnit) (behind : List HostEvent) (told : List Entry) (sure : SureRun taken (first_of key) Open past m) (well : SureStep taken sure.run (Judges (Good unit) rest behind told))
-    (now : IsJudgedNow m (Good unit) rest behind told) (known : AtOpen key taken past m) (none_told : told ≡ []) (unframed : IsFramed unit → ⊥) where
+    (now : IsJudgedNow m (Good unit) rest behind told) (known : AtOpen key taken from past m) (none_told : told ≡ []) (unframed : IsFramed unit → ⊥) where
   abbrev heeds : Heeds
   heeds = heeds_alone taken
 
@@ -207,11 +208,11 @@ module _ (key : List ℕ) (taken : List Entry → Carried → List Told) (shows 
   heard_follows = follows_same key taken past m next c refl refl refl refl (λ n. refl) refl refl known.follows
 
   -- nothing follows it
-  pub rests : AtOpen key taken past next
+  pub rests : AtOpen key taken from past next
   rests = record { course = c; of = known.of; follows = heard_follows; answered = inr ticked }
 
   -- an event is left that notes nothing, by which the course follows still
-  quietly : (event : HostEvent) → outs heard event ≡ [] → Follows key taken past (done next event) c → OneLeft key taken past next event
+  quietly : (event : HostEvent) → outs heard event ≡ [] → Follows key taken past (done next event) c → OneLeft key taken from past next event
   quietly event outs_are follows = record {
     course = c;
     of = known.of;
@@ -249,7 +250,7 @@ module _ (key : List ℕ) (taken : List Entry → Carried → List Told) (shows 
     )
 
     -- and the request under way as it was
-    stays : end_at heard.requests event ≡ None → (after heard does_it).requests.under_way ≡ m.state.requests.under_way → OneLeft key taken past next does_it
+    stays : end_at heard.requests event ≡ None → (after heard does_it).requests.under_way ≡ m.state.requests.under_way → OneLeft key taken from past next does_it
     stays is same =
         let left = leaves None is (λ n. refl) refl refl in
         let kept = request_leaves heard event BetweenTicks of_told in
@@ -258,7 +259,7 @@ module _ (key : List ℕ) (taken : List Entry → Carried → List Told) (shows 
 
     -- or is one, whether it ends or not
     levels : (o : Option End) → end_at heard.requests event ≡ o → ((n : ℕ) → node_of (after_end_if g o BetweenTicks) n ≡ node_of heard n) → ((after_end_if g o BetweenTicks).commands ≡ heard.commands)
-        → (end_entries_if g o ≡ []) → OverSo past (done next does_it) c → BooksSo key heeds past m.state c → OneLeft key taken past next does_it
+        → (end_entries_if g o ≡ []) → OverSo past (done next does_it) c → BooksSo key heeds past m.state c → OneLeft key taken from past next does_it
     levels o is nodes commands none over books =
         let left = leaves o is nodes commands none in
         let kept = request_leaves heard event BetweenTicks of_told in
@@ -281,16 +282,16 @@ module _ (key : List ℕ) (taken : List Entry → Carried → List Told) (shows 
 
   -- ---- the frame is acknowledged
 
-  idle_stays : (event : RequestsEvent) → IsTold event → m.state.requests.under_way ≡ None → OneLeft key taken past next (Requests_do event BetweenTicks)
+  idle_stays : (event : RequestsEvent) → IsTold event → m.state.requests.under_way ≡ None → OneLeft key taken from past next (Requests_do event BetweenTicks)
   idle_stays event of_told is =
       stays event of_told (at_ends heard event of_told ∙ ap (λ (o : Option UnderWay). end_from (next_at heard.requests event) o) is)
       (way event of_told ∙ ap (λ (o : Option UnderWay). (doing_from (doing_of heard) (next_at heard.requests event) o).under_way) is ∙ sym is)
 
-  pub acknowledged_so : OneLeft key taken past next (Requests_do IsSent BetweenTicks)
+  pub acknowledged_so : OneLeft key taken from past next (Requests_do IsSent BetweenTicks)
   acknowledged_so = by known.follows.so
     where
       went : (level : Level key heeds past m c) (u : UnderWay) → m.state.requests.under_way ≡ Some u
-          → ((q : Progress) × (sent_from u.purpose u.progress ≡ GoesOn q)) ⊎ ((u.purpose ≡ Abort) × (sent_from u.purpose u.progress ≡ Ends AbortSent)) → OneLeft key taken past next (Requests_do IsSent BetweenTicks)
+          → ((q : Progress) × (sent_from u.purpose u.progress ≡ GoesOn q)) ⊎ ((u.purpose ≡ Abort) × (sent_from u.purpose u.progress ≡ Ends AbortSent)) → OneLeft key taken from past next (Requests_do IsSent BetweenTicks)
       went level u is (inl (q, goes)) =
           levels IsSent tt None (ap (λ (o : Option UnderWay). end_from at_sent o) is ∙ ap (λ (n : Next). end_of u n) goes) (λ n. refl) refl refl
           (inl (level.over ∙ ap (λ (o : Option UnderWay). is_none o) is
@@ -305,11 +306,11 @@ module _ (key : List ℕ) (taken : List Entry → Carried → List Told) (shows 
             (m.state.requests.last_id, under_request u is ∙ ap (λ (p : Purpose). request_of p m.state.requests.last_id ∷ []) abort),
           )) (level_books level)
 
-      at : (level : Level key heeds past m c) (o : Option UnderWay) → m.state.requests.under_way ≡ o → OneLeft key taken past next (Requests_do IsSent BetweenTicks)
+      at : (level : Level key heeds past m c) (o : Option UnderWay) → m.state.requests.under_way ≡ o → OneLeft key taken from past next (Requests_do IsSent BetweenTicks)
       at level None is = idle_stays IsSent tt is
       at level (Some u) is = went level u is (sent_way u.purpose u.progress)
 
-      by : Level key heeds past m c ⊎ Lags key heeds past m c → OneLeft key taken past next (Requests_do IsSent BetweenTicks)
+      by : Level key heeds past m c ⊎ Lags key heeds past m c → OneLeft key taken from past next (Requests_do IsSent BetweenTicks)
       by (inl level) = at level m.state.requests.under_way refl
       by (inr lags) = idle_stays IsSent tt lags.none
 
@@ -526,7 +527,7 @@ module _ (key : List ℕ) (taken : List Entry → Carried → List Told) (shows 
         quiet (Attempt n more payload) is = (refl, refl)
         quiet Abort is = (refl, refl)
 
-        silent_left : OneLeft key taken past next fails_now
+        silent_left : OneLeft key taken from past next fails_now
         silent_left =
             let none = quiet u.purpose refl in
             quietly fails_now (ap noted silent)
@@ -552,7 +553,7 @@ module _ (key : List ℕ) (taken : List Entry → Carried → List Told) (shows 
             })
 
       -- its first note has the course come to it
-      noted_left : (first_note : Entry) (more : List Entry) → notes ≡ first_note ∷ more → OneLeft key taken past next fails_now
+      noted_left : (first_note : Entry) (more : List Entry) → notes ≡ first_note ∷ more → OneLeft key taken from past next fails_now
       noted_left first_note more are = record {
         course = c;
         of = known.of;
@@ -601,16 +602,16 @@ module _ (key : List ℕ) (taken : List Entry → Carried → List Told) (shows 
               ∙ notes_after heeds (past ++ first_note ∷ []) more [] (choosing keepings texts (record made { due = more })) these_notes.1 (ap (λ (x : Course). x.fits) stays_so.0 ∙ known.follows.fits)
               (sym (append-nil more))
 
-      failed_left : OneLeft key taken past next fails_now
+      failed_left : OneLeft key taken from past next fails_now
       failed_left = by notes refl
         where
-          by : (l : List Entry) → notes ≡ l → OneLeft key taken past next fails_now
+          by : (l : List Entry) → notes ≡ l → OneLeft key taken from past next fails_now
           by [] is = silent_left is
           by (first_note ∷ more) is = noted_left first_note more is
 
-    pub fails_so : OneLeft key taken past next fails_now
+    pub fails_so : OneLeft key taken from past next fails_now
     fails_so = by m.state.requests.under_way refl
       where
-        by : (o : Option UnderWay) → m.state.requests.under_way ≡ o → OneLeft key taken past next fails_now
+        by : (o : Option UnderWay) → m.state.requests.under_way ≡ o → OneLeft key taken from past next fails_now
         by None is = idle_stays Fails tt is
         by (Some u) is = failed_left u is

@@ -30,6 +30,7 @@ use Rattle.proof_hearing.specs.proof_queue.proof_attempts.proof_requests.Walking
 use Rattle.proof_hearing.specs.proof_queue.proof_attempts.proof_requests.law_host.Course.{Course}
 use Rattle.proof_hearing.specs.proof_queue.proof_attempts.proof_requests.law_host.Following.{comes_to, is_before_host}
 use Rattle.proof_hearing.specs.proof_queue.proof_attempts.proof_requests.law_host.Heard.{heeds_alone}
+use Rattle.proof_hearing.specs.proof_queue.proof_attempts.proof_requests.law_host.Notes.{Start}
 use Rattle.proof_hearing.specs.proof_queue.proof_attempts.proof_requests.proof_alone.State.{HostMachine, done}
 use Rattle.proof_hearing.specs.proof_queue.proof_attempts.proof_requests.proof_alone.Steps.{AreFrames, IsOfUnit}
 use Rattle.proof_hearing.specs.proof_queue.proof_attempts.proof_requests.proof_alone.Phases.{IsNumbered, Open}
@@ -61,8 +62,8 @@ heard_quiet h item p quiet = record { errands = quiet.errands; sleeps = sleeps p
     sleeps (Attempt n more payload) none = none
     sleeps Abort none = none
 
-module _ (key : List ℕ) (taken : List Entry → Carried → List Told) (shows : ShowsOpen) (ground : GroundAlong taken (first_of key)) (past : List Entry) (m : HostMachine) (item : Item) (rest : List LineUnit)
-    (told : List Entry) (sure : SureRun taken (first_of key) Open past m) (known : AtOpen key taken past m) (still : rest ≡ m.came) where
+module _ (key : List ℕ) (taken : List Entry → Carried → List Told) (from : Start) (shows : ShowsOpen) (ground : GroundAlong taken (first_of key)) (past : List Entry) (m : HostMachine) (item : Item) (rest : List LineUnit)
+    (told : List Entry) (sure : SureRun taken (first_of key) Open past m) (known : AtOpen key taken from past m) (still : rest ≡ m.came) where
   abbrev heeds : Heeds
   heeds = heeds_alone taken
 
@@ -73,9 +74,9 @@ module _ (key : List ℕ) (taken : List Entry → Carried → List Told) (shows 
   c = known.course
 
   -- nothing is answered
-  pub unanswered : told ≡ [] → AtOpen key taken (past ++ told) next
+  pub unanswered : told ≡ [] → AtOpen key taken from (past ++ told) next
   unanswered none =
-      subst (λ (l : List Entry). AtOpen key taken l next) (sym (ap (λ (l : List Entry). past ++ l) none ∙ append-nil past))
+      subst (λ (l : List Entry). AtOpen key taken from l next) (sym (ap (λ (l : List Entry). past ++ l) none ∙ append-nil past))
       (record { course = c; of = known.of; follows = follows_same key taken past m next c refl refl refl refl (λ n. refl) refl refl known.follows; answered = by known.answered })
     where
       by : Answered m c → Answered next c
@@ -125,12 +126,12 @@ module _ (key : List ℕ) (taken : List Entry → Carried → List Told) (shows 
     stays : (lags : Lags key heeds past m d) → Stays past whole × StaysDenied past whole
     stays lags = (stays_quiet past (e ∷ marks) (framed lags) all_quiet, denied_quiet past (e ∷ marks) (framed lags) all_quiet)
 
-    pub refused : AtOpen key taken (past ++ told) next
+    pub refused : AtOpen key taken from (past ++ told) next
     refused =
-        subst (λ (l : List Entry). AtOpen key taken (past ++ l) next) (sym are)
+        subst (λ (l : List Entry). AtOpen key taken from (past ++ l) next) (sym are)
         (record {
           course = d;
-          of = course_goes heeds past (e ∷ marks) c d refl known.of
+          of = course_goes heeds from past (e ∷ marks) c d refl known.of
               (goes_both heeds past (e ∷ []) marks c d d (marks_unrefused marks marked)
               (goes_on heeds past (e ∷ []) c d
               (λ keepings texts. plain_after heeds past e [] (choosing keepings texts c) (choosing keepings texts d) refl known.follows.fits (b.0.goes keepings texts) b.0.none_due b.0.fits refl))

@@ -10,14 +10,14 @@ use Rattle.proof_hearing.proofs.Beginning.{uses_nonces}
 use Rattle.proof_hearing.specs.proof_queue.proof_attempts.proof_requests.law_host.Course.{Choices, Course, Offer, Opening, Seal}
 use Rattle.proof_hearing.specs.proof_queue.proof_attempts.proof_requests.law_host.Heard.{heeds_alone}
 use Rattle.proof_hearing.specs.proof_queue.proof_attempts.proof_requests.law_host.Nonces.{IsOffer, IsOpening, IsSeal, UsesNonces}
-use Rattle.proof_hearing.specs.proof_queue.proof_attempts.proof_requests.law_host.Notes.{course_of, first_start}
+use Rattle.proof_hearing.specs.proof_queue.proof_attempts.proof_requests.law_host.Notes.{Start, course_of}
 use Rattle.proof_hearing.specs.proof_queue.proof_attempts.proof_requests.proof_alone.State.{HostMachine}
 use Rattle.proof_following.specs.Quiet.{ended_silently}
 use Rattle.proof_noting.specs.Following.{CourseOf, Follows, Lags, Level, timed}
 use Rattle.proof_noting.specs.Steps.{Fitting}
 use Rattle.proof_noting.proofs.Choosing.{silently_is}
 
-module _ (key : List ℕ) (taken : List Entry → Carried → List Told) (past : List Entry) (m : HostMachine) (course : Course) where
+module _ (key : List ℕ) (taken : List Entry → Carried → List Told) (from : Start) (past : List Entry) (m : HostMachine) (course : Course) where
   abbrev heeds : Heeds
   heeds = heeds_alone taken
 
@@ -53,12 +53,14 @@ module _ (key : List ℕ) (taken : List Entry → Carried → List Told) (past :
   pub uses_of : Follows key taken past m course → Uses
   uses_of follows = either_uses follows.so
 
-  pub follows_fit : CourseOf heeds past course → Follows key taken past m course → Fitting key taken past
+  pub follows_fit : CourseOf heeds from past course → Follows key taken past m course → Fitting key taken from past
   follows_fit of follows =
       let uses : Uses = uses_of follows in
       let choices : Choices = record { keepings = of.kept ++ []; texts = of.opened ++ [] } in
-      let is : course_of heeds first_start past choices ≡ choosing [] [] course = of.is [] [] in
+      let is : course_of heeds from of.heard choices ≡ choosing [] [] course = of.is [] [] in
       record {
+        heard = of.heard;
+        split = of.split;
         choices = choices;
         drawn = uses.drawn;
         fits = ap (λ (c : Course). c.fits) is ∙ follows.fits;

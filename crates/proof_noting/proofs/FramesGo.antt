@@ -68,6 +68,7 @@ use Rattle.proof_hearing.specs.proof_queue.proof_attempts.proof_requests.law_hos
 use Rattle.proof_hearing.specs.proof_queue.proof_attempts.proof_requests.law_host.Heard.{heeds_alone}
 use Rattle.proof_hearing.specs.proof_queue.proof_attempts.proof_requests.law_host.HostLegal.{IsHeeded}
 use Rattle.proof_hearing.specs.proof_queue.proof_attempts.proof_requests.law_host.Nonces.{is_late}
+use Rattle.proof_hearing.specs.proof_queue.proof_attempts.proof_requests.law_host.Notes.{Start}
 use Rattle.proof_hearing.specs.proof_queue.proof_attempts.proof_requests.proof_alone.State.{HostMachine, done}
 use Rattle.proof_hearing.specs.proof_queue.proof_attempts.proof_requests.proof_alone.Steps.{IsOfUnit, Judges}
 use Rattle.proof_hearing.specs.proof_queue.proof_attempts.proof_requests.proof_alone.Phases.{Behind, IsJudgedNow, Open, Phase}
@@ -147,9 +148,9 @@ marks_keep taken n past (entry.Garbled Host unit ∷ marks) all = (tt, marks_kee
 marks_keep taken n past (entry.Overrun Host ∷ marks) all = (tt, marks_keep taken n (past ++ entry.Overrun Host ∷ []) marks all.1)
 marks_keep taken n past (e ∷ marks) all = absurd all.0
 
-module _ (key : List ℕ) (taken : List Entry → Carried → List Told) (shows : ShowsOpen) (ground : GroundAlong taken (first_of key)) (past : List Entry) (m : HostMachine) (f : FrameParts) (rest : List LineUnit)
+module _ (key : List ℕ) (taken : List Entry → Carried → List Told) (from : Start) (shows : ShowsOpen) (ground : GroundAlong taken (first_of key)) (past : List Entry) (m : HostMachine) (f : FrameParts) (rest : List LineUnit)
     (behind : List HostEvent) (told marks : List Entry) (sure : SureRun taken (first_of key) Open past m) (well : SureStep taken sure.run (Judges (Good (Framed f)) rest behind told))
-    (now : IsJudgedNow m (Good (Framed f)) rest behind told) (known : AtOpen key taken past m) (are : told ≡ acknowledges ∷ marks) (marked : AllByRecursion IsOfUnit marks)
+    (now : IsJudgedNow m (Good (Framed f)) rest behind told) (known : AtOpen key taken from past m) (are : told ≡ acknowledges ∷ marks) (marked : AllByRecursion IsOfUnit marks)
     (brings : bringing_in (unit_text (Framed f)) ≡ []) where
   abbrev heeds : Heeds
   heeds = heeds_alone taken
@@ -234,12 +235,12 @@ module _ (key : List ℕ) (taken : List Entry → Carried → List Told) (shows 
         goes_both heeds past (acknowledges ∷ []) marks c it.made it.made (marks_unrefused marks marked) (record { kept = it.kept; opened = []; goes = acked })
         (marks_goes heeds later marks it.made (all-weaker IsOfUnit (λ (e : Entry). is_mark e ≡ true) unit_marks marks marked))
 
-    of_made : CourseOf heeds whole it.made
-    of_made = course_goes heeds past (acknowledges ∷ marks) c it.made refl known.of goes_made
+    of_made : CourseOf heeds from whole it.made
+    of_made = course_goes heeds from past (acknowledges ∷ marks) c it.made refl known.of goes_made
 
     -- with the event that is left
     one_left : (event : HostEvent) → outs next.state event ≡ noted notes → AllByRecursion (λ (e : Entry). is_note e ≡ true) notes
-        → OverSo (whole ++ notes) (done next event) (record it.made { due = [] }) → BooksSo key heeds (whole ++ notes) (after next.state event) it.made → OneLeft key taken whole next event
+        → OverSo (whole ++ notes) (done next event) (record it.made { due = [] }) → BooksSo key heeds (whole ++ notes) (after next.state event) it.made → OneLeft key taken from whole next event
     one_left event outs_are all over books = record {
       course = it.made;
       of = of_made;
@@ -297,7 +298,7 @@ module _ (key : List ℕ) (taken : List Entry → Carried → List Told) (shows 
   late_acked n is = late_on taken n past (acknowledges ∷ marks) (inl refl, marks_keep taken n later marks marked)
 
   -- no event follows it
-  pub passes : ((u : UnderWay) → host_next m.state.requests.last_id m.state.requests.first f u ≡ GoesOn u.progress) → AtOpen key taken whole next
+  pub passes : ((u : UnderWay) → host_next m.state.requests.last_id m.state.requests.first f u ≡ GoesOn u.progress) → AtOpen key taken from whole next
   unfolding none_made
   passes goes_on = record {
     course = record d { put = 0 };
@@ -390,7 +391,7 @@ module _ (key : List ℕ) (taken : List Entry → Carried → List Told) (shows 
     way = event_way heard event BetweenTicks (next_at heard.requests event) (at_does heard event of_told)
 
     abbrev Left : Type 0
-    Left = OneLeft key taken whole next does_it
+    Left = OneLeft key taken from whole next does_it
 
     -- it does not end
     stays : end_at heard.requests event ≡ None → ((u : UnderWay) → m.state.requests.under_way ≡ Some u → is_ending_here later ≡ false)
@@ -630,13 +631,13 @@ module _ (key : List ℕ) (taken : List Entry → Carried → List Told) (shows 
 
       informs : outs heard event ≡ noted (note ∷ []) → (after heard event).requests.under_way ≡ None → (after heard event).nonces ≡ heard.nonces
           → (after heard event).requests.queue ≡ heard.requests.queue → ((k : ℕ) → IsNode k → Alike (node_of heard k) (node_of (after heard event) k)) → KeepsOrders heard (after heard event)
-          → OneLeft key taken whole next event
+          → OneLeft key taken from whole next event
       unfolding made_it
       informs outs_are idle nonces queue alike orders =
           one_left (note ∷ []) made_it event outs_are (notes_it (node_in (event ∷ [])) kept, tt) (inl (ap (λ (o : Option UnderWay). is_none o) (sym idle)))
           (books_on key heeds past (whole ++ note ∷ []) heard d.books d.offered d.opened d.sealed heard_books (after heard event) nonces (λ k. ap (nonces_to k) queue) alike orders late_noted)
 
-    pub interviewed : (listens : Bool) → behind ≡ Interviews n listens classes update ∷ [] → OneLeft key taken whole next (Interviews n listens classes update)
+    pub interviewed : (listens : Bool) → behind ≡ Interviews n listens classes update ∷ [] → OneLeft key taken from whole next (Interviews n listens classes update)
     interviewed listens these =
         informs true (Interviews n listens classes update) tt these refl informed_idle refl (queue_told heard (Updates update) tt) (λ k is. alike k is) (λ number t found. found)
       where
@@ -653,7 +654,7 @@ module _ (key : List ℕ) (taken : List Entry → Carried → List Told) (shows 
             by true = record { seen = refl; text = refl; pending = refl; opened = refl; commands = refl }
             by false = record { seen = refl; text = refl; pending = refl; opened = refl; commands = refl }
 
-    pub interview_unkept : behind ≡ Interview_unkept n update ∷ [] → OneLeft key taken whole next (Interview_unkept n update)
+    pub interview_unkept : behind ≡ Interview_unkept n update ∷ [] → OneLeft key taken from whole next (Interview_unkept n update)
     interview_unkept these =
         informs false (Interview_unkept n update) tt these refl informed_idle refl (queue_told heard (Updates update) tt)
         (λ k is. record { seen = refl; text = refl; pending = refl; opened = refl; commands = refl }) (λ number t found. found)

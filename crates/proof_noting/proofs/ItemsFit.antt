@@ -12,7 +12,7 @@ use Rattle.proof_hearing.specs.Hearing.{choosing}
 use Rattle.proof_hearing.specs.proof_queue.proof_attempts.proof_requests.law_host.Course.{Choices, Course, Offer, Opening, Seal}
 use Rattle.proof_hearing.specs.proof_queue.proof_attempts.proof_requests.law_host.Heard.{heeds_alone}
 use Rattle.proof_hearing.specs.proof_queue.proof_attempts.proof_requests.law_host.Nonces.{IsOffer, IsOpening, IsSeal, UsesNonces}
-use Rattle.proof_hearing.specs.proof_queue.proof_attempts.proof_requests.law_host.Notes.{course_of, first_start}
+use Rattle.proof_hearing.specs.proof_queue.proof_attempts.proof_requests.law_host.Notes.{Start, course_of}
 use Rattle.proof_hearing.specs.proof_queue.proof_attempts.proof_requests.proof_alone.State.{HostMachine, done}
 use Rattle.proof_hearing.specs.proof_queue.proof_attempts.proof_requests.proof_alone.Steps.{AreTold, Does}
 use Rattle.proof_hearing.specs.proof_queue.proof_attempts.proof_requests.proof_alone.Phases.{Behind, May, Phase}
@@ -29,33 +29,35 @@ told_is : (l told : List Entry) → AreTold (noted l) told → told ≡ l
 told_is [] told is = is
 told_is (e ∷ l) told (rest, is, more) = is ∙ ap (λ (r : List Entry). e ∷ r) (told_is l rest more)
 
-module _ (key : List ℕ) (taken : List Entry → Carried → List Told) where
+module _ (key : List ℕ) (taken : List Entry → Carried → List Told) (from : Start) where
   abbrev heeds : Heeds
   heeds = heeds_alone taken
 
-  module _ (past : List Entry) (m : HostMachine) (one : HostEvent) (left : OneLeft key taken past m one) where
-    opens : AtOpen key taken (past ++ left.told) (done m one)
+  module _ (past : List Entry) (m : HostMachine) (one : HostEvent) (left : OneLeft key taken from past m one) where
+    opens : AtOpen key taken from (past ++ left.told) (done m one)
     opens = record {
       course = left.next;
-      of = course_goes heeds past left.told left.course left.next (notes_unrefused left.told left.notes) left.of left.goes;
+      of = course_goes heeds from past left.told left.course left.next (notes_unrefused left.told left.notes) left.of left.goes;
       follows = left.follows;
       answered = left.answered;
     }
 
-    pub event_follows : (next : Phase) (told : List Entry) → May (Behind (one ∷ [])) m (Does one told) next → KnowsCourse key taken (first_of key) next (past ++ told) (done m one)
+    pub event_follows : (next : Phase) (told : List Entry) → May (Behind (one ∷ [])) m (Does one told) next → KnowsCourse key taken from (first_of key) next (past ++ told) (done m one)
     event_follows next told may =
-        subst (λ (p : Phase). KnowsCourse key taken (first_of key) p (past ++ told) (done m one)) (sym may.0.1)
-        (subst (λ (l : List Entry). BehindSo key taken (first_of key) (past ++ l) (done m one) []) (sym (told_is left.told told (subst (λ (l : List HostOut). AreTold l told) left.outs_are may.2)))
+        subst (λ (p : Phase). KnowsCourse key taken from (first_of key) p (past ++ told) (done m one)) (sym may.0.1)
+        (subst (λ (l : List Entry). BehindSo key taken from (first_of key) (past ++ l) (done m one) []) (sym (told_is left.told told (subst (λ (l : List HostOut). AreTold l told) left.outs_are may.2)))
         (None_left opens))
 
-    uses : Uses key taken (past ++ left.told) (done m one) left.next
-    uses = uses_of key taken (past ++ left.told) (done m one) left.next left.follows
+    uses : Uses key taken from (past ++ left.told) (done m one) left.next
+    uses = uses_of key taken from (past ++ left.told) (done m one) left.next left.follows
 
-    pub one_fits : Fitting key taken past
+    pub one_fits : Fitting key taken from past
     one_fits =
         let choices : Choices = record { keepings = left.of.kept ++ []; texts = left.of.opened ++ [] } in
-        let is : course_of heeds first_start past choices ≡ choosing [] [] left.course = left.of.is [] [] in
+        let is : course_of heeds from left.of.heard choices ≡ choosing [] [] left.course = left.of.is [] [] in
         record {
+          heard = left.of.heard;
+          split = left.of.split;
           choices = choices;
           drawn = uses.drawn;
           fits = ap (λ (c : Course). c.fits) is ∙ left.fits;

@@ -28,6 +28,7 @@ use Rattle.zw_text.specs.declared.entry.Entry.{Entry}
 use Rattle.zw_text.specs.declared.entry.Entry.TheVariants as entry
 use Rattle.host_heard.specs.declared.told.Told.{Told}
 use Rattle.law_transcript.specs.Units.{Carried, bringing_in, bringing_of, read_well}
+use Rattle.proof_hearing.specs.proof_queue.proof_attempts.proof_requests.law_host.Notes.{Start}
 use Rattle.host_requests.specs.Events.{RequestsEvent, interviewed_by}
 use Rattle.host_requests.specs.Events.RequestsEvent.{CallsBack, Fails, IsSent, Responds, Updates}
 use Rattle.host_requests.specs.declared.next.Next.{Next}
@@ -61,11 +62,11 @@ use Rattle.proof_noting.proofs.ByAnswers.{acknowledged_so, fails_so, rests}
 use Rattle.proof_noting.proofs.ByRefusals.{refused, unanswered}
 use Rattle.proof_noting.proofs.FramesGo.{hears, interview_unkept, interviewed, passes}
 
-module _ (key : List ℕ) (taken : List Entry → Carried → List Told) (tells : TellsWalk) (shows : ShowsOpen) (asking : AlongRuns (keys_of key) (KnowsSince AsksAreSo)) (ground : GroundAlong taken (first_of key)) where
+module _ (key : List ℕ) (taken : List Entry → Carried → List Told) (from : Start) (tells : TellsWalk) (shows : ShowsOpen) (asking : AlongRuns (keys_of key) (KnowsSince AsksAreSo)) (ground : GroundAlong taken (first_of key)) where
   -- ---- a frame
 
   module _ (past : List Entry) (m : HostMachine) (f : FrameParts) (rest : List LineUnit) (behind : List HostEvent) (told marks : List Entry) (sure : SureRun taken (first_of key) Open past m)
-      (well : SureStep taken sure.run (Judges (Good (Framed f)) rest behind told)) (now : IsJudgedNow m (Good (Framed f)) rest behind told) (known : AtOpen key taken past m) (are : told ≡ acknowledges ∷ marks)
+      (well : SureStep taken sure.run (Judges (Good (Framed f)) rest behind told)) (now : IsJudgedNow m (Good (Framed f)) rest behind told) (known : AtOpen key taken from past m) (are : told ≡ acknowledges ∷ marks)
       (marked : AllByRecursion IsOfUnit marks) (no_payload : BringsPayload (Good (Framed f)) → ⊥) where
     abbrev framed_next : HostMachine
     framed_next = record (done m (Hears (Good (Framed f)))) { came = rest }
@@ -77,30 +78,30 @@ module _ (key : List ℕ) (taken : List Entry → Carried → List Told) (tells 
     NextIs next = (u : UnderWay) → host_next m.state.requests.last_id m.state.requests.first f u ≡ next u
 
     abbrev Left : Type 0
-    Left = BehindSo key taken (first_of key) (past ++ told) framed_next behind
+    Left = BehindSo key taken from (first_of key) (past ++ told) framed_next behind
 
     module _ (brings : bringing_in (unit_text (Framed f)) ≡ []) where
       none_left : behind ≡ [] → NextIs (λ u. GoesOn u.progress) → Left
       none_left is goes =
-          subst (λ (l : List HostEvent). BehindSo key taken (first_of key) (past ++ told) framed_next l) (sym is)
-          (None_left (subst (λ (l : List Entry). AtOpen key taken (past ++ l) framed_next) (sym are) (passes key taken shows ground past m f rest behind told marks sure well now known are marked brings goes)))
+          subst (λ (l : List HostEvent). BehindSo key taken from (first_of key) (past ++ told) framed_next l) (sym is)
+          (None_left (subst (λ (l : List Entry). AtOpen key taken from (past ++ l) framed_next) (sym are) (passes key taken from shows ground past m f rest behind told marks sure well now known are marked brings goes)))
 
-      one_left : (event : HostEvent) → behind ≡ event ∷ [] → OneLeft key taken (past ++ acknowledges ∷ marks) framed_next event → Left
+      one_left : (event : HostEvent) → behind ≡ event ∷ [] → OneLeft key taken from (past ++ acknowledges ∷ marks) framed_next event → Left
       one_left event is left =
-          subst (λ (l : List HostEvent). BehindSo key taken (first_of key) (past ++ told) framed_next l) (sym is)
-          (One_left event (subst (λ (l : List Entry). OneLeft key taken (past ++ l) framed_next event) (sym are) left))
+          subst (λ (l : List HostEvent). BehindSo key taken from (first_of key) (past ++ told) framed_next l) (sym is)
+          (One_left event (subst (λ (l : List Entry). OneLeft key taken from (past ++ l) framed_next event) (sym are) left))
 
       told_left : (event : RequestsEvent) → IsFrameEvent event → behind ≡ told_requests event → NextIs (next_at m.state.requests event) → Left
       told_left event framed is nexts =
-          one_left (Requests_do event BetweenTicks) is (hears key taken shows ground past m f rest behind told marks sure well now known are marked brings tells asking event framed is nexts)
+          one_left (Requests_do event BetweenTicks) is (hears key taken from shows ground past m f rest behind told marks sure well now known are marked brings tells asking event framed is nexts)
 
       update_left : (update : Update) (brought : Option ℕ) → interviewed_by m.state.requests update ≡ brought → InterviewEvents update brought behind → NextIs (next_at m.state.requests (Updates update)) → Left
       update_left (Received n basic generic specific classes) (Some capability) is (inl these) nexts =
           one_left (Interviews n _ classes (Received n basic generic specific classes)) these
-          (interviewed key taken shows ground past m f rest behind told marks sure well now known are marked brings n basic generic specific classes capability is _ these)
+          (interviewed key taken from shows ground past m f rest behind told marks sure well now known are marked brings n basic generic specific classes capability is _ these)
       update_left (Received n basic generic specific classes) (Some capability) is (inr these) nexts =
           one_left (Interview_unkept n (Received n basic generic specific classes)) these
-          (interview_unkept key taken shows ground past m f rest behind told marks sure well now known are marked brings n basic generic specific classes capability is these)
+          (interview_unkept key taken from shows ground past m f rest behind told marks sure well now known are marked brings n basic generic specific classes capability is these)
       update_left RequestFailed (Some capability) is these nexts = absurd (let bad : ◌≡◌ {A = Option ℕ} None (Some capability) = is in cc)
       update_left (Received n basic generic specific classes) None is these nexts = told_left (Updates (Received n basic generic specific classes)) tt these nexts
       update_left RequestFailed None is these nexts = told_left (Updates RequestFailed) tt these nexts
@@ -147,26 +148,26 @@ module _ (key : List ℕ) (taken : List Entry → Carried → List Told) (tells 
 
   -- ---- by what the item is
 
-  module _ (past told : List Entry) (m : HostMachine) (rest : List LineUnit) (behind : List HostEvent) (sure : SureRun taken (first_of key) Open past m) (known : AtOpen key taken past m) where
+  module _ (past told : List Entry) (m : HostMachine) (rest : List LineUnit) (behind : List HostEvent) (sure : SureRun taken (first_of key) Open past m) (known : AtOpen key taken from past m) where
     abbrev Then : Item → Type 0
-    Then item = BehindSo key taken (first_of key) (past ++ told) (record (done m (Hears item)) { came = rest }) behind
+    Then item = BehindSo key taken from (first_of key) (past ++ told) (record (done m (Hears item)) { came = rest }) behind
 
-    refusal_left : (refusal : Refusal) → rest ≡ m.came → behind ≡ [] → AtOpen key taken (past ++ told) (record (done m (Hears (Refused refusal))) { came = rest }) → Then (Refused refusal)
+    refusal_left : (refusal : Refusal) → rest ≡ m.came → behind ≡ [] → AtOpen key taken from (past ++ told) (record (done m (Hears (Refused refusal))) { came = rest }) → Then (Refused refusal)
     refusal_left refusal still is opens =
-        subst (λ (l : List HostEvent). BehindSo key taken (first_of key) (past ++ told) (record (done m (Hears (Refused refusal))) { came = rest }) l) (sym is) (None_left opens)
+        subst (λ (l : List HostEvent). BehindSo key taken from (first_of key) (past ++ told) (record (done m (Hears (Refused refusal))) { came = rest }) l) (sym is) (None_left opens)
 
     refused_left : (refusal : Refusal) → IsJudgedNow m (Refused refusal) rest behind told → Then (Refused refusal)
     refused_left refusal now = refusal_left refusal now.takes now.followed (by refusal now.told_so)
       where
-        quiet : told ≡ [] → AtOpen key taken (past ++ told) (record (done m (Hears (Refused refusal))) { came = rest })
-        quiet none = unanswered key taken shows ground past m (Refused refusal) rest told sure known now.takes none
+        quiet : told ≡ [] → AtOpen key taken from (past ++ told) (record (done m (Hears (Refused refusal))) { came = rest })
+        quiet none = unanswered key taken from shows ground past m (Refused refusal) rest told sure known now.takes none
 
-        denied : AreTold (Write Nak ∷ []) told → AtOpen key taken (past ++ told) (record (done m (Hears (Refused refusal))) { came = rest })
+        denied : AreTold (Write Nak ∷ []) told → AtOpen key taken from (past ++ told) (record (done m (Hears (Refused refusal))) { came = rest })
         denied (marks, more, is, marked, none) =
-            refused key taken shows ground past m (Refused refusal) rest told sure known now.takes marks marked
+            refused key taken from shows ground past m (Refused refusal) rest told sure known now.takes marks marked
             (is ∙ ap (λ (l : List Entry). entry.Written Host (NAK ∷ []) ∷ (marks ++ l)) none ∙ ap (λ (l : List Entry). entry.Written Host (NAK ∷ []) ∷ l) (append-nil marks)) now.numbered
 
-        by : (r : Refusal) → AreTold (answer_to (Refused r)) told → AtOpen key taken (past ++ told) (record (done m (Hears (Refused refusal))) { came = rest })
+        by : (r : Refusal) → AreTold (answer_to (Refused r)) told → AtOpen key taken from (past ++ told) (record (done m (Hears (Refused refusal))) { came = rest })
         by (BadSum want got) are = denied are
         by (BadKind x) are = denied are
         by (Stray x) are = quiet are
@@ -182,13 +183,13 @@ module _ (key : List ℕ) (taken : List Entry → Carried → List Told) (tells 
 
       answer_none : behind ≡ [] → Then (Good unit)
       answer_none is =
-          subst (λ (l : List HostEvent). BehindSo key taken (first_of key) (past ++ told) answered_next l) (sym is)
-          (subst (λ (l : List Entry). BehindSo key taken (first_of key) l answered_next []) at (None_left (rests key taken shows asking ground past m unit rest behind told sure well now known none unframed)))
+          subst (λ (l : List HostEvent). BehindSo key taken from (first_of key) (past ++ told) answered_next l) (sym is)
+          (subst (λ (l : List Entry). BehindSo key taken from (first_of key) l answered_next []) at (None_left (rests key taken from shows asking ground past m unit rest behind told sure well now known none unframed)))
 
-      answer_one : (event : HostEvent) → behind ≡ event ∷ [] → OneLeft key taken past answered_next event → Then (Good unit)
+      answer_one : (event : HostEvent) → behind ≡ event ∷ [] → OneLeft key taken from past answered_next event → Then (Good unit)
       answer_one event is left =
-          subst (λ (l : List HostEvent). BehindSo key taken (first_of key) (past ++ told) answered_next l) (sym is)
-          (subst (λ (l : List Entry). BehindSo key taken (first_of key) l answered_next (event ∷ [])) at (One_left event left))
+          subst (λ (l : List HostEvent). BehindSo key taken from (first_of key) (past ++ told) answered_next l) (sym is)
+          (subst (λ (l : List Entry). BehindSo key taken from (first_of key) l answered_next (event ∷ [])) at (One_left event left))
 
     ack_left : SureStep taken sure.run (Judges (Good Ack) rest behind told) → IsJudgedNow m (Good Ack) rest behind told → Then (Good Ack)
     ack_left well now = by (is_busy m.state.side.turn) now.followed
@@ -196,7 +197,7 @@ module _ (key : List ℕ) (taken : List Entry → Carried → List Told) (tells 
         by : (b : Bool) → behind ≡ told_if b IsSent → Then (Good Ack)
         by true is =
             answer_one Ack (λ x. x) well now now.told_so (Requests_do IsSent BetweenTicks) is
-            (acknowledged_so key taken shows asking ground past m Ack rest behind told sure well now known now.told_so (λ x. x))
+            (acknowledged_so key taken from shows asking ground past m Ack rest behind told sure well now known now.told_so (λ x. x))
         by false is = answer_none Ack (λ x. x) well now now.told_so is
 
     nak_left : SureStep taken sure.run (Judges (Good Nak) rest behind told) → IsJudgedNow m (Good Nak) rest behind told → Then (Good Nak)
@@ -205,7 +206,7 @@ module _ (key : List ℕ) (taken : List Entry → Carried → List Told) (tells 
         by : (b : Bool) → gives_up m.state.side.turn (turn_refused m.state.side.turn) ≡ b → behind ≡ told_if b Fails → Then (Good Nak)
         by true gives is =
             answer_one Nak (λ x. x) well now now.told_so (Requests_do Fails BetweenTicks) is
-            (fails_so key taken shows asking ground past m Nak rest behind told sure well now known now.told_so (λ x. x) (unit_text Nak) refl refl gives is)
+            (fails_so key taken from shows asking ground past m Nak rest behind told sure well now known now.told_so (λ x. x) (unit_text Nak) refl refl gives is)
         by false gives is = answer_none Nak (λ x. x) well now now.told_so is
 
     can_left : SureStep taken sure.run (Judges (Good Can) rest behind told) → IsJudgedNow m (Good Can) rest behind told → Then (Good Can)
@@ -214,7 +215,7 @@ module _ (key : List ℕ) (taken : List Entry → Carried → List Told) (tells 
         by : (b : Bool) → gives_up m.state.side.turn (turn_refused m.state.side.turn) ≡ b → behind ≡ told_if b Fails → Then (Good Can)
         by true gives is =
             answer_one Can (λ x. x) well now now.told_so (Requests_do Fails BetweenTicks) is
-            (fails_so key taken shows asking ground past m Can rest behind told sure well now known now.told_so (λ x. x) (unit_text Can) refl refl gives is)
+            (fails_so key taken from shows asking ground past m Can rest behind told sure well now known now.told_so (λ x. x) (unit_text Can) refl refl gives is)
         by false gives is = answer_none Can (λ x. x) well now now.told_so is
 
     frame_left : (f : FrameParts) → SureStep taken sure.run (Judges (Good (Framed f)) rest behind told) → IsJudgedNow m (Good (Framed f)) rest behind told → (BringsPayload (Good (Framed f)) → ⊥) → Then (Good (Framed f))
@@ -227,12 +228,12 @@ module _ (key : List ℕ) (taken : List Entry → Carried → List Told) (tells 
             framed_left past m f rest behind told marks sure well now known are marked no_payload
 
   pub item_follows : (next : Phase) (past told : List Entry) (m : HostMachine) (item : Item) (rest : List LineUnit) (behind : List HostEvent) → (BringsPayload item → ⊥)
-      → StepFollows key taken Open past m (Judges item rest behind told) next
+      → StepFollows key taken from Open past m (Judges item rest behind told) next
   item_follows next past told m item rest behind no_payload sure well may known =
-      subst (λ (p : Phase). KnowsCourse key taken (first_of key) p (past ++ told) (happens m (Judges item rest behind told))) (sym may.2) (by item no_payload well may.1)
+      subst (λ (p : Phase). KnowsCourse key taken from (first_of key) p (past ++ told) (happens m (Judges item rest behind told))) (sym may.2) (by item no_payload well may.1)
     where
       by : (item : Item) → (BringsPayload item → ⊥) → SureStep taken sure.run (Judges item rest behind told) → IsJudgedNow m item rest behind told
-          → BehindSo key taken (first_of key) (past ++ told) (record (done m (Hears item)) { came = rest }) behind
+          → BehindSo key taken from (first_of key) (past ++ told) (record (done m (Hears item)) { came = rest }) behind
       by (Good Ack) unpaid well now = ack_left past told m rest behind sure known well now
       by (Good Nak) unpaid well now = nak_left past told m rest behind sure known well now
       by (Good Can) unpaid well now = can_left past told m rest behind sure known well now

@@ -5,6 +5,9 @@ pub mod Choosing
 mod Fitted
 mod Grounding
 mod Whole
+mod InFull
+mod KeptBooks
+mod Starting
 mod LeftNodes
 mod TickBooks
 mod TickChosen

@@ -37,6 +37,7 @@ use Rattle.proof_hearing.specs.proof_queue.proof_attempts.proof_requests.law_hos
 use Rattle.proof_hearing.specs.proof_queue.proof_attempts.proof_requests.law_host.Following.{comes_to, course_after, has_heard, has_ticked, is_before_host, is_of_host, after as followed}
 use Rattle.proof_hearing.specs.proof_queue.proof_attempts.proof_requests.law_host.Heard.{heeds_alone}
 use Rattle.proof_hearing.specs.proof_queue.proof_attempts.proof_requests.law_host.Nonces.{is_late}
+use Rattle.proof_hearing.specs.proof_queue.proof_attempts.proof_requests.law_host.Notes.{Start}
 use Rattle.proof_hearing.specs.proof_queue.proof_attempts.proof_requests.law_host.Ticks.{denies, ticks}
 use Rattle.proof_hearing.specs.proof_queue.proof_attempts.proof_requests.proof_alone.Phases.{Phase, Resting, Asked, Open}
 use Rattle.proof_hearing.specs.proof_queue.proof_attempts.proof_requests.proof_alone.State.{HostMachine, done}
@@ -92,7 +93,7 @@ module _ (heeds : Heeds) (past : List Entry) (c : Course) (at : c.ticked ≡ clo
 
 -- ---- words
 
-module _ (key : List ℕ) (taken : List Entry → Carried → List Told) (shows : ShowsOpen) where
+module _ (key : List ℕ) (taken : List Entry → Carried → List Told) (from : Start) (shows : ShowsOpen) where
   abbrev heeds : Heeds
   heeds = heeds_alone taken
 
@@ -101,7 +102,7 @@ module _ (key : List ℕ) (taken : List Entry → Carried → List Told) (shows 
   said m left = record m { left = left; awaits = false }
 
   module _ (next : Phase) (past : List Entry) (m : HostMachine) (words : List ℕ) (left : ℕ) (ground : NotingGround taken Resting past m)
-      (after : NotingGround taken next (past ++ entry.Said words ∷ []) (said m left)) (over : m.left ≡ 0) (at : AtRest key taken past m) where
+      (after : NotingGround taken next (past ++ entry.Said words ∷ []) (said m left)) (over : m.left ≡ 0) (at : AtRest key taken from past m) where
     abbrev told : List Entry
     told = entry.Said words ∷ []
 
@@ -148,11 +149,11 @@ module _ (key : List ℕ) (taken : List Entry → Carried → List Told) (shows 
     now_then = now_is taken next (past ++ told) (said m left) after refl
 
     -- they do not start it again
-    pub words_go_on : is_restart (line_of (entry.Said words)) ≡ false → IsSaid key taken (past ++ told) (said m left)
+    pub words_go_on : is_restart (line_of (entry.Said words)) ≡ false → IsSaid key taken from (past ++ told) (said m left)
     words_go_on on = (
       record {
         course = gone;
-        of = course_goes heeds past told at.course gone refl at.of
+        of = course_goes heeds from past told at.course gone refl at.of
             (goes_on heeds past told at.course gone (λ keepings texts. said_after [] keepings texts
             ∙ ap (λ (r : Bool). if r && not (begins_refused []) then restarted (choosing keepings texts gone) else choosing keepings texts gone) on));
         follows = follows_by (past ++ told) (said m left) refl level;
@@ -169,10 +170,10 @@ module _ (key : List ℕ) (taken : List Entry → Carried → List Told) (shows 
             (λ lags. stays_on past told (read_framed (asked past).frame (request_of lags.purpose lags.id) lags.request) (asked_said past words on) (tt, tt)) b.2
 
     -- they do
-    words_anew : is_restart (line_of (entry.Said words)) ≡ true → Anew key taken (past ++ told) (said m left)
+    words_anew : is_restart (line_of (entry.Said words)) ≡ true → Anew key taken from (past ++ told) (said m left)
     words_anew anew = record {
       course = gone;
-      of = course_goes heeds past told at.course (restarted gone) refl at.of
+      of = course_goes heeds from past told at.course (restarted gone) refl at.of
           (goes_on heeds past told at.course (restarted gone) (λ keepings texts. said_after [] keepings texts
           ∙ ap (λ (r : Bool). if r && not (begins_refused []) then restarted (choosing keepings texts gone) else choosing keepings texts gone) anew));
       fits = b.0.fits;
@@ -184,8 +185,8 @@ module _ (key : List ℕ) (taken : List Entry → Carried → List Told) (shows 
     }
 
     -- they are refused
-    words_in_vain : (refusal : Refusal) → IsSaid key taken ((past ++ told) ++ entry.Refused refusal ∷ []) (said m left)
-    words_in_vain refusal = subst (λ (l : List Entry). IsSaid key taken l (said m left)) (sym (append_assoc past told (entry.Refused refusal ∷ []))) whole
+    words_in_vain : (refusal : Refusal) → IsSaid key taken from ((past ++ told) ++ entry.Refused refusal ∷ []) (said m left)
+    words_in_vain refusal = subst (λ (l : List Entry). IsSaid key taken from l (said m left)) (sym (append_assoc past told (entry.Refused refusal ∷ []))) whole
       where
         same_time : clock (past ++ in_vain refusal) ≡ m.clock
         same_time =
@@ -208,11 +209,11 @@ module _ (key : List ℕ) (taken : List Entry → Carried → List Told) (shows 
             (done_comes heeds (past ++ told) (entry.Refused refusal) (choosing keepings texts gone) tt b.0.none_due
             (le-ltb gone.ticked (clock (past ++ told)) (let at = b.1 in let now = now_then in omega (arith, at, now))) refl) b.0.none_due b.0.fits refl
 
-        whole : IsSaid key taken (past ++ in_vain refusal) (said m left)
+        whole : IsSaid key taken from (past ++ in_vain refusal) (said m left)
         whole = (
           record {
             course = gone;
-            of = course_goes heeds past (in_vain refusal) at.course gone refl at.of (goes_on heeds past (in_vain refusal) at.course gone refused);
+            of = course_goes heeds from past (in_vain refusal) at.course gone refl at.of (goes_on heeds past (in_vain refusal) at.course gone refused);
             follows = follows_by (past ++ in_vain refusal) (said m left) refl level;
             frames = at.frames;
           },
@@ -220,7 +221,7 @@ module _ (key : List ℕ) (taken : List Entry → Carried → List Told) (shows 
           level,
         )
 
-    pub at_words : (line : Line) → line_of (entry.Said words) ≡ line ∷ [] → AtWords key taken line (past ++ told) (said m left)
+    pub at_words : (line : Line) → line_of (entry.Said words) ≡ line ∷ [] → AtWords key taken from line (past ++ told) (said m left)
     at_words line read = record {
       before = past;
       words = words;
@@ -238,10 +239,10 @@ module _ (key : List ℕ) (taken : List Entry → Carried → List Told) (shows 
   module _ (line : Line) (past told : List Entry) (m k : HostMachine) (ground : NotingGround taken (Asked line) past m) (after : NotingGround taken Open (past ++ told) k)
       (left : LeavesBooks m.state k.state) (time : k.clock ≡ m.clock) (came : k.came ≡ m.came) (quiet : AllByRecursion IsQuietEntry told)
       (same : (n : ℕ) → IsNode n → attempts_so_far heeds n (past ++ told) ≡ attempts_so_far heeds n past) where
-    answered_on : (begins_refused told ≡ false) → (s : IsSaid key taken past m) → Goes heeds past told s.0.course s.0.course → AtOpen key taken (past ++ told) k
+    answered_on : (begins_refused told ≡ false) → (s : IsSaid key taken from past m) → Goes heeds past told s.0.course s.0.course → AtOpen key taken from (past ++ told) k
     answered_on fresh s goes = record {
       course = s.0.course;
-      of = course_goes heeds past told s.0.course s.0.course fresh s.0.of goes;
+      of = course_goes heeds from past told s.0.course s.0.course fresh s.0.of goes;
       follows = record {
         fits = s.0.follows.fits;
         none_due = s.0.follows.none_due;
@@ -264,12 +265,12 @@ module _ (key : List ℕ) (taken : List Entry → Carried → List Told) (shows 
             (λ lags. stays_quiet past told (read_framed (asked past).frame (request_of lags.purpose lags.id) lags.request) quiet) s.2
 
   asks_at : (line : Line) (past : List Entry) (m : HostMachine) (event : HostEvent) → NotingGround taken (Asked line) past m → NotingGround taken Open (past ++ answers m.state event) (done m event)
-      → IsAskedBy line m.state event → MayAll m.state (event ∷ []) → AtWords key taken line past m → AtOpen key taken (past ++ answers m.state event) (done m event)
+      → IsAskedBy line m.state event → MayAll m.state (event ∷ []) → AtWords key taken from line past m → AtOpen key taken from (past ++ answers m.state event) (done m event)
   asks_at line past m event ground after is may known =
       answered_on line past (answers m.state event) m (done m event) ground after (asked_left line m.state event is) refl refl (answers_quiet m.state event (is_asked line m.state event is))
       (λ n node. answers_leave taken n node.1 past m.state event (is_asked line m.state event is) may.0 (ground_of (Asked line) past m ground.grounds).0.0.0.0.0.facts) go.0 s go.1
     where
-      s : IsSaid key taken past m
+      s : IsSaid key taken from past m
       s = known.goes_on (asked_on line m.state event is)
 
       go : (begins_refused (answers m.state event) ≡ false) × Goes heeds past (answers m.state event) s.0.course s.0.course
@@ -277,24 +278,24 @@ module _ (key : List ℕ) (taken : List Entry → Carried → List Told) (shows 
           answers_go heeds past s.0.course (s.1 ∙ sym (now_is taken (Asked line) past m ground known.unnumbered)) s.0.follows.fits s.0.follows.none_due m.state event
 
   shows_at : (node : ℕ) (text : List ℕ) (past : List Entry) (m : HostMachine) → NotingGround taken (Asked (lines.Store node)) past m → NotingGround taken Open (past ++ entry.Json text ∷ []) m
-      → AtWords key taken (lines.Store node) past m → AtOpen key taken (past ++ entry.Json text ∷ []) m
+      → AtWords key taken from (lines.Store node) past m → AtOpen key taken from (past ++ entry.Json text ∷ []) m
   shows_at node text past m ground after known =
       answered_on (lines.Store node) past (entry.Json text ∷ []) m m ground after (same_left m.state) refl refl (tt, tt)
       (λ n is. attempts_left taken n past (entry.Json text ∷ []) (tt, tt)) refl s
       (done_goes heeds past (entry.Json text) s.0.course (shown_plain text) (s.1 ∙ sym (now_is taken (Asked (lines.Store node)) past m ground known.unnumbered)) s.0.follows.fits s.0.follows.none_due)
     where
-      s : IsSaid key taken past m
+      s : IsSaid key taken from past m
       s = known.goes_on refl
 
   -- the same at the part that begins then
-  said_open : (past : List Entry) (m : HostMachine) → IsSaid key taken past m → AtOpen key taken past m
+  said_open : (past : List Entry) (m : HostMachine) → IsSaid key taken from past m → AtOpen key taken from past m
   said_open past m s = record { course = s.0.course; of = s.0.of; follows = s.0.follows; answered = inl s.0.frames }
 
   -- ---- steps
 
   module _ (along : GroundAlong taken (first_of key)) where
     abbrev Knows : Phase → List Entry → HostMachine → Type 0
-    Knows here past m = KnowsCourse key taken (first_of key) here past m
+    Knows here past m = KnowsCourse key taken from (first_of key) here past m
 
     leads : (here next : Phase) (later : List Entry) (k : HostMachine) → next ≡ here → Knows here later k → Knows next later k
     leads here next later k is known = subst (λ (p : Phase). Knows p later k) (sym is) known
@@ -305,7 +306,7 @@ module _ (key : List ℕ) (taken : List Entry → Carried → List Told) (shows 
     as_known : (here is : Phase) (past : List Entry) (m : HostMachine) → here ≡ is → Knows here past m → Knows is past m
     as_known here is past m same known = subst (λ (p : Phase). Knows p past m) same known
 
-    pub says : (here next : Phase) (past : List Entry) (m : HostMachine) (words : List ℕ) (line : Line) → StepFollows key taken here past m (Says words line) next
+    pub says : (here next : Phase) (past : List Entry) (m : HostMachine) (words : List ℕ) (line : Line) → StepFollows key taken from here past m (Says words line) next
     says here next past m words line sure so may known =
         leads (Asked line) next (past ++ entry.Said words ∷ []) (happens m (Says words line)) may.3
         (at_words (Asked line) past m words (ticks_of line) (grounds here Resting past m may.0 (along here past m sure))
@@ -313,7 +314,7 @@ module _ (key : List ℕ) (taken : List Entry → Carried → List Told) (shows 
         (along next (past ++ entry.Said words ∷ []) (happens m (Says words line)) (sure_step taken (first_of key) sure (Says words line) may so)))
         may.1 (as_known here Resting past m may.0 known) line may.2)
 
-    pub says_nothing : (here next : Phase) (past : List Entry) (m : HostMachine) (words : List ℕ) → StepFollows key taken here past m (Says_nothing words) next
+    pub says_nothing : (here next : Phase) (past : List Entry) (m : HostMachine) (words : List ℕ) → StepFollows key taken from here past m (Says_nothing words) next
     says_nothing here next past m words sure so may known =
         leads Resting next (past ++ entry.Said words ∷ []) (happens m (Says_nothing words)) (may.3 ∙ may.0)
         (words_go_on Resting past m words m.left (grounds here Resting past m may.0 (along here past m sure))
@@ -321,7 +322,7 @@ module _ (key : List ℕ) (taken : List Entry → Carried → List Told) (shows 
         (along next (past ++ entry.Said words ∷ []) (happens m (Says_nothing words)) (sure_step taken (first_of key) sure (Says_nothing words) may so)))
         may.1 (as_known here Resting past m may.0 known) (ap is_restart may.2)).0
 
-    pub asks : (here next : Phase) (past : List Entry) (m : HostMachine) (event : HostEvent) → StepFollows key taken here past m (Asks event) next
+    pub asks : (here next : Phase) (past : List Entry) (m : HostMachine) (event : HostEvent) → StepFollows key taken from here past m (Asks event) next
     asks here next past m event sure so may known =
         leads Open next (past ++ answers m.state event) (done m event) may.5
         (asks_at may.0 past m event (grounds here (Asked may.0) past m may.1 (along here past m sure))
@@ -329,12 +330,12 @@ module _ (key : List ℕ) (taken : List Entry → Carried → List Told) (shows 
         (along next (past ++ answers m.state event) (done m event) (sure_step taken (first_of key) sure (Asks event) may so)))
         may.2 may.3 (as_known here (Asked may.0) past m may.1 known))
 
-    pub refuses : (here next : Phase) (past : List Entry) (m : HostMachine) (refusal : Refusal) → StepFollows key taken here past m (Refuses refusal) next
+    pub refuses : (here next : Phase) (past : List Entry) (m : HostMachine) (refusal : Refusal) → StepFollows key taken from here past m (Refuses refusal) next
     refuses here next past m refusal sure so may known =
         leads Open next (past ++ entry.Refused refusal ∷ []) m may.4
         (said_open (past ++ entry.Refused refusal ∷ []) m ((as_known here (Asked may.0) past m may.1 known).in_vain refusal))
 
-    pub shows_stored : (here next : Phase) (past : List Entry) (m : HostMachine) (node : ℕ) → StepFollows key taken here past m (Shows node) next
+    pub shows_stored : (here next : Phase) (past : List Entry) (m : HostMachine) (node : ℕ) → StepFollows key taken from here past m (Shows node) next
     shows_stored here next past m node sure so may known =
         leads Open next (past ++ shown_values m.state node ∷ []) m may.2
         (shows_at node _ past m (grounds here (Asked (lines.Store node)) past m may.0 (along here past m sure))

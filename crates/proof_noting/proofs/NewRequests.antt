@@ -61,6 +61,7 @@ use Rattle.proof_hearing.specs.proof_queue.proof_attempts.proof_requests.law_hos
 use Rattle.proof_hearing.specs.proof_queue.proof_attempts.proof_requests.law_host.Heard.{heeds_alone}
 use Rattle.proof_hearing.specs.proof_queue.proof_attempts.proof_requests.law_host.HostLegal.{IsHeeded}
 use Rattle.proof_hearing.specs.proof_queue.proof_attempts.proof_requests.law_host.Nonces.{is_late, sends}
+use Rattle.proof_hearing.specs.proof_queue.proof_attempts.proof_requests.law_host.Notes.{Start}
 use Rattle.proof_hearing.specs.proof_queue.proof_attempts.proof_requests.proof_alone.Phases.{IsNumbered, Submitting}
 use Rattle.proof_hearing.specs.proof_queue.proof_attempts.proof_requests.proof_alone.State.{HostMachine, done}
 use Rattle.proof_hearing.specs.proof_queue.proof_attempts.proof_requests.proof_alone.Steps.{AreTold, IsOfUnit}
@@ -110,7 +111,7 @@ segment_runs Running s is facts has = is
 segment_runs Idle s is facts has = absurd (no_segment s facts.1.no_segments has)
 segment_runs Due s is facts has = absurd (no_segment s facts.2.no_segments has)
 
-module _ (shows : ShowsOpen) (key : List ℕ) (taken : List Entry → Carried → List Told) (past : List Entry) (m : HostMachine) (ground : NotingGround taken Submitting past m) (known : AtRest key taken past m) where
+module _ (shows : ShowsOpen) (key : List ℕ) (taken : List Entry → Carried → List Told) (from : Start) (past : List Entry) (m : HostMachine) (ground : NotingGround taken Submitting past m) (known : AtRest key taken from past m) where
   abbrev heeds : Heeds
   heeds = heeds_alone taken
 
@@ -202,14 +203,14 @@ module _ (shows : ShowsOpen) (key : List ℕ) (taken : List Entry → Carried �
 
     -- where its books go together
     asked_rests : (event : HostEvent) → (after h event).requests.under_way ≡ Some (record { purpose = purpose; progress = Submitted })
-        → ((course : Course) (books : BooksSo key heeds past h course) → Sent key taken past later h course books (after h event) unit) → AtRest key taken later (done m event)
+        → ((course : Course) (books : BooksSo key heeds past h course) → Sent key taken past later h course books (after h event) unit) → AtRest key taken from later (done m event)
     asked_rests event under_way sends_well =
         let sent = sends_well (record reached { over = false; fits = true }) reached_books in
         let g : HostState = after h event in
         let rest = rest_so g sent in
         record {
           course = requested g sent;
-          of = course_goes heeds past (wrote ∷ marks) known.course (requested g sent) refl known.of (on g sent);
+          of = course_goes heeds from past (wrote ∷ marks) known.course (requested g sent) refl known.of (on g sent);
           follows = record {
             fits = ap (λ (c : Course). c.fits) rest;
             none_due = ap (λ (c : Course). c.due) rest ∙ came.0.none_due;
@@ -233,19 +234,19 @@ module _ (shows : ShowsOpen) (key : List ℕ) (taken : List Entry → Carried �
 
   submits : (event : HostEvent) (purpose : Purpose) (told : List Entry) → AreTold (Write (Framed (frame_of purpose id)) ∷ []) told → IsNumbered m told → IsFree h → ReadsAs h purpose
       → WantsFit purpose (map want_of_task h.requests.queue) → (after h event).requests.under_way ≡ Some (record { purpose = purpose; progress = Submitted }) → WellSent event purpose
-      → AtRest key taken (past ++ told) (done m event)
+      → AtRest key taken from (past ++ told) (done m event)
   submits event purpose told are numbered free read fits under_way well =
       let written : IsWritten (unit_of purpose) told = written_told (frame_of purpose id) told are in
       let wrote : Entry = entry.Written Host (unit_of purpose) in
       let awaits : m.awaits ≡ false = not_awaiting m.awaits wrote told written.rest numbered written.are in
       let time : clock past ≡ m.clock = time_told Submitting past told m request_ground numbered wrote written.rest written.are in
-      subst (λ (l : List Entry). AtRest key taken (past ++ l) (done m event)) (sym written.are)
+      subst (λ (l : List Entry). AtRest key taken from (past ++ l) (done m event)) (sym written.are)
       (asked_rests purpose written.rest written.marks free awaits time read fits event under_way (λ course books. well written.rest written.marks awaits time course books))
 
   -- ---- each of them
 
   module _ (point : (n : ℕ) → IsNode n → (is_late heeds past n ≡ true → (node_of h n).pending ≡ None) → Point key heeds past n h) (others : AreOther h.requests.queue) where
-    abort_goes : (told : List Entry) → IsNext h Submits_abort → ReadsAs h Abort → AreTold (outs h Submits_abort) told → IsNumbered m told → AtRest key taken (past ++ told) (done m Submits_abort)
+    abort_goes : (told : List Entry) → IsNext h Submits_abort → ReadsAs h Abort → AreTold (outs h Submits_abort) told → IsNumbered m told → AtRest key taken from (past ++ told) (done m Submits_abort)
     abort_goes told next read are numbered =
         submits Submits_abort Abort told are numbered next.0 read tt refl
         (λ marks all awaits time course books.
@@ -271,7 +272,7 @@ module _ (shows : ShowsOpen) (key : List ℕ) (taken : List Entry → Carried �
           offers t can = tt
 
     front_goes : (told : List Entry) → IsNext h Submits_front → (h.requests.queue ≡ [] → ⊥) → ReadsAs h (task_purpose h.requests.queue) → AreRead h.requests.queue → AreTold (outs h Submits_front) told
-        → IsNumbered m told → AtRest key taken (past ++ told) (done m Submits_front)
+        → IsNumbered m told → AtRest key taken from (past ++ told) (done m Submits_front)
     front_goes told next some read can are numbered =
         submits Submits_front (task_purpose h.requests.queue) told are numbered next.0 read (front_fits h.requests.queue some) (front_now h h.requests.queue refl some) (by h.requests.queue refl)
       where
@@ -327,7 +328,7 @@ module _ (shows : ShowsOpen) (key : List ℕ) (taken : List Entry → Carried �
             (λ own. ap (λ (l : List Carried). list_any (λ (carried : Carried). goes_on carried.payload) l) part_carried ∙ ap (λ (b : Bool). b || false) goes)
 
     starts_goes : (n : ℕ) (plan : Plan) (more : Bool) (payload : List ℕ) (told : List Entry) → MayAll h (Starts n plan more payload ∷ []) → ReadsAs h (Attempt n more payload)
-        → AreTold (outs h (Starts n plan more payload)) told → IsNumbered m told → AtRest key taken (past ++ told) (done m (Starts n plan more payload))
+        → AreTold (outs h (Starts n plan more payload)) told → IsNumbered m told → AtRest key taken from (past ++ told) (done m (Starts n plan more payload))
     starts_goes n plan more payload told may read are numbered =
         let served : IsNode n = served_is_node h n may.0.0.next in
         let free : IsFree h = may.0.0.free in
@@ -339,7 +340,7 @@ module _ (shows : ShowsOpen) (key : List ℕ) (taken : List Entry → Carried �
         (part_carried n more payload served free none read marks all awaits time))
 
     text_goes : (n : ℕ) (payload : List ℕ) (told : List Entry) → MayAll h (Gives_text n payload ∷ []) → ReadsAs h (Attempt n false payload) → AreTold (outs h (Gives_text n payload)) told → IsNumbered m told
-        → AtRest key taken (past ++ told) (done m (Gives_text n payload))
+        → AtRest key taken from (past ++ told) (done m (Gives_text n payload))
     text_goes n payload told may read are numbered =
         let served : IsNode n = served_is_node h n may.0.0.next in
         let free : IsFree h = may.0.0.free in
@@ -363,7 +364,7 @@ module _ (shows : ShowsOpen) (key : List ℕ) (taken : List Entry → Carried �
         omega (arith, least, given)
 
     segment_goes : (n : ℕ) (more : Bool) (payload : List ℕ) (told : List Entry) → MayAll h (Gives_segment n more payload ∷ []) → ReadsAs h (Attempt n more payload)
-        → AreTold (outs h (Gives_segment n more payload)) told → IsNumbered m told → AtRest key taken (past ++ told) (done m (Gives_segment n more payload))
+        → AreTold (outs h (Gives_segment n more payload)) told → IsNumbered m told → AtRest key taken from (past ++ told) (done m (Gives_segment n more payload))
     segment_goes n more payload told may read are numbered =
         let served : IsNode n = served_is_node h n may.0.0.next in
         let free : IsFree h = may.0.0.free in
@@ -379,10 +380,10 @@ module _ (shows : ShowsOpen) (key : List ℕ) (taken : List Entry → Carried �
         (segment_late n more payload served free none read marks all awaits time has goes) (part_carried n more payload served free none read marks all awaits time))
 
     pub requests_go : PayloadsBring → (event : HostEvent) (told : List Entry) → IsRequest event → IsNext h event → MayAll h (event ∷ []) → AreTold (outs h event) told → IsNumbered m told
-        → AtRest key taken (past ++ told) (done m event)
+        → AtRest key taken from (past ++ told) (done m event)
     requests_go brings event told is next may are numbered = by event is next may are (event_is_read brings h event host may.0 request_ground.1.0)
       where
-        by : (event : HostEvent) → IsRequest event → IsNext h event → MayAll h (event ∷ []) → AreTold (outs h event) told → IsRead h event → AtRest key taken (past ++ told) (done m event)
+        by : (event : HostEvent) → IsRequest event → IsNext h event → MayAll h (event ∷ []) → AreTold (outs h event) told → IsRead h event → AtRest key taken from (past ++ told) (done m event)
         by Submits_abort is next may are read = abort_goes told next read are numbered
         by Submits_front is next may are read = front_goes told next may.0.2 read request_ground.1.0 are numbered
         by (Starts n plan more payload) is next may are read = starts_goes n plan more payload told may read are numbered

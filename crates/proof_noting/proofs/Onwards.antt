@@ -23,6 +23,7 @@ use Rattle.proof_hearing.specs.Hearing.{choosing}
 use Rattle.proof_hearing.specs.proof_queue.proof_attempts.proof_requests.law_host.Course.{Course}
 use Rattle.proof_hearing.specs.proof_queue.proof_attempts.proof_requests.law_host.Following.{comes_to, has_heard, has_ticked, is_before_host, is_of_host, may_stand}
 use Rattle.proof_hearing.specs.proof_queue.proof_attempts.proof_requests.law_host.Heard.{heeds_alone}
+use Rattle.proof_hearing.specs.proof_queue.proof_attempts.proof_requests.law_host.Notes.{Start}
 use Rattle.proof_hearing.specs.proof_queue.proof_attempts.proof_requests.law_host.Ticks.{denies, ticks}
 use Rattle.proof_hearing.specs.proof_queue.proof_attempts.proof_requests.proof_alone.Phases.{Phase}
 use Rattle.proof_hearing.specs.proof_queue.proof_attempts.proof_requests.proof_alone.State.{HostMachine}
@@ -150,7 +151,7 @@ now_is taken here past m ground awaits =
 pub same_quiet : (m : HostMachine) → (p : Purpose) → IsQuiet m.state p → IsQuiet m.state p
 same_quiet m p quiet = quiet
 
-module _ (key : List ℕ) (taken : List Entry → Carried → List Told) (shows : ShowsOpen) where
+module _ (key : List ℕ) (taken : List Entry → Carried → List Told) (from : Start) (shows : ShowsOpen) where
   abbrev heeds : Heeds
   heeds = heeds_alone taken
 
@@ -223,18 +224,18 @@ module _ (key : List ℕ) (taken : List Entry → Carried → List Told) (shows 
     -- ---- by the phase
 
     module _ (fresh : begins_refused (e ∷ marks) ≡ false) (awaits : m.awaits ≡ false) where
-      pub rests_on : IsIdle taken here → AreFrames k.came → AtRest key taken past m → AtRest key taken (past ++ e ∷ marks) k
+      pub rests_on : IsIdle taken here → AreFrames k.came → AtRest key taken from past m → AtRest key taken from (past ++ e ∷ marks) k
       rests_on idle frames at =
           let o = idle_onward idle awaits at.course (inl at.frames) at.follows in
-          record { course = o.0.next; of = course_goes heeds past (e ∷ marks) at.course o.0.next fresh at.of o.0.goes; follows = o.0.follows; frames = frames }
+          record { course = o.0.next; of = course_goes heeds from past (e ∷ marks) at.course o.0.next fresh at.of o.0.goes; follows = o.0.follows; frames = frames }
 
       pub opens_on : IsIdle taken here → (AreFrames m.came → AreFrames k.came ⊎ (is_before_host past e ≡ false)) → k.awaits ≡ false
-          → AtOpen key taken past m → AtOpen key taken (past ++ e ∷ marks) k
+          → AtOpen key taken from past m → AtOpen key taken from (past ++ e ∷ marks) k
       opens_on idle frames numbered at =
           let o = idle_onward idle awaits at.course at.answered at.follows in
           record {
             course = o.0.next;
-            of = course_goes heeds past (e ∷ marks) at.course o.0.next fresh at.of o.0.goes;
+            of = course_goes heeds from past (e ∷ marks) at.course o.0.next fresh at.of o.0.goes;
             follows = o.0.follows;
             answered = answered o.0.next o.1 o.2 at.answered;
           }
@@ -247,12 +248,12 @@ module _ (key : List ℕ) (taken : List Entry → Carried → List Told) (shows 
           answered d ticked still (inl all) = by_frames d ticked (frames all)
           answered d ticked still (inr (there, none)) = inr (still there ∙ sym time, numbered)
 
-      pub risen_on : is_before_host past e ≡ true → AreFrames k.came → NoneNoted key taken past m → NoneNoted key taken (past ++ e ∷ marks) k
+      pub risen_on : is_before_host past e ≡ true → AreFrames k.came → NoneNoted key taken from past m → NoneNoted key taken from (past ++ e ∷ marks) k
       risen_on before frames at =
           let o = before_onward before at.course at.follows in
           record {
             course = at.course;
-            of = course_goes heeds past (e ∷ marks) at.course at.course fresh at.of o.0;
+            of = course_goes heeds from past (e ∷ marks) at.course at.course fresh at.of o.0;
             follows = o.1;
             early = let early = at.early in omega (arith, early, time);
             frames = frames;

@@ -24,6 +24,7 @@ use Rattle.proof_hearing.specs.proof_queue.proof_attempts.Since.{IsElse}
 use Rattle.proof_hearing.specs.proof_queue.proof_attempts.proof_requests.law_host.Course.{Course}
 use Rattle.proof_hearing.specs.proof_queue.proof_attempts.proof_requests.law_host.Heard.{heeds_alone}
 use Rattle.proof_hearing.specs.proof_queue.proof_attempts.proof_requests.law_host.Following.{is_before_host}
+use Rattle.proof_hearing.specs.proof_queue.proof_attempts.proof_requests.law_host.Notes.{Start}
 use Rattle.proof_hearing.specs.proof_queue.proof_attempts.proof_requests.law_host.Ticks.{ticks}
 use Rattle.proof_hearing.specs.proof_queue.proof_attempts.proof_requests.proof_alone.Phases.{Phase, Resting, Asked, Risen, Ticking, Open, Behind, Sleeping, Submitting, IsBetween, MayCome}
 use Rattle.proof_hearing.specs.proof_queue.proof_attempts.proof_requests.proof_alone.State.{HostMachine}
@@ -79,9 +80,9 @@ resting_other is = cc
 risen_other : Risen ≡ Open → ⊥
 risen_other is = cc
 
-module _ (key : List ℕ) (taken : List Entry → Carried → List Told) (shows : ShowsOpen) where
+module _ (key : List ℕ) (taken : List Entry → Carried → List Told) (from : Start) (shows : ShowsOpen) where
   abbrev Knows : Phase → List Entry → HostMachine → Type 0
-  Knows here past m = KnowsCourse key taken (first_of key) here past m
+  Knows here past m = KnowsCourse key taken from (first_of key) here past m
 
   -- ---- an entry of others
 
@@ -94,12 +95,12 @@ module _ (key : List ℕ) (taken : List Entry → Carried → List Told) (shows 
 
     tells_at : (here : Phase) → NotingGround taken here past m → MayHear here (Tells e) → IsBetween here → Knows here past m → Knows here (past ++ e ∷ []) m
     tells_at Resting ground hears between known =
-        rests_on key taken shows Resting next past m m e [] ground after (same_left m.state) (same_quiet m) refl facts.plain tt (facts.leaves, tt) quietly (facts.fresh []) awaits tt known.frames known
+        rests_on key taken from shows Resting next past m m e [] ground after (same_left m.state) (same_quiet m) refl facts.plain tt (facts.leaves, tt) quietly (facts.fresh []) awaits tt known.frames known
     tells_at Open ground hears between known =
-        opens_on key taken shows Open next past m m e [] ground after (same_left m.state) (same_quiet m) refl facts.plain tt (facts.leaves, tt) quietly (facts.fresh []) awaits tt
+        opens_on key taken from shows Open next past m m e [] ground after (same_left m.state) (same_quiet m) refl facts.plain tt (facts.leaves, tt) quietly (facts.fresh []) awaits tt
         (λ frames. inl frames) awaits known
     tells_at Risen ground hears between known =
-        risen_on key taken shows Risen next past m m e [] ground after (same_left m.state) (same_quiet m) refl facts.plain tt (facts.leaves, tt) quietly (facts.fresh []) awaits
+        risen_on key taken from shows Risen next past m m e [] ground after (same_left m.state) (same_quiet m) refl facts.plain tt (facts.leaves, tt) quietly (facts.fresh []) awaits
         (facts.before hears past) known.frames known
     tells_at here ground hears between known = absurd between
 
@@ -110,13 +111,13 @@ module _ (key : List ℕ) (taken : List Entry → Carried → List Told) (shows 
     comes_at : (here : Phase) → NotingGround taken here past m → MayCome here unit → IsBetween here → Knows here past m
         → Knows here (past ++ entry.Written Chip (unit_text unit) ∷ []) (happens m (Comes unit))
     comes_at Resting ground may between known =
-        rests_on key taken shows Resting next past m (happens m (Comes unit)) (entry.Written Chip (unit_text unit)) [] ground after (same_left m.state) (same_quiet m) refl (chip_plain (unit_text unit)) tt (tt, tt)
+        rests_on key taken from shows Resting next past m (happens m (Comes unit)) (entry.Written Chip (unit_text unit)) [] ground after (same_left m.state) (same_quiet m) refl (chip_plain (unit_text unit)) tt (tt, tt)
         (unit_stays past unit) refl awaits tt (all-append IsFramed m.came (unit ∷ []) known.frames (only_framed Resting unit resting_other may, tt)) known
     comes_at Open ground may between known =
-        opens_on key taken shows Open next past m (happens m (Comes unit)) (entry.Written Chip (unit_text unit)) [] ground after (same_left m.state) (same_quiet m) refl (chip_plain (unit_text unit)) tt (tt, tt)
+        opens_on key taken from shows Open next past m (happens m (Comes unit)) (entry.Written Chip (unit_text unit)) [] ground after (same_left m.state) (same_quiet m) refl (chip_plain (unit_text unit)) tt (tt, tt)
         (unit_stays past unit) refl awaits tt (unit_frames past m.came unit) awaits known
     comes_at Risen ground may between known =
-        risen_on key taken shows Risen next past m (happens m (Comes unit)) (entry.Written Chip (unit_text unit)) [] ground after (same_left m.state) (same_quiet m) refl (chip_plain (unit_text unit)) tt (tt, tt)
+        risen_on key taken from shows Risen next past m (happens m (Comes unit)) (entry.Written Chip (unit_text unit)) [] ground after (same_left m.state) (same_quiet m) refl (chip_plain (unit_text unit)) tt (tt, tt)
         (unit_stays past unit) refl awaits (framed_before past unit (only_framed Risen unit risen_other may))
         (all-append IsFramed m.came (unit ∷ []) known.frames (only_framed Risen unit risen_other may, tt)) known
     comes_at here ground may between known = absurd between
@@ -130,13 +131,13 @@ module _ (key : List ℕ) (taken : List Entry → Carried → List Told) (shows 
 
     misses_at : (here : Phase) → NotingGround taken here past m → MayHear here (Misses text marks) → IsBetween here → Knows here past m → Knows here (past ++ entry.Written Chip text ∷ marks) m
     misses_at Resting ground hears between known =
-        rests_on key taken shows Resting next past m m (entry.Written Chip text) marks ground after (same_left m.state) (same_quiet m) refl (chip_plain text) (marks_chip marks did)
+        rests_on key taken from shows Resting next past m m (entry.Written Chip text) marks ground after (same_left m.state) (same_quiet m) refl (chip_plain text) (marks_chip marks did)
         (tt, (missed_lost past text marks did changes).leaves) lost_stays refl awaits tt known.frames known
     misses_at Open ground hears between known =
-        opens_on key taken shows Open next past m m (entry.Written Chip text) marks ground after (same_left m.state) (same_quiet m) refl (chip_plain text) (marks_chip marks did)
+        opens_on key taken from shows Open next past m m (entry.Written Chip text) marks ground after (same_left m.state) (same_quiet m) refl (chip_plain text) (marks_chip marks did)
         (tt, (missed_lost past text marks did changes).leaves) lost_stays refl awaits tt (λ frames. inl frames) awaits known
     misses_at Risen ground hears between known =
-        risen_on key taken shows Risen next past m m (entry.Written Chip text) marks ground after (same_left m.state) (same_quiet m) refl (chip_plain text) (marks_chip marks did)
+        risen_on key taken from shows Risen next past m m (entry.Written Chip text) marks ground after (same_left m.state) (same_quiet m) refl (chip_plain text) (marks_chip marks did)
         (tt, (missed_lost past text marks did changes).leaves) lost_stays refl awaits hears known.frames known
     misses_at here ground hears between known = absurd between
 
@@ -184,28 +185,28 @@ module _ (key : List ℕ) (taken : List Entry → Carried → List Told) (shows 
         b : (b : Becomes key taken past m (ticks (heeds_alone taken) past (m.clock - 1)) c) × (b.next.ticked ≡ m.clock - 1)
         b = ticks_before key taken shows here past m ground other awaits some c follows
 
-    rests_numbered : IsElse here → AtRest key taken past m → AtRest key taken later k
+    rests_numbered : IsElse here → AtRest key taken from past m → AtRest key taken from later k
     rests_numbered other at =
         let n = numbered other at.course at.follows in
-        record { course = n.next; of = course_goes (heeds_alone taken) past (entry.Time m.clock ∷ []) at.course n.next refl at.of n.goes; follows = n.follows; frames = at.frames }
+        record { course = n.next; of = course_goes (heeds_alone taken) from past (entry.Time m.clock ∷ []) at.course n.next refl at.of n.goes; follows = n.follows; frames = at.frames }
 
-    none_numbered : IsElse here → NoneNoted key taken past m → NoneNoted key taken later k
+    none_numbered : IsElse here → NoneNoted key taken from past m → NoneNoted key taken from later k
     none_numbered other at =
         let n = numbered other at.course at.follows in
         record {
           course = n.next;
-          of = course_goes (heeds_alone taken) past (entry.Time m.clock ∷ []) at.course n.next refl at.of n.goes;
+          of = course_goes (heeds_alone taken) from past (entry.Time m.clock ∷ []) at.course n.next refl at.of n.goes;
           follows = n.follows;
           early = n.early;
           frames = at.frames;
         }
 
-    open_numbered : IsElse here → AtOpen key taken past m → AtOpen key taken later k
+    open_numbered : IsElse here → AtOpen key taken from past m → AtOpen key taken from later k
     open_numbered other at =
         let n = numbered other at.course at.follows in
         record {
           course = n.next;
-          of = course_goes (heeds_alone taken) past (entry.Time m.clock ∷ []) at.course n.next refl at.of n.goes;
+          of = course_goes (heeds_alone taken) from past (entry.Time m.clock ∷ []) at.course n.next refl at.of n.goes;
           follows = n.follows;
           answered = inl (frames at.answered);
         }
@@ -214,11 +215,11 @@ module _ (key : List ℕ) (taken : List Entry → Carried → List Told) (shows 
         frames (inl all) = all
         frames (inr (there, none)) = absurd (both_ways m.awaits none awaits)
 
-    tick_numbered : IsElse here → (left : List HostEvent) → TickSo key taken past m left → TickSo key taken later k left
+    tick_numbered : IsElse here → (left : List HostEvent) → TickSo key taken from past m left → TickSo key taken from later k left
     tick_numbered other left (Nothing above none) = Nothing above (none_numbered other none)
     tick_numbered other left (Something noted) = absurd (both_ways m.awaits noted.numbered awaits)
 
-    behind_numbered : IsElse here → (left : List HostEvent) → BehindSo key taken (first_of key) past m left → BehindSo key taken (first_of key) later k left
+    behind_numbered : IsElse here → (left : List HostEvent) → BehindSo key taken from (first_of key) past m left → BehindSo key taken from (first_of key) later k left
     behind_numbered other left (None_left at) = None_left (open_numbered other at)
     behind_numbered other left (One_left event one) = absurd (both_ways m.awaits one.numbered awaits)
     behind_numbered other left (Payload_left in_it) = absurd (both_ways m.awaits in_it.numbered awaits)
@@ -247,10 +248,10 @@ module _ (key : List ℕ) (taken : List Entry → Carried → List Told) (shows 
         books_left key (heeds_alone taken) (timed m past) (timed risen (past ++ [])) m.state risen.state (same_left m.state)
         (λ n is late. late_timed taken Resting Risen past (past ++ []) m risen ground after not_back n (attempts_left taken n past [] tt) late) d books
 
-    begins_tick : AtRest key taken past m → NoneNoted key taken (past ++ []) risen
+    begins_tick : AtRest key taken from past m → NoneNoted key taken from (past ++ []) risen
     begins_tick at = record {
       course = at.course;
-      of = course_goes (heeds_alone taken) past [] at.course at.course refl at.of (goes_nowhere (heeds_alone taken) past at.course);
+      of = course_goes (heeds_alone taken) from past [] at.course at.course refl at.of (goes_nowhere (heeds_alone taken) past at.course);
       follows = record {
         fits = at.follows.fits;
         none_due = at.follows.none_due;
@@ -270,28 +271,28 @@ module _ (key : List ℕ) (taken : List Entry → Carried → List Told) (shows 
     leads : (here next : Phase) (later : List Entry) (k : HostMachine) → next ≡ here → Knows here later k → Knows next later k
     leads here next later k is known = subst (λ (p : Phase). Knows p later k) (sym is) known
 
-    pub tells : (here next : Phase) (past : List Entry) (m : HostMachine) (e : Entry) → StepFollows key taken here past m (Tells e) next
+    pub tells : (here next : Phase) (past : List Entry) (m : HostMachine) (e : Entry) → StepFollows key taken from here past m (Tells e) next
     tells here next past m e sure so may known =
         leads here next (past ++ e ∷ []) m may.3
         (tells_at next past m e (along next (past ++ e ∷ []) m (sure_step taken (first_of key) sure (Tells e) may so)) may.1 may.2 here (along here past m sure) so.hears may.0 known)
 
-    pub comes : (here next : Phase) (past : List Entry) (m : HostMachine) (unit : LineUnit) → StepFollows key taken here past m (Comes unit) next
+    pub comes : (here next : Phase) (past : List Entry) (m : HostMachine) (unit : LineUnit) → StepFollows key taken from here past m (Comes unit) next
     comes here next past m unit sure so may known =
         leads here next (past ++ entry.Written Chip (unit_text unit) ∷ []) (happens m (Comes unit)) may.2
         (comes_at next past m unit (along next (past ++ entry.Written Chip (unit_text unit) ∷ []) (happens m (Comes unit)) (sure_step taken (first_of key) sure (Comes unit) may so)) may.1 here
         (along here past m sure) may.3 may.0 known)
 
-    pub misses : (here next : Phase) (past : List Entry) (m : HostMachine) (text : List ℕ) (marks : List Entry) → StepFollows key taken here past m (Misses text marks) next
+    pub misses : (here next : Phase) (past : List Entry) (m : HostMachine) (text : List ℕ) (marks : List Entry) → StepFollows key taken from here past m (Misses text marks) next
     misses here next past m text marks sure so may known =
         leads here next (past ++ entry.Written Chip text ∷ marks) m may.3
         (misses_at next past m text marks (along next (past ++ entry.Written Chip text ∷ marks) m (sure_step taken (first_of key) sure (Misses text marks) may so)) may.1 may.4 may.2 here
         (along here past m sure) so.hears may.0 known)
 
-    pub numbers : (here next : Phase) (past : List Entry) (m : HostMachine) → StepFollows key taken here past m Numbers next
+    pub numbers : (here next : Phase) (past : List Entry) (m : HostMachine) → StepFollows key taken from here past m Numbers next
     numbers here next past m sure so may known =
         leads here next (past ++ entry.Time m.clock ∷ []) (happens m Numbers) may.1 (numbers_at here past m (along here past m sure) may.0 known)
 
-    pub begins : (here next : Phase) (past : List Entry) (m : HostMachine) (left : ℕ) → StepFollows key taken here past m (Begins_tick left) next
+    pub begins : (here next : Phase) (past : List Entry) (m : HostMachine) (left : ℕ) → StepFollows key taken from here past m (Begins_tick left) next
     begins here next past m left sure so may known =
         leads Risen next (past ++ []) (happens m (Begins_tick left)) may.2
         (begins_tick past m left (subst (λ (p : Phase). NotingGround taken p past m) may.0 (along here past m sure))

@@ -19,6 +19,7 @@ use Rattle.proof_choice.proofs.ReadyTie.{facts_of}
 use Rattle.proof_hearing.specs.Hearing.{HeardOne, HearsSo, StaysLate, Whole, choosing, finishes, hearing_at}
 use Rattle.proof_hearing.specs.proof_queue.proof_attempts.proof_requests.law_host.Following.{is_note}
 use Rattle.proof_hearing.specs.proof_queue.proof_attempts.proof_requests.law_host.Heard.{heeds_alone}
+use Rattle.proof_hearing.specs.proof_queue.proof_attempts.proof_requests.law_host.Notes.{Start}
 use Rattle.proof_hearing.specs.proof_queue.proof_attempts.proof_requests.proof_alone.State.{HostMachine, done}
 use Rattle.proof_hearing.specs.proof_queue.proof_attempts.proof_requests.proof_alone.Steps.{Does}
 use Rattle.proof_hearing.specs.proof_queue.proof_attempts.proof_requests.proof_alone.Phases.{Behind, May}
@@ -33,12 +34,12 @@ use Rattle.proof_noting.proofs.Followers.{follower_late, follower_notes, followe
 use Rattle.proof_noting.proofs.Surely.{sure_does}
 use Rattle.proof_noting.proofs.PayloadMiddle.{PointsAlong, point}
 
-module _ (key : List ℕ) (taken : List Entry → Carried → List Told) where
+module _ (key : List ℕ) (taken : List Entry → Carried → List Told) (from : Start) where
   abbrev heeds : Heeds
   heeds = heeds_alone taken
 
   abbrev Middle : List Entry → HostMachine → List HostEvent → Type 0
-  Middle past m left = InPayload key taken (first_of key) past m left
+  Middle past m left = InPayload key taken from (first_of key) past m left
 
   module _ (ground : GroundAlong taken (first_of key)) (points : PointsAlong key taken) (past told : List Entry) (m : HostMachine) (one : HostEvent) (left : List HostEvent)
       (sure : SureRun taken (first_of key) (Behind (one ∷ left)) past m) (may : May (Behind (one ∷ left)) m (Does one told) (Behind left)) (it : Middle past m (one ∷ left)) where
@@ -65,7 +66,7 @@ module _ (key : List ℕ) (taken : List Entry → Carried → List Told) where
 
     heard : HeardOne key (hearing_at taken it.before upto it.node it.payload) it.remaining here told m.state one left it.remains it.course
     heard =
-        hears_one key taken it.before upto it.node it.payload it.is_node here m.state it.course (point key taken ground points past m (one ∷ left) sure it) it.so one left told stays it.remaining it.remains
+        hears_one key taken it.before upto it.node it.payload it.is_node here m.state it.course (point key taken from ground points past m (one ∷ left) sure it) it.so one left told stays it.remaining it.remains
         may.2 may.1.0
 
     at : here ++ told ≡ upto ++ heard.next.due
@@ -98,6 +99,8 @@ module _ (key : List ℕ) (taken : List Entry → Carried → List Told) where
       begun = it.begun;
       kept = it.kept;
       opened = it.opened;
+      heard = it.heard;
+      split = it.split;
       begins = it.begins;
       untaken = it.untaken;
       none_due = it.none_due;

@@ -9,29 +9,30 @@ use Rattle.law_transcript.specs.Units.{Carried}
 use Rattle.law_time.specs.Heeds.{Heeds}
 use Rattle.law_time.specs.Judged.{is_mark}
 use Rattle.proof_hearing.specs.Hearing.{choosing, finishes, hearing_at}
-use Rattle.proof_hearing.specs.proof_queue.proof_attempts.proof_requests.law_host.Course.{Choices, Course, Offer, Opening, Seal, course_from, with_heeded}
+use Rattle.proof_hearing.specs.proof_queue.proof_attempts.proof_requests.law_host.Course.{Choices, Course, Offer, Opening, Seal, with_heeded}
 use Rattle.proof_hearing.specs.proof_queue.proof_attempts.proof_requests.law_host.Following.{course_after}
 use Rattle.proof_hearing.specs.proof_queue.proof_attempts.proof_requests.law_host.Heard.{heeds_alone}
 use Rattle.proof_hearing.specs.proof_queue.proof_attempts.proof_requests.law_host.Messages.{Hearing}
 use Rattle.proof_hearing.specs.proof_queue.proof_attempts.proof_requests.law_host.Nonces.{IsOffer, IsOpening, IsSeal, UsesNonces}
-use Rattle.proof_hearing.specs.proof_queue.proof_attempts.proof_requests.law_host.Notes.{course_of, first_start}
+use Rattle.proof_hearing.specs.proof_queue.proof_attempts.proof_requests.law_host.Notes.{Start, course_of}
 use Rattle.proof_hearing.specs.proof_queue.proof_attempts.proof_requests.proof_alone.State.{HostMachine}
 use Rattle.proof_hearing.specs.proof_queue.proof_attempts.proof_requests.proof_alone.Steps.{IsOfUnit}
 use Rattle.proof_hearing.proofs.Beginning.{uses_nonces}
 use Rattle.proof_hearing.proofs.Grows.{Adds, finishes_adds}
 use Rattle.proof_following.specs.Quiet.{acknowledges}
-use Rattle.proof_following.proofs.Entering.{course_both, marks_after, notes_after}
+use Rattle.proof_following.proofs.Entering.{marks_after, notes_after}
 use Rattle.proof_noting.specs.Behind.{InPayload}
 use Rattle.proof_noting.specs.Steps.{Fitting, first_of}
+use Rattle.proof_noting.proofs.Choosing.{course_on, split_on}
 use Rattle.proof_noting.proofs.Unopened.{denied_opens}
 use Rattle.proof_noting.proofs.PayloadMiddle.{marks_unrefused, notes_unrefused, unit_marks}
 
-module _ (key : List ℕ) (taken : List Entry → Carried → List Told) where
+module _ (key : List ℕ) (taken : List Entry → Carried → List Told) (from : Start) where
   abbrev heeds : Heeds
   heeds = heeds_alone taken
 
   abbrev Middle : List Entry → HostMachine → List HostEvent → Type 0
-  Middle past m left = InPayload key taken (first_of key) past m left
+  Middle past m left = InPayload key taken from (first_of key) past m left
 
   module _ (past : List Entry) (m : HostMachine) (left : List HostEvent) (it : Middle past m left) where
     abbrev upto : List Entry
@@ -56,7 +57,7 @@ module _ (key : List ℕ) (taken : List Entry → Carried → List Told) where
     adds : Adds (choosing (false ∷ []) [] it.course) rest
     adds = finishes_adds hearing it.remaining (choosing (false ∷ []) [] it.course)
 
-    acked_so : course_of heeds first_start upto chosen ≡ ended
+    acked_so : course_of heeds from it.heard chosen ≡ ended
     acked_so = it.begins (it.since_kept ++ false ∷ []) (it.since_opened ++ []) ∙ ap (λ (c : Course). with_heeded upto carried c) (it.leads (false ∷ []) [])
 
     fits : ended.fits ≡ true
@@ -65,12 +66,14 @@ module _ (key : List ℕ) (taken : List Entry → Carried → List Told) where
     at_is : (upto ++ it.marks) ++ it.course.due ≡ past
     at_is = ap (λ (l : List Entry). l ++ it.course.due) (append_assoc it.before (acknowledges ∷ []) it.marks) ∙ sym it.past_is
 
-    course_so : course_of heeds first_start past chosen ≡ record ended { due = adds.some }
+    marks_split : upto ++ it.marks ≡ from.before ++ (it.heard ++ it.marks)
+    marks_split = split_on heeds from upto it.heard it.marks it.split
+
+    course_so : course_of heeds from ((it.heard ++ it.marks) ++ it.course.due) chosen ≡ record ended { due = adds.some }
     course_so =
-        ap (λ (l : List Entry). course_of heeds first_start l chosen) (sym at_is)
-        ∙ course_both heeds [] (upto ++ it.marks) it.course.due (course_from [] chosen) (notes_unrefused it.course.due it.notes)
+        course_on heeds from (upto ++ it.marks) (it.heard ++ it.marks) it.course.due chosen marks_split (notes_unrefused it.course.due it.notes)
         ∙ ap (λ (c : Course). course_after heeds (upto ++ it.marks) it.course.due c)
-        (course_both heeds [] upto it.marks (course_from [] chosen) (marks_unrefused it.marks it.marked)
+        (course_on heeds from upto it.heard it.marks chosen it.split (marks_unrefused it.marks it.marked)
         ∙ ap (λ (c : Course). course_after heeds upto it.marks c) acked_so
         ∙ marks_after heeds upto it.marks ended (all-weaker IsOfUnit (λ (e : Entry). is_mark e ≡ true) unit_marks it.marks it.marked))
         ∙ notes_after heeds (upto ++ it.marks) it.course.due adds.some ended it.notes fits adds.due
@@ -86,8 +89,10 @@ module _ (key : List ℕ) (taken : List Entry → Carried → List Told) where
       sealed = subst (λ (l : List Seal). AllByRecursion (IsSeal key) l) (sym (ap (λ (c : Course). c.sealed) adds.other)) uses.sealed;
     }
 
-    pub payload_fits : Fitting key taken past
+    pub payload_fits : Fitting key taken from past
     payload_fits = record {
+      heard = (it.heard ++ it.marks) ++ it.course.due;
+      split = sym at_is ∙ split_on heeds from (upto ++ it.marks) (it.heard ++ it.marks) it.course.due marks_split;
       choices = chosen;
       drawn = it.so.books.drawn;
       fits = ap (λ (c : Course). c.fits) course_so ∙ fits;

@@ -24,6 +24,7 @@ use Rattle.proof_hearing.specs.proof_queue.proof_attempts.proof_requests.law_hos
 use Rattle.proof_hearing.specs.proof_queue.proof_attempts.proof_requests.law_host.Heard.{heeds_alone}
 use Rattle.proof_hearing.specs.proof_queue.proof_attempts.proof_requests.law_host.Messages.{Hearing}
 use Rattle.proof_hearing.specs.proof_queue.proof_attempts.proof_requests.law_host.Nonces.{is_late}
+use Rattle.proof_hearing.specs.proof_queue.proof_attempts.proof_requests.law_host.Notes.{Start}
 use Rattle.proof_hearing.specs.proof_queue.proof_attempts.proof_requests.proof_alone.State.{HostMachine}
 use Rattle.proof_hearing.specs.proof_queue.proof_attempts.proof_requests.proof_alone.Steps.{IsOfUnit}
 use Rattle.proof_hearing.specs.proof_queue.proof_attempts.proof_requests.proof_alone.Phases.{Behind, Phase}
@@ -71,12 +72,12 @@ note_quiet (entry.Dropped side) note = absurd (let bad : false ≡ true = note i
 note_quiet (entry.Overrun side) note = absurd (let bad : false ≡ true = note in cc)
 note_quiet e note = tt
 
-module _ (key : List ℕ) (taken : List Entry → Carried → List Told) where
+module _ (key : List ℕ) (taken : List Entry → Carried → List Told) (from : Start) where
   abbrev heeds : Heeds
   heeds = heeds_alone taken
 
   abbrev Middle : List Entry → HostMachine → List HostEvent → Type 0
-  Middle past m left = InPayload key taken (first_of key) past m left
+  Middle past m left = InPayload key taken from (first_of key) past m left
 
   module _ (ground : GroundAlong taken (first_of key)) (points : PointsAlong key taken) (past : List Entry) (m : HostMachine) (left : List HostEvent) (sure : SureRun taken (first_of key) (Behind left) past m) (it : Middle past m left) where
     abbrev upto : List Entry

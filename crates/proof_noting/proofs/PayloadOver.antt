@@ -21,7 +21,7 @@ use Rattle.proof_hearing.specs.proof_queue.proof_attempts.proof_requests.law_hos
 use Rattle.proof_hearing.specs.proof_queue.proof_attempts.proof_requests.law_host.Heard.{heeds_alone}
 use Rattle.proof_hearing.specs.proof_queue.proof_attempts.proof_requests.law_host.HostLegal.{IsHeeded}
 use Rattle.proof_hearing.specs.proof_queue.proof_attempts.proof_requests.law_host.Messages.{Hearing}
-use Rattle.proof_hearing.specs.proof_queue.proof_attempts.proof_requests.law_host.Notes.{course_of, first_start}
+use Rattle.proof_hearing.specs.proof_queue.proof_attempts.proof_requests.law_host.Notes.{Start, course_of}
 use Rattle.proof_hearing.specs.proof_queue.proof_attempts.proof_requests.proof_alone.State.{HostMachine}
 use Rattle.proof_hearing.specs.proof_queue.proof_attempts.proof_requests.proof_alone.Steps.{IsOfUnit}
 use Rattle.proof_hearing.specs.proof_queue.proof_attempts.proof_requests.proof_alone.Phases.{Behind}
@@ -37,12 +37,12 @@ use Rattle.proof_noting.proofs.Aborts.{abort_unended}
 use Rattle.proof_noting.proofs.Choosing.{course_goes, marks_goes, notes_goes}
 use Rattle.proof_noting.proofs.PayloadMiddle.{PointsAlong, marked_books, marks_unrefused, note_quiet, notes_unrefused, point, stands_timed, unit_marks}
 
-module _ (key : List ℕ) (taken : List Entry → Carried → List Told) where
+module _ (key : List ℕ) (taken : List Entry → Carried → List Told) (from : Start) where
   abbrev heeds : Heeds
   heeds = heeds_alone taken
 
   abbrev Middle : List Entry → HostMachine → List HostEvent → Type 0
-  Middle past m left = InPayload key taken (first_of key) past m left
+  Middle past m left = InPayload key taken from (first_of key) past m left
 
   module _ (ground : GroundAlong taken (first_of key)) (points : PointsAlong key taken) (past : List Entry) (m : HostMachine) (sure : SureRun taken (first_of key) (Behind []) past m) (it : Middle past m []) where
     abbrev upto : List Entry
@@ -59,7 +59,7 @@ module _ (key : List ℕ) (taken : List Entry → Carried → List Told) where
 
     over_so : ((keepings : List Bool) (later : List (Option (List ℕ))) → finishes hearing it.remaining (choosing keepings later it.course) ≡ choosing keepings later it.course)
         × (heeded_rest m.state hearing it.remaining [] it.remains ≡ [])
-    over_so = hears_over key taken it.before upto it.node it.payload it.is_node here m.state it.course (point key taken ground points past m [] sure it) it.so it.remaining it.remains
+    over_so = hears_over key taken it.before upto it.node it.payload it.is_node here m.state it.course (point key taken from ground points past m [] sure it) it.so it.remaining it.remains
 
     abbrev whole : Course
     whole = with_heeded upto carried it.course
@@ -67,12 +67,14 @@ module _ (key : List ℕ) (taken : List Entry → Carried → List Told) where
     abbrev stood : Course
     stood = record whole { due = [] }
 
-    acked : CourseOf heeds upto whole
+    acked : CourseOf heeds from upto whole
     acked = record {
+      heard = it.heard;
+      split = it.split;
       kept = it.kept ++ it.since_kept;
       opened = it.opened ++ it.since_opened;
       is = λ keepings texts.
-          ap₂ (λ (x : List Bool) (y : List (Option (List ℕ))). course_of heeds first_start upto (record { keepings = x; texts = y })) (append_assoc it.kept it.since_kept keepings)
+          ap₂ (λ (x : List Bool) (y : List (Option (List ℕ))). course_of heeds from it.heard (record { keepings = x; texts = y })) (append_assoc it.kept it.since_kept keepings)
           (append_assoc it.opened it.since_opened texts)
           ∙ it.begins (it.since_kept ++ keepings) (it.since_opened ++ texts)
           ∙ ap (λ (c : Course). with_heeded upto carried c) (it.leads keepings texts ∙ over_so.0 keepings texts);
@@ -81,11 +83,11 @@ module _ (key : List ℕ) (taken : List Entry → Carried → List Told) where
     at : (upto ++ it.marks) ++ it.course.due ≡ past
     at = ap (λ (l : List Entry). l ++ it.course.due) (append_assoc it.before (acknowledges ∷ []) it.marks) ∙ sym it.past_is
 
-    course_so : CourseOf heeds past stood
+    course_so : CourseOf heeds from past stood
     course_so =
-        subst (λ (l : List Entry). CourseOf heeds l stood) at
-        (course_goes heeds (upto ++ it.marks) it.course.due whole stood (notes_unrefused it.course.due it.notes)
-        (course_goes heeds upto it.marks whole whole (marks_unrefused it.marks it.marked) acked (marks_goes heeds upto it.marks whole (all-weaker IsOfUnit (λ (e : Entry). is_mark e ≡ true) unit_marks it.marks it.marked)))
+        subst (λ (l : List Entry). CourseOf heeds from l stood) at
+        (course_goes heeds from (upto ++ it.marks) it.course.due whole stood (notes_unrefused it.course.due it.notes)
+        (course_goes heeds from upto it.marks whole whole (marks_unrefused it.marks it.marked) acked (marks_goes heeds upto it.marks whole (all-weaker IsOfUnit (λ (e : Entry). is_mark e ≡ true) unit_marks it.marks it.marked)))
         (notes_goes heeds (upto ++ it.marks) it.course.due whole it.notes it.so.fits refl))
 
     ticked : stood.ticked ≡ m.clock
@@ -100,7 +102,7 @@ module _ (key : List ℕ) (taken : List Entry → Carried → List Told) where
         goes_by = sym (append-nil it.course.taken) ∙ ap (λ (l : List Told). it.course.taken ++ l) (sym over_so.1) ∙ it.goes_by
 
     books : BooksSo key heeds (timed m past) m.state it.course
-    books = subst (λ (l : List Entry). BooksSo key heeds l m.state it.course) (sym (stands_timed key taken ground points past m [] sure it past)) (marked_books key taken ground points past m [] sure it)
+    books = subst (λ (l : List Entry). BooksSo key heeds l m.state it.course) (sym (stands_timed key taken from ground points past m [] sure it past)) (marked_books key taken from ground points past m [] sure it)
 
     -- the last request is that of the acknowledgement
     asked_on : (asked past).frame ≡ (asked upto).frame
@@ -138,7 +140,7 @@ module _ (key : List ℕ) (taken : List Entry → Carried → List Told) where
         by (inl level) = inl (record { over = ap (λ (c : Course). c.over) it.other ∙ level; books = books })
         by (inr (running, none, (id, request))) = inr (lags running none id request)
 
-    pub payload_over : AtOpen key taken past m
+    pub payload_over : AtOpen key taken from past m
     payload_over = record {
       course = stood;
       of = course_so;

@@ -18,7 +18,7 @@ use Rattle.proof_hearing.specs.proof_queue.proof_attempts.proof_requests.law_hos
 use Rattle.proof_hearing.specs.proof_queue.proof_attempts.proof_requests.law_host.Heard.{heeds_alone}
 use Rattle.proof_hearing.specs.proof_queue.proof_attempts.proof_requests.law_host.HostLegal.{IsHeeded}
 use Rattle.proof_hearing.specs.proof_queue.proof_attempts.proof_requests.law_host.Nonces.{UsesNonces}
-use Rattle.proof_hearing.specs.proof_queue.proof_attempts.proof_requests.law_host.Notes.{course_of, first_start}
+use Rattle.proof_hearing.specs.proof_queue.proof_attempts.proof_requests.law_host.Notes.{Start, course_of}
 use Rattle.proof_hearing.specs.proof_queue.proof_attempts.proof_requests.law_host.Ticks.{ticks}
 use Rattle.proof_hearing.specs.proof_queue.proof_attempts.proof_requests.proof_alone.Phases.{Phase, Resting, Asked, Open, Sleeping, Submitting}
 use Rattle.proof_hearing.specs.proof_queue.proof_attempts.proof_requests.proof_alone.State.{HostMachine}
@@ -30,64 +30,68 @@ use Rattle.proof_noting.specs.Sure.{SureRun}
 use Rattle.proof_noting.proofs.Becoming.{BecomesLevel, passes_so, ticks_now}
 use Rattle.proof_noting.proofs.Fitted.{Uses, follows_fit, uses_of}
 
-module _ (key : List ℕ) (taken : List Entry → Carried → List Told) where
+module _ (key : List ℕ) (taken : List Entry → Carried → List Told) (from : Start) where
   abbrev heeds : Heeds
   heeds = heeds_alone taken
 
   abbrev Knows : Phase → List Entry → HostMachine → Type 0
-  Knows here past m = KnowsCourse key taken (first_of key) here past m
+  Knows here past m = KnowsCourse key taken from (first_of key) here past m
 
   leads : (here next : Phase) (past : List Entry) (m : HostMachine) → next ≡ here → Knows here past m → Knows next past m
   leads here next past m is known = subst (λ (p : Phase). Knows p past m) (sym is) known
 
   -- ---- where a part is over
 
-  pub rests : (next : Phase) (past : List Entry) (m : HostMachine) → TurnFollows key taken Resting next past m
+  pub rests : (next : Phase) (past : List Entry) (m : HostMachine) → TurnFollows key taken from Resting next past m
   rests next past m sure well is at = leads Open next past m is (record { course = at.course; of = at.of; follows = at.follows; answered = inl at.frames })
 
-  pub asks : (line : Line) (next : Phase) (past : List Entry) (m : HostMachine) → TurnFollows key taken (Asked line) next past m
+  pub asks : (line : Line) (next : Phase) (past : List Entry) (m : HostMachine) → TurnFollows key taken from (Asked line) next past m
   asks line next past m sure well (inl (nothing, is)) words =
       let s = words.goes_on (none_on line nothing) in
       leads Open next past m is (record { course = s.0.course; of = s.0.of; follows = s.0.follows; answered = inl s.0.frames })
   asks line next past m sure well (inr (count, line_is, is)) words = leads Resting next past m is (words.goes_on (ap (λ (l : Line). is_restart (l ∷ [])) line_is)).0
 
-  pub opens : (next : Phase) (past : List Entry) (m : HostMachine) → TurnFollows key taken Open next past m
+  pub opens : (next : Phase) (past : List Entry) (m : HostMachine) → TurnFollows key taken from Open next past m
   opens next past m sure well is at = leads Sleeping next past m is (record { course = at.course; of = at.of; follows = at.follows; frames = well.1 })
 
-  pub sleeps : (next : Phase) (past : List Entry) (m : HostMachine) → TurnFollows key taken Sleeping next past m
+  pub sleeps : (next : Phase) (past : List Entry) (m : HostMachine) → TurnFollows key taken from Sleeping next past m
   sleeps next past m sure well is at = leads Submitting next past m is.1 at
 
-  pub submits : (next : Phase) (past : List Entry) (m : HostMachine) → TurnFollows key taken Submitting next past m
+  pub submits : (next : Phase) (past : List Entry) (m : HostMachine) → TurnFollows key taken from Submitting next past m
   submits next past m sure well is at = leads Resting next past m is.1 at
 
   -- ---- it fits
 
-  pub fits_rest : (past : List Entry) (m : HostMachine) → AtRest key taken past m → Fitting key taken past
-  fits_rest past m at = follows_fit key taken past m at.course at.of at.follows
+  pub fits_rest : (past : List Entry) (m : HostMachine) → AtRest key taken from past m → Fitting key taken from past
+  fits_rest past m at = follows_fit key taken from past m at.course at.of at.follows
 
-  fits_anew : (past : List Entry) (m : HostMachine) → Anew key taken past m → Fitting key taken past
+  fits_anew : (past : List Entry) (m : HostMachine) → Anew key taken from past m → Fitting key taken from past
   fits_anew past m anew =
       let is = anew.of.is [] [] in
       let uses = uses_nonces key heeds anew.somewhere m.state anew.course anew.books in
       record {
+        heard = anew.of.heard;
+        split = anew.of.split;
         choices = record { keepings = anew.of.kept ++ []; texts = anew.of.opened ++ [] };
         drawn = anew.books.drawn;
         fits = ap (λ (c : Course). c.fits) is ∙ anew.fits;
         nonces = subst (UsesNonces key anew.books.drawn) (sym is) (record { seven = uses.seven; offered = uses.offered; opened = uses.opened; sealed = uses.sealed });
       }
 
-  pub fits_asked : (line : Line) (past : List Entry) (m : HostMachine) → CourseFits key taken (Asked line) past m
+  pub fits_asked : (line : Line) (past : List Entry) (m : HostMachine) → CourseFits key taken from (Asked line) past m
   fits_asked line past m sure words = by (is_restart (line ∷ [])) refl
     where
-      by : (b : Bool) → is_restart (line ∷ []) ≡ b → Fitting key taken past
+      by : (b : Bool) → is_restart (line ∷ []) ≡ b → Fitting key taken from past
       by true anew = fits_anew past m (words.anew anew)
       by false on = fits_rest past m (words.goes_on on).0
 
   -- ---- nothing is left to be noted
 
-  pub whole : ShowsOpen → GroundAlong taken (first_of key) → (past : List Entry) (m : HostMachine) → SureRun taken (first_of key) Resting past m → m.left ≡ 0 → AtRest key taken past m
-      → FittingWhole key taken past
+  pub whole : ShowsOpen → GroundAlong taken (first_of key) → (past : List Entry) (m : HostMachine) → SureRun taken (first_of key) Resting past m → m.left ≡ 0 → AtRest key taken from past m
+      → FittingWhole key taken from past
   whole shows along past m sure over at = record {
+    heard = at.of.heard;
+    split = at.of.split;
     choices = record { keepings = at.of.kept ++ []; texts = at.of.opened ++ [] };
     drawn = uses.drawn;
     fits = ap (λ (c : Course). c.fits) is ∙ at.follows.fits;
@@ -107,8 +111,8 @@ module _ (key : List ℕ) (taken : List Entry → Carried → List Told) where
       there : now_at past (entry.Said []) ≡ m.clock
       there = let asks = (ground_of Resting past m ground.grounds).0.0.0.1.asked in omega (arith, asks, over)
 
-      is : course_of heeds first_start past (record { keepings = at.of.kept ++ []; texts = at.of.opened ++ [] }) ≡ choosing [] [] at.course
+      is : course_of heeds from at.of.heard (record { keepings = at.of.kept ++ []; texts = at.of.opened ++ [] }) ≡ choosing [] [] at.course
       is = at.of.is [] []
 
-      uses : Uses key taken past m at.course
-      uses = uses_of key taken past m at.course at.follows
+      uses : Uses key taken from past m at.course
+      uses = uses_of key taken from past m at.course at.follows

@@ -13,6 +13,7 @@ use Rattle.host_model.specs.State.{HostState, node_of}
 use Rattle.proof_messages.proofs.SealedTexts.{IsBare}
 use Rattle.proof_hearing.specs.proof_queue.proof_attempts.proof_requests.law_host.Course.{restarted}
 use Rattle.proof_hearing.specs.proof_queue.proof_attempts.proof_requests.law_host.Heard.{heeds_alone}
+use Rattle.proof_hearing.specs.proof_queue.proof_attempts.proof_requests.law_host.Notes.{Start}
 use Rattle.proof_hearing.specs.proof_queue.proof_attempts.proof_requests.proof_alone.Phases.{Asked, Phase}
 use Rattle.proof_hearing.specs.proof_queue.proof_attempts.proof_requests.proof_alone.State.{HostMachine}
 use Rattle.proof_hearing.specs.proof_queue.proof_attempts.proof_requests.proof_alone.Steps.{Restarts}
@@ -30,12 +31,12 @@ use Rattle.proof_noting.specs.Noting.{Anew, KnowsCourse}
 use Rattle.proof_noting.specs.Steps.{StepFollows, first_of}
 use Rattle.proof_noting.proofs.Surely.{sure_step}
 
-pub starts_again : GiveOne → (key : List ℕ) (taken : List Entry → Carried → List Told) → GroundAlong taken (first_of key) → (next : Phase) (past : List Entry) (m : HostMachine) (state : HostState)
-    → StepFollows key taken (Asked lines.Restart) past m (Restarts state) next
-starts_again one key taken along next past m state sure step may known =
-    subst (λ (p : Phase). KnowsCourse key taken (first_of key) p (past ++ []) (record m { state = state; came = [] })) (sym may.2) open_so
+pub starts_again : GiveOne → (key : List ℕ) (taken : List Entry → Carried → List Told) (from : Start) → GroundAlong taken (first_of key) → (next : Phase) (past : List Entry) (m : HostMachine) (state : HostState)
+    → StepFollows key taken from (Asked lines.Restart) past m (Restarts state) next
+starts_again one key taken from along next past m state sure step may known =
+    subst (λ (p : Phase). KnowsCourse key taken from (first_of key) p (past ++ []) (record m { state = state; came = [] })) (sym may.2) open_so
   where
-    anew : Anew key taken past m
+    anew : Anew key taken from past m
     anew = known.anew refl
 
     now : NotingGround taken next (past ++ []) (record m { state = state; came = [] })
@@ -62,10 +63,10 @@ starts_again one key taken along next past m state sure step may known =
     cleared : (k : ℕ) → IsNode k → Cleared (node_of m.state k) (node_of state k)
     cleared k is = record { seen = seen_starts one m.state state m.records old_tables.told old_tables.held new_tables.held k; text = (none_sealed k is).0; pending = (none_sealed k is).1 }
 
-    open_so : AtOpen key taken (past ++ []) (record m { state = state; came = [] })
+    open_so : AtOpen key taken from (past ++ []) (record m { state = state; came = [] })
     open_so = record {
       course = restarted anew.course;
-      of = subst (λ (l : List Entry). CourseOf (heeds_alone taken) l (restarted anew.course)) (sym (append-nil past)) anew.of;
+      of = subst (λ (l : List Entry). CourseOf (heeds_alone taken) from l (restarted anew.course)) (sym (append-nil past)) anew.of;
       follows = record {
         fits = anew.fits;
         none_due = anew.none_due;

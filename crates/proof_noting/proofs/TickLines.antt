@@ -29,6 +29,7 @@ use Rattle.proof_hearing.specs.proof_queue.proof_attempts.proof_requests.law_hos
 use Rattle.proof_hearing.specs.proof_queue.proof_attempts.proof_requests.law_host.Frames.{frame_next, judges}
 use Rattle.proof_hearing.specs.proof_queue.proof_attempts.proof_requests.law_host.Heard.{heeds_alone}
 use Rattle.proof_hearing.specs.proof_queue.proof_attempts.proof_requests.law_host.Nonces.{is_late}
+use Rattle.proof_hearing.specs.proof_queue.proof_attempts.proof_requests.law_host.Notes.{Start}
 use Rattle.proof_hearing.specs.proof_queue.proof_attempts.proof_requests.law_host.Ticks.{denies, is_denied, ticks}
 use Rattle.proof_hearing.specs.proof_queue.proof_attempts.proof_requests.proof_alone.State.{HostMachine}
 use Rattle.proof_hearing.specs.proof_queue.proof_attempts.proof_requests.proof_alone.Steps.{IsOfUnit}
@@ -74,7 +75,7 @@ none_some o u none some = absurd (let bad : None ≡ Some u = sym none ∙ some 
 pub after_fails : (h : HostState) (b : Bool) → gives_up h.side.turn (turn_ticked h.side.turn) ≡ b → after h Line_ticks ≡ failing_if b (line_ticked h)
 after_fails h b is = ap (λ (x : Bool). failing_if x (line_ticked h)) is
 
-module _ (key : List ℕ) (taken : List Entry → Carried → List Told) (left : List HostEvent) (past told : List Entry) (m : HostMachine) (known : NoneNoted key taken past m) where
+module _ (key : List ℕ) (taken : List Entry → Carried → List Told) (from : Start) (left : List HostEvent) (past told : List Entry) (m : HostMachine) (known : NoneNoted key taken from past m) where
   abbrev heeds : Heeds
   heeds = heeds_alone taken
 
@@ -91,11 +92,11 @@ module _ (key : List ℕ) (taken : List Entry → Carried → List Told) (left :
   -- nothing is told, and the request is under way as it was
   pub none_goes : (side : Side) (requests : RequestsState) (r : Option (List (List ℕ))) → requests.queue ≡ m.state.requests.queue → is_none requests.under_way ≡ is_none m.state.requests.under_way
       → (m.state.requests.under_way ≡ None → requests.under_way ≡ None) → told ≡ [] → Ascends 0 left
-      → TickSo key taken (past ++ told) (record m { state = record m.state { side = side; requests = requests }; records = r }) left
+      → TickSo key taken from (past ++ told) (record m { state = record m.state { side = side; requests = requests }; records = r }) left
   none_goes side requests r queue same none nothing above =
       Nothing above
-      (nothing_told (λ (l : List Entry). NoneNoted key taken l (record m { state = record m.state { side = side; requests = requests }; records = r })) past told nothing
-      (still_none key taken past m (record m.state { side = side; requests = requests }) r (side_books side requests queue (timed m past)) same none
+      (nothing_told (λ (l : List Entry). NoneNoted key taken from l (record m { state = record m.state { side = side; requests = requests }; records = r })) past told nothing
+      (still_none key taken from past m (record m.state { side = side; requests = requests }) r (side_books side requests queue (timed m past)) same none
       (falls_quiet h (record m.state { side = side; requests = requests }) (λ n falls. falls)) known))
 
   -- ---- a copy
@@ -196,10 +197,10 @@ module _ (key : List ℕ) (taken : List Entry → Carried → List Told) (left :
             why = inl known.early;
           })
 
-      pub copy_goes : NoneNoted key taken later k
+      pub copy_goes : NoneNoted key taken from later k
       copy_goes = record {
         course = c;
-        of = course_goes heeds past (wrote ∷ marks) c c refl known.of (on c known.follows.fits known.follows.none_due);
+        of = course_goes heeds from past (wrote ∷ marks) c c refl known.of (on c known.follows.fits known.follows.none_due);
         follows = record {
           fits = known.follows.fits;
           none_due = known.follows.none_due;

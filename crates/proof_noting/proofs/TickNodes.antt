@@ -54,6 +54,7 @@ use Rattle.proof_hearing.specs.proof_queue.proof_attempts.proof_requests.law_hos
 use Rattle.proof_hearing.specs.proof_queue.proof_attempts.proof_requests.law_host.Following.{is_note}
 use Rattle.proof_hearing.specs.proof_queue.proof_attempts.proof_requests.law_host.Heard.{heeds_alone}
 use Rattle.proof_hearing.specs.proof_queue.proof_attempts.proof_requests.law_host.Nonces.{is_late}
+use Rattle.proof_hearing.specs.proof_queue.proof_attempts.proof_requests.law_host.Notes.{Start}
 use Rattle.proof_hearing.specs.proof_queue.proof_attempts.proof_requests.law_host.Ticks.{nodes_in_order, ticks}
 use Rattle.proof_hearing.specs.proof_queue.proof_attempts.proof_requests.proof_alone.Phases.{Ticking}
 use Rattle.proof_hearing.specs.proof_queue.proof_attempts.proof_requests.proof_alone.State.{HostMachine, done}
@@ -142,7 +143,7 @@ sealing_open h n so = record {
   form = so.form;
 }
 
-module _ (key : List ℕ) (taken : List Entry → Carried → List Told) (n : ℕ) (left : List HostEvent) (past told : List Entry) (m : HostMachine) (s : TickGround taken (Node_ticks n) left past told m)
+module _ (key : List ℕ) (taken : List Entry → Carried → List Told) (from : Start) (n : ℕ) (left : List HostEvent) (past told : List Entry) (m : HostMachine) (s : TickGround taken (Node_ticks n) left past told m)
     (is_node : IsNode n) (all : AllByRecursion IsNodeTick left) (tie : IsTied past m) where
   abbrev heeds : Heeds
   heeds = heeds_alone taken
@@ -278,28 +279,28 @@ module _ (key : List ℕ) (taken : List Entry → Carried → List Told) (n : �
 
   -- ---- where something was noted before it
 
-  pub node_some : (t : SomeNoted key taken past m (Node_ticks n ∷ left)) → SomeNoted key taken (past ++ told) k left
+  pub node_some : (t : SomeNoted key taken from past m (Node_ticks n ∷ left)) → SomeNoted key taken from (past ++ told) k left
   node_some t = by (node_noted past h (tick_nodes taken (Node_ticks n) left past told m s) told n is_node told_is)
     where
-      by : (told ≡ []) ⊎ GivesUp past n told → SomeNoted key taken (past ++ told) k left
+      by : (told ≡ []) ⊎ GivesUp past n told → SomeNoted key taken from (past ++ told) k left
       by (inl none) =
-          nothing_told (λ (l : List Entry). SomeNoted key taken l k left) past told none
-          (still_some key taken past m g r (Node_ticks n) left t (ascends_from t.last n left (let less = t.above.0 in omega (arith, less)) t.above.1) (over_on past past m k t.mid t.mid refl under refl t.over)
+          nothing_told (λ (l : List Entry). SomeNoted key taken from l k left) past told none
+          (still_some key taken from past m g r (Node_ticks n) left t (ascends_from t.last n left (let less = t.above.0 in omega (arith, less)) t.above.1) (over_on past past m k t.mid t.mid refl under refl t.over)
           (nodes_idle left k all) (quiet_books past (now_is taken (Ticking (Node_ticks n ∷ left)) past m s.ground t.numbered) refl t.mid t.books))
       by (inr gives) =
-          gives_more key taken n past told m notes (some gives) (gone gives) (none_below gives t.above.1) left t (has gives) g r (over_on past (past ++ told) m k t.mid t.mid (same_request past told notes) under refl t.over)
+          gives_more key taken from n past told m notes (some gives) (gone gives) (none_below gives t.above.1) left t (has gives) g r (over_on past (past ++ told) m k t.mid t.mid (same_request past told notes) under refl t.over)
           (nodes_idle left k all) (loud_books gives t.mid t.books)
 
   -- ---- where nothing was
 
-  module _ (known : NoneNoted key taken past m) where
+  module _ (known : NoneNoted key taken from past m) where
     abbrev c : Course
     c = known.course
 
     -- what the course makes of the tick before the nodes
     record Midways : Type 0 where
       mid : Course
-      midway : Midway key taken past m c mid (nodes_in_order past)
+      midway : Midway key taken from past m c mid (nodes_in_order past)
       due : mid.due ≡ []
       over : OverSo past m mid
       books : BooksSo key heeds (timed m past) h mid
@@ -307,7 +308,7 @@ module _ (key : List ℕ) (taken : List Entry → Carried → List Told) (n : �
     abbrev at_now : Course → Course
     at_now d = record d { ticked = m.clock }
 
-    still : (c.over ≡ false → Waits past m.clock) → Midway key taken past m c (at_now c) (nodes_in_order past)
+    still : (c.over ≡ false → Waits past m.clock) → Midway key taken from past m c (at_now c) (nodes_in_order past)
     still waits = record {
       goes = λ keepings texts. ap (λ (d : Course). ticking heeds past m.clock (nodes_in_order past) d) (goes_on heeds past m.clock (choosing keepings texts c) waits);
       others = refl;
@@ -409,14 +410,14 @@ module _ (key : List ℕ) (taken : List Entry → Carried → List Told) (n : �
     midways (inl level) = level_midway level
     midways (inr lags) = lags_midway lags
 
-    pub node_none : (0 < n) × Ascends n left → TickSo key taken (past ++ told) k left
+    pub node_none : (0 < n) × Ascends n left → TickSo key taken from (past ++ told) k left
     node_none above = by (node_noted past h (tick_nodes taken (Node_ticks n) left past told m s) told n is_node told_is)
       where
-        by : (told ≡ []) ⊎ GivesUp past n told → TickSo key taken (past ++ told) k left
+        by : (told ≡ []) ⊎ GivesUp past n told → TickSo key taken from (past ++ told) k left
         by (inl none) =
             Nothing (ascends_from 0 n left (omega arith) above.1)
-            (nothing_told (λ (l : List Entry). NoneNoted key taken l k) past told none
-            (still_none key taken past m g r
+            (nothing_told (λ (l : List Entry). NoneNoted key taken from l k) past told none
+            (still_none key taken from past m g r
             (quiet_books (timed m past) (timed_clock taken (Ticking (Node_ticks n ∷ left)) past m (ground_of (Ticking (Node_ticks n ∷ left)) past m s.ground.grounds)) (timed_attempts taken n past m))
             (ap (λ (o : Option UnderWay). is_none o) under) (λ is. under ∙ is) (falls_quiet h g node_falls) known))
         by (inr gives) =
@@ -424,5 +425,5 @@ module _ (key : List ℕ) (taken : List Entry → Carried → List Told) (n : �
             let books : BooksSo key heeds past h w.mid
             = subst (λ (b : Bool). BooksSo key heeds (if b then past ++ entry.Time m.clock ∷ [] else past) h w.mid) (awaits gives) w.books in
             Something
-            (gives_first key taken n past told m notes (some gives) (gone gives) (none_below gives above.1) c w.mid known.of known.follows known.early known.frames (awaits gives) (time_is gives) w.midway w.due
+            (gives_first key taken from n past told m notes (some gives) (gone gives) (none_below gives above.1) c w.mid known.of known.follows known.early known.frames (awaits gives) (time_is gives) w.midway w.due
             (has gives) g r left above.1 (over_on past (past ++ told) m k w.mid w.mid (same_request past told notes) under refl w.over) (nodes_idle left k all) (loud_books gives w.mid books))

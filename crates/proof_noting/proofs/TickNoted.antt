@@ -26,6 +26,7 @@ use Rattle.proof_hearing.specs.proof_queue.proof_attempts.proof_requests.law_hos
 use Rattle.proof_hearing.specs.proof_queue.proof_attempts.proof_requests.law_host.Following.{is_note}
 use Rattle.proof_hearing.specs.proof_queue.proof_attempts.proof_requests.law_host.Heard.{heeds_alone}
 use Rattle.proof_hearing.specs.proof_queue.proof_attempts.proof_requests.law_host.HostLegal.{IsHeeded}
+use Rattle.proof_hearing.specs.proof_queue.proof_attempts.proof_requests.law_host.Notes.{Start}
 use Rattle.proof_hearing.specs.proof_queue.proof_attempts.proof_requests.law_host.Ticks.{nodes_in_order, ticks}
 use Rattle.proof_hearing.specs.proof_queue.proof_attempts.proof_requests.proof_alone.State.{HostMachine}
 use Rattle.proof_hearing.specs.proof_queue.proof_attempts.proof_requests.proof_alone.Steps.{AreFrames}
@@ -35,6 +36,7 @@ use Rattle.proof_noting.proofs.TickChosen.{InTick, first_noted, more_noted, tick
 use Rattle.proof_noting.proofs.TickEnds.{notes_joined}
 use Rattle.proof_noting.specs.Following.{CourseOf, Follows, IsQuiet, Lags, Level, timed}
 use Rattle.proof_noting.specs.Ticking.{Ascends, IsIdleAt, NoneNoted, OverSo, SomeNoted}
+use Rattle.proof_noting.proofs.Choosing.{split_on}
 use Rattle.std.proofs.Common.{Bool, List, None, Option, Some, [], ap, append-nil, append_assoc, arith, false, inl, inr, refl, subst, sym, true, ℕ, ◌++◌, ◌<◌, ◌∙◌, ◌∷◌, ◌≡◌, ◌≤◌, ◌⊎◌}
 use Rattle.std.proofs.lemmas.Bool.{lt-ltb}
 use Rattle.std.specs.List.{AllByRecursion}
@@ -48,7 +50,7 @@ use Rattle.zw_text.specs.declared.entry.Entry.{Entry}
 pub nothing_told : (P : List Entry → Type 0) (past told : List Entry) → told ≡ [] → P past → P (past ++ told)
 nothing_told P past told none so = subst P (sym (ap (λ (l : List Entry). past ++ l) none ∙ append-nil past)) so
 
-module _ (key : List ℕ) (taken : List Entry → Carried → List Told) where
+module _ (key : List ℕ) (taken : List Entry → Carried → List Told) (from : Start) where
   abbrev heeds : Heeds
   heeds = heeds_alone taken
 
@@ -60,11 +62,11 @@ module _ (key : List ℕ) (taken : List Entry → Carried → List Told) where
         → ticks heeds past m.clock (choosing keepings texts c) ≡ ticking heeds past m.clock rest (choosing keepings texts mid)
     pub others : rest_of mid ≡ rest_of (record c { ticked = m.clock })
 
-  module _ (past told : List Entry) (m : HostMachine) (c : Course) (of : CourseOf heeds past c) (follows : Follows key taken past m c) (early : c.ticked < m.clock) (frames : AreFrames m.came)
+  module _ (past told : List Entry) (m : HostMachine) (c : Course) (of : CourseOf heeds from past c) (follows : Follows key taken past m c) (early : c.ticked < m.clock) (frames : AreFrames m.came)
       (awaits : m.awaits ≡ false) (time : clock past ≡ m.clock) (notes : AllByRecursion (λ e. is_note e ≡ true) told) (some : told ≡ [] → ⊥) where
     pub first_some : (g : HostState) (r : Option (List (List ℕ))) (left : List HostEvent) (front rest : List ℕ) (last : ℕ) (mid : Course) → nodes_in_order past ≡ front ++ rest
         → AllByRecursion (λ n. n ≤ last) front → Ascends last left → Midway past m c mid rest → mid.due ≡ told → OverSo (past ++ told) (record m { state = g; records = r }) mid
-        → IsIdleAt left (record m { state = g; records = r }) → BooksSo key heeds (past ++ told) g mid → SomeNoted key taken (past ++ told) (record m { state = g; records = r }) left
+        → IsIdleAt left (record m { state = g; records = r }) → BooksSo key heeds (past ++ told) g mid → SomeNoted key taken from (past ++ told) (record m { state = g; records = r }) left
     first_some g r left front rest last mid nodes passed above midway due over idle books = record {
       start = past;
       noted = told;
@@ -79,8 +81,10 @@ module _ (key : List ℕ) (taken : List Entry → Carried → List Told) where
       mid = mid;
       kept = of.kept;
       opened = of.opened;
-      is = subst (λ (now : ℕ). InTick heeds of.kept of.opened past told now rest mid (past ++ told)) time
-          (first_noted heeds past told c mid rest notes some of follows.fits follows.none_due (lt-ltb c.ticked (clock past) (omega (arith, early, time)))
+      heard = of.heard ++ told;
+      split = split_on heeds from past of.heard told of.split;
+      is = subst (λ (now : ℕ). InTick heeds of.kept of.opened past told now rest mid from (of.heard ++ told)) time
+          (first_noted heeds from past told c mid rest notes some of follows.fits follows.none_due (lt-ltb c.ticked (clock past) (omega (arith, early, time)))
           (subst (λ (now : ℕ). (keepings : List Bool) (texts : List (Option (List ℕ))) → ticks heeds past now (choosing keepings texts c) ≡ ticking heeds past now rest (choosing keepings texts mid)) (sym time)
           midway.goes)
           due fits);
@@ -145,11 +149,11 @@ module _ (key : List ℕ) (taken : List Entry → Carried → List Told) where
     has_back (j ∷ front) back k has = inr (has_back front back k has)
 
     -- nothing was noted yet
-    module _ (c mid : Course) (of : CourseOf heeds past c) (follows : Follows key taken past m c) (early : c.ticked < m.clock) (frames : AreFrames m.came) (awaits : m.awaits ≡ false)
+    module _ (c mid : Course) (of : CourseOf heeds from past c) (follows : Follows key taken past m c) (early : c.ticked < m.clock) (frames : AreFrames m.came) (awaits : m.awaits ≡ false)
         (time : clock past ≡ m.clock) (midway : Midway past m c mid (nodes_in_order past)) (due : mid.due ≡ []) (has : Has (nodes_in_order past) n) where
       pub gives_first : (g : HostState) (r : Option (List (List ℕ))) (left : List HostEvent) → Ascends n left → OverSo (past ++ told) (record m { state = g; records = r }) mid
           → IsIdleAt left (record m { state = g; records = r }) → BooksSo key heeds (past ++ told) g (without_texts n (with_notes told mid))
-          → SomeNoted key taken (past ++ told) (record m { state = g; records = r }) left
+          → SomeNoted key taken from (past ++ told) (record m { state = g; records = r }) left
       gives_first g r left above over idle books =
           let (front, back, are) = split (nodes_in_order past) n has in
           let below : AllByRecursion (λ k. k < n) front = before_it n front back (subst Rises are (order_rises past)) in
@@ -172,7 +176,7 @@ module _ (key : List ℕ) (taken : List Entry → Carried → List Told) where
           no_less k at = let range = (in_order_nodes past k at).0 in omega (arith, range)
 
     -- something was
-    module _ (left : List HostEvent) (s : SomeNoted key taken past m (Node_ticks n ∷ left)) (has : Has (nodes_in_order past) n) where
+    module _ (left : List HostEvent) (s : SomeNoted key taken from past m (Node_ticks n ∷ left)) (has : Has (nodes_in_order past) n) where
       same_nodes : nodes_in_order past ≡ nodes_in_order s.start
       same_nodes = ap (λ (l : List ℕ). in_order nat_cmp l) (ap joined s.are ∙ notes_joined s.start s.noted s.notes)
 
@@ -183,7 +187,7 @@ module _ (key : List ℕ) (taken : List Entry → Carried → List Told) where
       here = left_in s.last n s.front s.rest s.passed s.above.0 (subst (λ (l : List ℕ). Has l n) (same_nodes ∙ s.nodes) has)
 
       pub gives_more : (g : HostState) (r : Option (List (List ℕ))) → OverSo (past ++ told) (record m { state = g; records = r }) s.mid → IsIdleAt left (record m { state = g; records = r })
-          → BooksSo key heeds (past ++ told) g (without_texts n (with_notes told s.mid)) → SomeNoted key taken (past ++ told) (record m { state = g; records = r }) left
+          → BooksSo key heeds (past ++ told) g (without_texts n (with_notes told s.mid)) → SomeNoted key taken from (past ++ told) (record m { state = g; records = r }) left
       gives_more g r over idle books =
           let (front, back, are) = split s.rest n here in
           let below : AllByRecursion (λ k. k < n) front
@@ -202,7 +206,9 @@ module _ (key : List ℕ) (taken : List Entry → Carried → List Told) where
             mid = without_texts n (with_notes told s.mid);
             kept = s.kept;
             opened = s.opened;
-            is = more_noted heeds s.kept s.opened s.start s.noted past told m.clock s.rest back s.mid (without_texts n (with_notes told s.mid)) notes s.is
+            heard = s.heard ++ told;
+            split = split_on heeds from past s.heard told s.split;
+            is = more_noted heeds s.kept s.opened from s.start s.noted past s.heard told m.clock s.rest back s.mid (without_texts n (with_notes told s.mid)) s.split notes s.is
                 (node_gives s.start told m.clock s.rest front back n s.mid are
                 (none_of (s.start ++ s.mid.due) front below
                 (λ k at. subst (λ (l : List ℕ). Has l k) (sym (same_nodes ∙ s.nodes)) (has_back s.front s.rest k (subst (λ (l : List ℕ). Has l k) (sym are) (has_front front (n ∷ back) k at)))) there)
@@ -223,8 +229,8 @@ module _ (key : List ℕ) (taken : List Entry → Carried → List Told) where
   -- ---- nothing more is noted with an event
 
   module _ (past : List Entry) (m : HostMachine) (g : HostState) (r : Option (List (List ℕ))) where
-    pub still_some : (event : HostEvent) (left : List HostEvent) (s : SomeNoted key taken past m (event ∷ left)) → Ascends s.last left → OverSo past (record m { state = g; records = r }) s.mid
-        → IsIdleAt left (record m { state = g; records = r }) → BooksSo key heeds past g s.mid → SomeNoted key taken past (record m { state = g; records = r }) left
+    pub still_some : (event : HostEvent) (left : List HostEvent) (s : SomeNoted key taken from past m (event ∷ left)) → Ascends s.last left → OverSo past (record m { state = g; records = r }) s.mid
+        → IsIdleAt left (record m { state = g; records = r }) → BooksSo key heeds past g s.mid → SomeNoted key taken from past (record m { state = g; records = r }) left
     still_some event left s above over idle books = record {
       start = s.start;
       noted = s.noted;
@@ -239,6 +245,8 @@ module _ (key : List ℕ) (taken : List Entry → Carried → List Told) where
       mid = s.mid;
       kept = s.kept;
       opened = s.opened;
+      heard = s.heard;
+      split = s.split;
       is = s.is;
       due = s.due;
       fits = s.fits;
@@ -253,8 +261,8 @@ module _ (key : List ℕ) (taken : List Entry → Carried → List Told) where
     }
 
     pub still_none : ((d : Course) → BooksSo key heeds (timed m past) m.state d → BooksSo key heeds (timed m past) g d) → is_none g.requests.under_way ≡ is_none m.state.requests.under_way
-        → (m.state.requests.under_way ≡ None → g.requests.under_way ≡ None) → ((p : Purpose) → IsQuiet m.state p → IsQuiet g p) → NoneNoted key taken past m
-        → NoneNoted key taken past (record m { state = g; records = r })
+        → (m.state.requests.under_way ≡ None → g.requests.under_way ≡ None) → ((p : Purpose) → IsQuiet m.state p → IsQuiet g p) → NoneNoted key taken from past m
+        → NoneNoted key taken from past (record m { state = g; records = r })
     still_none books same none quiet known = record {
       course = known.course;
       of = known.of;
@@ -290,8 +298,8 @@ module _ (key : List ℕ) (taken : List Entry → Carried → List Told) where
     -- the request under way has ended, with nothing to note
     pub ends_quietly : (u : UnderWay) → m.state.requests.under_way ≡ Some u → g.requests.under_way ≡ None → (id : ℕ) → request_last past ≡ request_of u.purpose id ∷ [] → CarriesSo u.purpose
         → CarriesWell u.purpose → ending_among (asked past).frame true (judged_since (asked past)) ≡ [] → IsQuiet g u.purpose
-        → ((d : Course) → BooksSo key heeds (timed m past) m.state d → BooksSo key heeds (timed m past) g (ended_silently past d)) → NoneNoted key taken past m
-        → NoneNoted key taken past (record m { state = g; records = r })
+        → ((d : Course) → BooksSo key heeds (timed m past) m.state d → BooksSo key heeds (timed m past) g (ended_silently past d)) → NoneNoted key taken from past m
+        → NoneNoted key taken from past (record m { state = g; records = r })
     ends_quietly u under none id request carries well unended quiet books known = record {
       course = known.course;
       of = known.of;

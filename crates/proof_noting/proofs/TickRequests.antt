@@ -45,6 +45,7 @@ use Rattle.proof_hearing.specs.proof_queue.proof_attempts.proof_requests.law_hos
 use Rattle.proof_hearing.specs.proof_queue.proof_attempts.proof_requests.law_host.Ends.{ends_without}
 use Rattle.proof_hearing.specs.proof_queue.proof_attempts.proof_requests.law_host.Following.{is_note}
 use Rattle.proof_hearing.specs.proof_queue.proof_attempts.proof_requests.law_host.Heard.{heeds_alone}
+use Rattle.proof_hearing.specs.proof_queue.proof_attempts.proof_requests.law_host.Notes.{Start}
 use Rattle.proof_hearing.specs.proof_queue.proof_attempts.proof_requests.law_host.Ticks.{nodes_in_order, ticks}
 use Rattle.proof_hearing.specs.proof_queue.proof_attempts.proof_requests.proof_alone.Phases.{Ticking}
 use Rattle.proof_hearing.specs.proof_queue.proof_attempts.proof_requests.proof_alone.State.{HostMachine}
@@ -78,8 +79,8 @@ late_bad LinkFailed late false = refl
 late_bad how late more = absurd late
 
 -- the host after the line's tick, and with an event of its requests
-module _ (key : List ℕ) (taken : List Entry → Carried → List Told) (first : HostEvent) (left : List HostEvent) (past told : List Entry) (m : HostMachine) (s : TickGround taken first left past told m)
-    (known : NoneNoted key taken past m) (side : Side) (event : RequestsEvent) (is_told : IsTold event) (p : Purpose) (progress : Progress)
+module _ (key : List ℕ) (taken : List Entry → Carried → List Told) (from : Start) (first : HostEvent) (left : List HostEvent) (past told : List Entry) (m : HostMachine) (s : TickGround taken first left past told m)
+    (known : NoneNoted key taken from past m) (side : Side) (event : RequestsEvent) (is_told : IsTold event) (p : Purpose) (progress : Progress)
     (under : m.state.requests.under_way ≡ Some (record { purpose = p; progress = progress })) (how : How) (late : IsLate how)
     (ends : end_at m.state.requests event ≡ Some (record { purpose = p; how = how })) (over : (requests_after m.state.requests event).under_way ≡ None) (carries : CarriesSo p)
     (unended_so : first_ending (standing_of (asked past)) ≡ []) where
@@ -171,11 +172,11 @@ module _ (key : List ℕ) (taken : List Entry → Carried → List Told) (first 
     abbrev c : Course
     c = known.course
 
-    silently : told ≡ [] → TickSo key taken (past ++ told) k left
+    silently : told ≡ [] → TickSo key taken from (past ++ told) k left
     silently none =
         Nothing above
-        (nothing_told (λ (l : List Entry). NoneNoted key taken l k) past told none
-        (ends_quietly key taken past m g r u under none_then h.requests.last_id of.request carries of.well unended_so (quiet_then (sym told_is ∙ none))
+        (nothing_told (λ (l : List Entry). NoneNoted key taken from l k) past told none
+        (ends_quietly key taken from past m g r u under none_then h.requests.last_id of.request carries of.well unended_so (quiet_then (sym told_is ∙ none))
         (λ d books. end_quiet key taken past h side rs g (timed m past) (timed m past) p how end (λ n is late. late) d books) known))
 
     -- ---- something is
@@ -241,10 +242,10 @@ module _ (key : List ℕ) (taken : List Entry → Carried → List Told) (first 
       abbrev mid : Course
       mid = ended key taken past h side rs g how m.clock c
 
-      loudly : TickSo key taken (past ++ told) k left
+      loudly : TickSo key taken from (past ++ told) k left
       loudly =
           Something
-          (first_some key taken past told m c known.of known.follows known.early known.frames awaits time notes some g r left [] (nodes_in_order past) 0 mid refl tt above
+          (first_some key taken from past told m c known.of known.follows known.early known.frames awaits time notes some g r left [] (nodes_in_order past) 0 mid refl tt above
           (record {
             goes = λ keepings texts.
                 goes_by how late (here some) keepings texts
@@ -254,9 +255,9 @@ module _ (key : List ℕ) (taken : List Entry → Carried → List Told) (first 
           (so.noted.due ∙ ap (λ (l : List Entry). l ++ end_entries before (record { purpose = p; how = how })) known.follows.none_due ∙ sym told_is)
           (inl (so.noted.over_is ∙ sym (ap (λ (o : Option UnderWay). is_none o) none_then))) idle so.books)
 
-    pub end_goes : TickSo key taken (past ++ told) k left
+    pub end_goes : TickSo key taken from (past ++ told) k left
     end_goes = by told refl
       where
-        by : (l : List Entry) → told ≡ l → TickSo key taken (past ++ told) k left
+        by : (l : List Entry) → told ≡ l → TickSo key taken from (past ++ told) k left
         by [] is = silently is
         by (e ∷ more) is = loudly (λ none. let bad : e ∷ more ≡ [] = sym is ∙ none in cc)

@@ -50,7 +50,7 @@ use Rattle.proof_hearing.specs.proof_queue.proof_attempts.proof_requests.law_hos
 use Rattle.proof_hearing.specs.proof_queue.proof_attempts.proof_requests.law_host.Ends.{ends_sealing}
 use Rattle.proof_hearing.specs.proof_queue.proof_attempts.proof_requests.law_host.Heard.{heeds_alone}
 use Rattle.proof_hearing.specs.proof_queue.proof_attempts.proof_requests.law_host.Nonces.{IsOffer, IsOpening, IsSeal, UsesNonces}
-use Rattle.proof_hearing.specs.proof_queue.proof_attempts.proof_requests.law_host.Notes.{course_of, first_start}
+use Rattle.proof_hearing.specs.proof_queue.proof_attempts.proof_requests.law_host.Notes.{Start, course_of}
 use Rattle.proof_hearing.specs.proof_queue.proof_attempts.proof_requests.law_host.Ticks.{is_denied, nodes_in_order}
 use Rattle.proof_hearing.specs.proof_queue.proof_attempts.proof_requests.proof_alone.Phases.{May, Phase, Risen, Ticking}
 use Rattle.proof_hearing.specs.proof_queue.proof_attempts.proof_requests.proof_alone.State.{HostMachine, done}
@@ -106,8 +106,8 @@ no_more (e ∷ noted) more is = no_more noted more (let tails : noted ++ more �
 
 -- ---- the line
 
-module _ (key : List ℕ) (taken : List Entry → Carried → List Told) (left : List HostEvent) (past told : List Entry) (m : HostMachine) (s : TickGround taken Line_ticks left past told m) (nodes : List HostEvent)
-    (left_is : left ≡ Requests_do request_ticks BeforeItsTick ∷ nodes) (before : BeforeTick past m) (known : NoneNoted key taken past m) (above : Ascends 0 left) where
+module _ (key : List ℕ) (taken : List Entry → Carried → List Told) (from : Start) (left : List HostEvent) (past told : List Entry) (m : HostMachine) (s : TickGround taken Line_ticks left past told m) (nodes : List HostEvent)
+    (left_is : left ≡ Requests_do request_ticks BeforeItsTick ∷ nodes) (before : BeforeTick past m) (known : NoneNoted key taken from past m) (above : Ascends 0 left) where
   abbrev h : HostState
   h = m.state
 
@@ -118,16 +118,16 @@ module _ (key : List ℕ) (taken : List Entry → Carried → List Told) (left :
   r = (done m Line_ticks).records
 
   abbrev Goal : HostState → Type 0
-  Goal g = TickSo key taken (past ++ told) (record m { state = g; records = r }) left
+  Goal g = TickSo key taken from (past ++ told) (record m { state = g; records = r }) left
 
   frames : AreFrames m.came
   frames = tick_frames taken Line_ticks left past told m s
 
-  as_host : (b : Bool) → gives_up h.side.turn (turn_ticked h.side.turn) ≡ b → Goal (failing_if b lined) → TickSo key taken (past ++ told) (done m Line_ticks) left
+  as_host : (b : Bool) → gives_up h.side.turn (turn_ticked h.side.turn) ≡ b → Goal (failing_if b lined) → TickSo key taken from (past ++ told) (done m Line_ticks) left
   as_host b is goal = subst Goal (sym (after_fails h b is)) goal
 
   still : told ≡ [] → Goal lined
-  still none = none_goes key taken left past told m known lined.side h.requests r refl refl (λ is. is) none above
+  still none = none_goes key taken from left past told m known lined.side h.requests r refl refl (λ is. is) none above
 
   fails : gives_up h.side.turn (turn_ticked h.side.turn) ≡ true → told ≡ failing_entries true lined → Goal (failing_if true lined)
   fails gives are = by h.requests.under_way refl
@@ -140,7 +140,7 @@ module _ (key : List ℕ) (taken : List Entry → Carried → List Told) (left :
       by (Some u) is =
           let ends = ap (λ (o : Option UnderWay). end_from (λ u. ends_so LinkFailed) o) is in
           let over = ap (λ (o : Option UnderWay). (next_from h.requests (λ u. ends_so LinkFailed) o).under_way) is in
-          end_goes key taken Line_ticks left past told m s known lined.side request_fails tt u.purpose u.progress is LinkFailed tt ends over
+          end_goes key taken from Line_ticks left past told m s known lined.side request_fails tt u.purpose u.progress is LinkFailed tt ends over
           (carries_by past before.before before.before m.came (doing_of h) u is before.tie) (unended past before.before before.before m.came (doing_of h) u is before.tie) r
           (are ∙ ap (λ (o : Option End). end_entries_if (requests_do lined request_fails) o) ends)
           (λ some. given_up_at past m left u (ground_of (Ticking (Line_ticks ∷ left)) past m s.ground.grounds, asked_of (Ticking (Line_ticks ∷ left)) past m s.ground.grounds)
@@ -149,7 +149,7 @@ module _ (key : List ℕ) (taken : List Entry → Carried → List Told) (left :
           (subst (λ (l : List HostEvent). IsIdleAt l (record m { state = failing_if true lined; records = r })) (sym left_is)
           (ap (λ (q : RequestsState). q.under_way) (requests_are lined request_fails BeforeItsTick) ∙ over))
 
-  no_copy : (b : Bool) → gives_up h.side.turn (turn_ticked h.side.turn) ≡ b → told ≡ failing_entries b lined → TickSo key taken (past ++ told) (done m Line_ticks) left
+  no_copy : (b : Bool) → gives_up h.side.turn (turn_ticked h.side.turn) ≡ b → told ≡ failing_entries b lined → TickSo key taken from (past ++ told) (done m Line_ticks) left
   no_copy false is are = as_host false is (still are)
   no_copy true is are = as_host true is (fails is are)
 
@@ -167,7 +167,7 @@ module _ (key : List ℕ) (taken : List Entry → Carried → List Told) (left :
           (ap (λ (l : List Failing). list_any (λ one. one.at_answer && nat_le one.frames (acknowledged past)) l) none)
 
   copies_it : (f : FrameParts) (copies ticks : ℕ) → h.side.turn ≡ Paused f copies ticks → (ticks + 1 == pause_after copies) ≡ true → AreTold (line_outs h (Paused f copies ticks)) told
-      → TickSo key taken (past ++ told) (done m Line_ticks) left
+      → TickSo key taken from (past ++ told) (done m Line_ticks) left
   copies_it f copies ticks is due are =
       let written : IsWritten (unit_text (Framed f)) told = copy_line h f copies ticks told due are in
       let old : is_new (asked past) (unit_text (Framed f)) ≡ false
@@ -175,12 +175,12 @@ module _ (key : List ℕ) (taken : List Entry → Carried → List Told) (left :
       let some : told ≡ [] → ⊥ = λ none. let bad : entry.Written Host (unit_text (Framed f)) ∷ written.rest ≡ [] = sym written.are ∙ none in cc in
       as_host false (ap (λ (t : Turn). gives_up t (turn_ticked t)) is ∙ busy_keeps f copies ticks (ticks + 1 == pause_after copies))
       (Nothing above
-      (subst (λ (l : List Entry). NoneNoted key taken (past ++ l) (record m { state = lined; records = r })) (sym written.are)
-      (copy_goes key taken left past told m known (unit_text (Framed f)) written.rest refl refl old written.marks (undenied_so f copies ticks is) lined r (tick_numbered taken Line_ticks left past told m s some)
-      (λ d books. side_books key taken left past told m known lined.side h.requests refl (past ++ entry.Written Host (unit_text (Framed f)) ∷ written.rest) d books) refl
+      (subst (λ (l : List Entry). NoneNoted key taken from (past ++ l) (record m { state = lined; records = r })) (sym written.are)
+      (copy_goes key taken from left past told m known (unit_text (Framed f)) written.rest refl refl old written.marks (undenied_so f copies ticks is) lined r (tick_numbered taken Line_ticks left past told m s some)
+      (λ d books. side_books key taken from left past told m known lined.side h.requests refl (past ++ entry.Written Host (unit_text (Framed f)) ∷ written.rest) d books) refl
       (falls_quiet h lined (λ n falls. falls)))))
 
-  line_by : (turn : Turn) → h.side.turn ≡ turn → AreTold (line_outs h turn) told → TickSo key taken (past ++ told) (done m Line_ticks) left
+  line_by : (turn : Turn) → h.side.turn ≡ turn → AreTold (line_outs h turn) told → TickSo key taken from (past ++ told) (done m Line_ticks) left
   line_by Idle is are = no_copy false (ap (λ (t : Turn). gives_up t (turn_ticked t)) is) are
   line_by (Copied f copies ticks) is are =
       let gives : Bool = gives_up (Copied f copies ticks) (turn_ticked (Copied f copies ticks)) in
@@ -189,19 +189,19 @@ module _ (key : List ℕ) (taken : List Entry → Carried → List Told) (left :
     where
       by : (b : Bool) → (ticks + 1 == pause_after copies) ≡ b
           → AreTold (copy_out (if b then Some f else None) ++ noted (failing_entries (gives_up (Paused f copies ticks) (if b then Copied f (copies + 1) 0 else Paused f copies (ticks + 1))) lined)) told
-          → TickSo key taken (past ++ told) (done m Line_ticks) left
+          → TickSo key taken from (past ++ told) (done m Line_ticks) left
       by true due now =
           copies_it f copies ticks is due
           (subst (λ (b : Bool). AreTold (copy_out (if b then Some f else None)
           ++ noted (failing_entries (gives_up (Paused f copies ticks) (if b then Copied f (copies + 1) 0 else Paused f copies (ticks + 1))) lined)) told) (sym due) now)
       by false due now = no_copy false (ap (λ (t : Turn). gives_up t (turn_ticked t)) is ∙ busy_keeps f copies ticks (ticks + 1 == pause_after copies)) now
 
-  pub line_goes : TickSo key taken (past ++ told) (done m Line_ticks) left
+  pub line_goes : TickSo key taken from (past ++ told) (done m Line_ticks) left
   line_goes = line_by h.side.turn refl s.told_so
 
 -- ---- the request under way
 
-module _ (key : List ℕ) (taken : List Entry → Carried → List Told) (left : List HostEvent) (past told : List Entry) (m : HostMachine)
+module _ (key : List ℕ) (taken : List Entry → Carried → List Told) (from : Start) (left : List HostEvent) (past told : List Entry) (m : HostMachine)
     (s : TickGround taken (Requests_do request_ticks BeforeItsTick) left past told m) (all : AllByRecursion IsNodeTick left) (half : HalfTick past m) where
   abbrev asking : HostState
   asking = m.state
@@ -213,7 +213,7 @@ module _ (key : List ℕ) (taken : List Entry → Carried → List Told) (left :
   kept_then = (done m (Requests_do request_ticks BeforeItsTick)).records
 
   abbrev Reaches : HostState → Type 0
-  Reaches g = TickSo key taken (past ++ told) (record m { state = g; records = kept_then }) left
+  Reaches g = TickSo key taken from (past ++ told) (record m { state = g; records = kept_then }) left
 
   told_is : told ≡ request_entries asking request_ticks
   told_is = noted_told (request_entries asking request_ticks) told s.told_so
@@ -225,86 +225,86 @@ module _ (key : List ℕ) (taken : List Entry → Carried → List Told) (left :
   told_by : (o : Option UnderWay) → asking.requests.under_way ≡ o → told ≡ end_entries_if (requests_do asking request_ticks) (end_from at_tick o)
   told_by o is = told_is ∙ ap (λ (o : Option UnderWay). end_entries_if (requests_do asking request_ticks) (end_from at_tick o)) is
 
-  pub request_some : SomeNoted key taken past m (Requests_do request_ticks BeforeItsTick ∷ left) → SomeNoted key taken (past ++ told) (done m (Requests_do request_ticks BeforeItsTick)) left
+  pub request_some : SomeNoted key taken from past m (Requests_do request_ticks BeforeItsTick ∷ left) → SomeNoted key taken from (past ++ told) (done m (Requests_do request_ticks BeforeItsTick)) left
   request_some t =
-      nothing_told (λ (l : List Entry). SomeNoted key taken l (done m ticks_it) left) past told (told_by None t.idle)
-      (subst (λ (g : HostState). SomeNoted key taken past (record m { state = g; records = kept_then }) left) (sym (by_way None t.idle))
-      (still_some key taken past m asking kept_then ticks_it left t t.above t.over (nodes_idle left (record m { state = asking; records = kept_then }) all) t.books))
+      nothing_told (λ (l : List Entry). SomeNoted key taken from l (done m ticks_it) left) past told (told_by None t.idle)
+      (subst (λ (g : HostState). SomeNoted key taken from past (record m { state = g; records = kept_then }) left) (sym (by_way None t.idle))
+      (still_some key taken from past m asking kept_then ticks_it left t t.above t.over (nodes_idle left (record m { state = asking; records = kept_then }) all) t.books))
 
-  pub request_none : NoneNoted key taken past m → Ascends 0 left → TickSo key taken (past ++ told) (done m (Requests_do request_ticks BeforeItsTick)) left
+  pub request_none : NoneNoted key taken from past m → Ascends 0 left → TickSo key taken from (past ++ told) (done m (Requests_do request_ticks BeforeItsTick)) left
   request_none known above = by asking.requests.under_way refl
     where
       by_next : (u : UnderWay) → asking.requests.under_way ≡ Some u → (n : Next) → at_tick u ≡ n → Reaches (after asking ticks_it)
       by_next u is (GoesOn progress) same =
           subst Reaches
           (sym (by_way (Some u) is ∙ ap (λ (n : Next). after_end_if (record m.state { requests = went_on asking.requests u n }) (end_of u n) BeforeItsTick) same))
-          (none_goes key taken left past told m known asking.side (went_on asking.requests u (GoesOn progress)) kept_then refl (sym (ap (λ (o : Option UnderWay). is_none o) is))
+          (none_goes key taken from left past told m known asking.side (went_on asking.requests u (GoesOn progress)) kept_then refl (sym (ap (λ (o : Option UnderWay). is_none o) is))
           (λ none. none_some asking.requests.under_way u none is) (told_by (Some u) is ∙ ap (λ (n : Next). end_entries_if (requests_do asking request_ticks) (end_of u n)) same) above)
       by_next u is (ends_so how) same =
           let ends = ap (λ (o : Option UnderWay). end_from at_tick o) is ∙ ap (λ (n : Next). end_of u n) same in
           let over = ap (λ (o : Option UnderWay). (next_from asking.requests at_tick o).under_way) is ∙ ap (λ (n : Next). (went_on asking.requests u n).under_way) same in
-          end_goes key taken ticks_it left past told m s known asking.side request_ticks tt u.purpose u.progress is how (late_how (counted_down u.progress) how same) ends over
+          end_goes key taken from ticks_it left past told m s known asking.side request_ticks tt u.purpose u.progress is how (late_how (counted_down u.progress) how same) ends over
           (carries_by past m.clock half.before m.came (doing_of asking) u is half.tie) (unended past m.clock half.before m.came (doing_of asking) u is half.tie) kept_then
           (told_is ∙ ap (λ (o : Option End). end_entries_if (requests_do asking request_ticks) o) ends)
           (λ some. silent_at past m left u how (asked_of (Ticking (ticks_it ∷ left)) past m s.ground.grounds) (tick_time taken ticks_it left past told m s some) is same) above
           (nodes_idle left (record m { state = after asking ticks_it; records = kept_then }) all)
 
       by : (o : Option UnderWay) → asking.requests.under_way ≡ o → Reaches (after asking ticks_it)
-      by None is = subst Reaches (sym (by_way None is)) (none_goes key taken left past told m known asking.side asking.requests kept_then refl refl (λ none. none) (told_by None is) above)
+      by None is = subst Reaches (sym (by_way None is)) (none_goes key taken from left past told m known asking.side asking.requests kept_then refl refl (λ none. none) (told_by None is) above)
       by (Some u) is = by_next u is (at_tick u) refl
 
 -- ---- each of them
 
-module _ (key : List ℕ) (taken : List Entry → Carried → List Told) (laws : TickLaws key taken) where
+module _ (key : List ℕ) (taken : List Entry → Carried → List Told) (from : Start) (laws : TickLaws key taken) where
   abbrev heeds : Heeds
   heeds = heeds_alone taken
 
   module _ (left : List HostEvent) (past told : List Entry) (m : HostMachine) where
     line_event : TickGround taken Line_ticks left past told m → (nodes : List HostEvent) → left ≡ Requests_do request_ticks BeforeItsTick ∷ nodes → BeforeTick past m
-        → TickSo key taken past m (Line_ticks ∷ left) → TickSo key taken (past ++ told) (done m Line_ticks) left
-    line_event s nodes is before (Nothing above known) = line_goes key taken left past told m s nodes is before known above
+        → TickSo key taken from past m (Line_ticks ∷ left) → TickSo key taken from (past ++ told) (done m Line_ticks) left
+    line_event s nodes is before (Nothing above known) = line_goes key taken from left past told m s nodes is before known above
     line_event s nodes is before (Something t) = absurd t.idle
 
     request_event : TickGround taken (Requests_do request_ticks BeforeItsTick) left past told m → AllByRecursion IsNodeTick left → HalfTick past m
-        → TickSo key taken past m (Requests_do request_ticks BeforeItsTick ∷ left) → TickSo key taken (past ++ told) (done m (Requests_do request_ticks BeforeItsTick)) left
-    request_event s all half (Nothing above known) = request_none key taken left past told m s all half known above
-    request_event s all half (Something t) = Something (request_some key taken left past told m s all half t)
+        → TickSo key taken from past m (Requests_do request_ticks BeforeItsTick ∷ left) → TickSo key taken from (past ++ told) (done m (Requests_do request_ticks BeforeItsTick)) left
+    request_event s all half (Nothing above known) = request_none key taken from left past told m s all half known above
+    request_event s all half (Something t) = Something (request_some key taken from left past told m s all half t)
 
     node_event : (one : HostEvent) → IsNodeTick one → TicksNode one → TickGround taken one left past told m → AllByRecursion IsNodeTick left → IsTied past m
-        → TickSo key taken past m (one ∷ left) → TickSo key taken (past ++ told) (done m one) left
-    node_event (Node_ticks n) node is s all tie (Nothing above known) = node_none key taken n left past told m s is all tie known above
-    node_event (Node_ticks n) node is s all tie (Something t) = Something (node_some key taken n left past told m s is all tie t)
+        → TickSo key taken from past m (one ∷ left) → TickSo key taken from (past ++ told) (done m one) left
+    node_event (Node_ticks n) node is s all tie (Nothing above known) = node_none key taken from n left past told m s is all tie known above
+    node_event (Node_ticks n) node is s all tie (Something t) = Something (node_some key taken from n left past told m s is all tie t)
     node_event one node is s all tie known = absurd node
 
-    tick_by : (first : HostEvent) → TickGround taken first left past told m → KnowsTick (first ∷ left) past m → TickSo key taken past m (first ∷ left) → TickSo key taken (past ++ told) (done m first) left
+    tick_by : (first : HostEvent) → TickGround taken first left past told m → KnowsTick (first ∷ left) past m → TickSo key taken from past m (first ∷ left) → TickSo key taken from (past ++ told) (done m first) left
     tick_by first s (inl (nodes, these, all, before)) known =
-        subst (λ (f : HostEvent). TickGround taken f left past told m → TickSo key taken past m (f ∷ left) → TickSo key taken (past ++ told) (done m f) left)
+        subst (λ (f : HostEvent). TickGround taken f left past told m → TickSo key taken from past m (f ∷ left) → TickSo key taken from (past ++ told) (done m f) left)
         (sym (first_same first Line_ticks left (Requests_do request_ticks BeforeItsTick ∷ nodes) these))
         (λ s known. line_event s nodes (left_same first Line_ticks left (Requests_do request_ticks BeforeItsTick ∷ nodes) these) before known) s known
     tick_by first s (inr (inl (nodes, these, all, half))) known =
-        subst (λ (f : HostEvent). TickGround taken f left past told m → TickSo key taken past m (f ∷ left) → TickSo key taken (past ++ told) (done m f) left)
+        subst (λ (f : HostEvent). TickGround taken f left past told m → TickSo key taken from past m (f ∷ left) → TickSo key taken from (past ++ told) (done m f) left)
         (sym (first_same first (Requests_do request_ticks BeforeItsTick) left nodes these))
         (λ s known. request_event s (subst (AllByRecursion IsNodeTick) (sym (left_same first (Requests_do request_ticks BeforeItsTick) left nodes these)) all) half known) s known
     tick_by first s (inr (inr (all, tie))) known = node_event first all.0 s.ground.grounds.sleep.1.1.0 s all.1 tie known
 
-  pub tick_step : (left : List HostEvent) (next : Phase) (past told : List Entry) (m : HostMachine) (one : HostEvent) → StepFollows key taken (Ticking left) past m (Does one told) next
+  pub tick_step : (left : List HostEvent) (next : Phase) (past told : List Entry) (m : HostMachine) (one : HostEvent) → StepFollows key taken from (Ticking left) past m (Does one told) next
   tick_step [] next past told m one sure well may known = absurd may.0
   tick_step (first ∷ left) next past told m one sure well may known =
-      subst (λ (o : HostEvent). May (Ticking (first ∷ left)) m (Does o told) next → KnowsCourse key taken (first_of key) next (past ++ told) (done m o)) (sym may.0.0)
-      (subst (λ (n : Phase). May (Ticking (first ∷ left)) m (Does first told) n → KnowsCourse key taken (first_of key) n (past ++ told) (done m first)) (sym may.0.1)
+      subst (λ (o : HostEvent). May (Ticking (first ∷ left)) m (Does o told) next → KnowsCourse key taken from (first_of key) next (past ++ told) (done m o)) (sym may.0.0)
+      (subst (λ (n : Phase). May (Ticking (first ∷ left)) m (Does first told) n → KnowsCourse key taken from (first_of key) n (past ++ told) (done m first)) (sym may.0.1)
       (λ may.
       let s : TickGround taken first left past told m = ticks_ground key taken laws first left past told m sure may in
       tick_by left past told m first s (asked_of (Ticking (first ∷ left)) past m s.ground.grounds) known)) may
 
   -- ---- it begins
 
-  pub tick_begins : (next : Phase) (past : List Entry) (m : HostMachine) → TurnFollows key taken Risen next past m
+  pub tick_begins : (next : Phase) (past : List Entry) (m : HostMachine) → TurnFollows key taken from Risen next past m
   tick_begins next past m sure well turns known =
-      subst (λ (n : Phase). KnowsCourse key taken (first_of key) n past m) (sym turns) (Nothing (ticks_ascend (after_all m.state first_ticks)) known)
+      subst (λ (n : Phase). KnowsCourse key taken from (first_of key) n past m) (sym turns) (Nothing (ticks_ascend (after_all m.state first_ticks)) known)
 
   -- ---- it is over
 
-  module _ (past : List Entry) (m : HostMachine) (ground : NotingGround taken (Ticking []) past m) (s : SomeNoted key taken past m []) where
+  module _ (past : List Entry) (m : HostMachine) (ground : NotingGround taken (Ticking []) past m) (s : SomeNoted key taken from past m []) where
     tied : KnowsTick [] past m → IsTied past m
     tied (inl (nodes, these, all, before)) = absurd (let bad : [] ≡ Line_ticks ∷ Requests_do request_ticks BeforeItsTick ∷ nodes = these in cc)
     tied (inr (inl (nodes, these, all, half))) = absurd (let bad : [] ≡ Requests_do request_ticks BeforeItsTick ∷ nodes = these in cc)
@@ -328,7 +328,7 @@ module _ (key : List ℕ) (taken : List Entry → Carried → List Told) (laws :
     course = record s.mid { due = [] }
 
     is_so : (keepings : List Bool) (texts : List (Option (List ℕ)))
-        → course_of heeds first_start past (record { keepings = s.kept ++ keepings; texts = s.opened ++ texts }) ≡ choosing keepings texts course
+        → course_of heeds from s.heard (record { keepings = s.kept ++ keepings; texts = s.opened ++ texts }) ≡ choosing keepings texts course
     is_so keepings texts =
         let (more, due_is, course_is) = s.is keepings texts in
         let same = none_gone heeds s.start m.clock s.rest (choosing keepings texts s.mid) (none_left s.front s.rest s.nodes) in
@@ -354,33 +354,35 @@ module _ (key : List ℕ) (taken : List Entry → Carried → List Told) (laws :
           why = inr (inr refl);
         })
 
-    some_over : AtOpen key taken past m
+    some_over : AtOpen key taken from past m
     some_over = record {
       course = course;
-      of = record { kept = s.kept; opened = s.opened; is = is_so };
+      of = record { heard = s.heard; split = s.split; kept = s.kept; opened = s.opened; is = is_so };
       follows = record { fits = s.fits; none_due = refl; low = let at = s.ticked in omega (arith, at); heeded = s.heeded; so = so s.over };
       answered = inl s.frames;
     }
 
-  tick_over : (past : List Entry) (m : HostMachine) → NotingGround taken (Ticking []) past m → TickSo key taken past m [] → AtOpen key taken past m
+  tick_over : (past : List Entry) (m : HostMachine) → NotingGround taken (Ticking []) past m → TickSo key taken from past m [] → AtOpen key taken from past m
   tick_over past m ground (Nothing above known) = record { course = known.course; of = known.of; follows = known.follows; answered = inl known.frames }
   tick_over past m ground (Something s) = some_over past m ground s
 
-  pub tick_ends : (left : List HostEvent) (next : Phase) (past : List Entry) (m : HostMachine) → TurnFollows key taken (Ticking left) next past m
+  pub tick_ends : (left : List HostEvent) (next : Phase) (past : List Entry) (m : HostMachine) → TurnFollows key taken from (Ticking left) next past m
   tick_ends [] next past m sure well turns known =
-      subst (λ (n : Phase). KnowsCourse key taken (first_of key) n past m) (sym turns) (tick_over past m (laws.along (Ticking []) past m sure) known)
+      subst (λ (n : Phase). KnowsCourse key taken from (first_of key) n past m) (sym turns) (tick_over past m (laws.along (Ticking []) past m sure) known)
   tick_ends (first ∷ left) next past m sure well turns known = absurd turns
 
 -- ---- it fits
 
-module _ (key : List ℕ) (taken : List Entry → Carried → List Told) (past : List Entry) (m : HostMachine) (left : List HostEvent) where
-  some_fits : SomeNoted key taken past m left → Fitting key taken past
+module _ (key : List ℕ) (taken : List Entry → Carried → List Told) (from : Start) (past : List Entry) (m : HostMachine) (left : List HostEvent) where
+  some_fits : SomeNoted key taken from past m left → Fitting key taken from past
   some_fits s =
       let (more, due_is, course_is) = s.is [] [] in
       let d : Course = ticking (heeds_alone taken) s.start m.clock s.rest (choosing [] [] s.mid) in
       let same : rest_of d ≡ rest_of (choosing [] [] s.mid) = nodes_rest (heeds_alone taken) s.start m.clock s.rest (choosing [] [] s.mid) in
       let uses : UsesNonces key s.books.drawn s.mid = uses_nonces key (heeds_alone taken) past m.state s.mid s.books in
       record {
+        heard = s.heard;
+        split = s.split;
         choices = record { keepings = s.kept ++ []; texts = s.opened ++ [] };
         drawn = s.books.drawn;
         fits = ap (λ (c : Course). c.fits) course_is ∙ ap (λ (c : Course). c.fits) same ∙ s.fits;
@@ -393,6 +395,6 @@ module _ (key : List ℕ) (taken : List Entry → Carried → List Told) (past :
             });
       }
 
-  pub tick_fits : TickSo key taken past m left → Fitting key taken past
-  tick_fits (Nothing above known) = follows_fit key taken past m known.course known.of known.follows
+  pub tick_fits : TickSo key taken from past m left → Fitting key taken from past
+  tick_fits (Nothing above known) = follows_fit key taken from past m known.course known.of known.follows
   tick_fits (Something s) = some_fits s

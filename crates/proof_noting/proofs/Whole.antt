@@ -1,5 +1,5 @@
--- The walk: along each run of which all is so the course of notes follows the host, by what each kind of step makes of it.
-use Rattle.std.proofs.Common.{◌≡◌, ◌⊎◌, ℕ, inl, inr, List, [], ◌∷◌, ◌++◌, refl, sym, subst, arith}
+-- The walk: along each run of which all is so the course of notes follows the host from where it begins, by what each kind of step makes of it.
+use Rattle.std.proofs.Common.{◌≡◌, ◌⊎◌, ℕ, inl, inr, List, [], ◌∷◌, ◌++◌, sym, subst}
 use Rattle.std.specs.Prelude.{Result, Ok, Err}
 use Rattle.serial_frame.specs.declared.frame.Kind.{Kind}
 use Rattle.serial_frame.specs.declared.frame.Kind.TheVariants as kind
@@ -7,67 +7,42 @@ use Rattle.serial_frame.specs.declared.item.Item.{Item}
 use Rattle.serial_frame.specs.declared.item.Item.TheVariants.{Good, Refused as refused_item}
 use Rattle.serial_frame.specs.declared.unit.Unit.{Unit as LineUnit}
 use Rattle.serial_frame.specs.declared.unit.Unit.TheVariants.{Ack, Nak, Can, Framed}
-use Rattle.s0_crypto.specs.Sealing.{keys_of}
 use Rattle.chip_functions.specs.Notice.{notice_of}
 use Rattle.chip_functions.specs.declared.fault.BodyFault.{BodyFault}
 use Rattle.chip_functions.specs.declared.notice.Notice.{Notice}
 use Rattle.chip_functions.specs.declared.notice.Notice.TheVariants.{ApplicationCommandHandler}
-use Rattle.zw_text.specs.declared.line.Line.{Line}
 use Rattle.zw_text.specs.declared.line.Line.TheVariants as lines
 use Rattle.zw_text.specs.declared.entry.Entry.{Entry}
 use Rattle.host_heard.specs.declared.told.Told.{Told}
 use Rattle.law_transcript.specs.Units.{Carried}
 use Rattle.host_model.specs.Events.{HostEvent}
-use Rattle.host_model.specs.State.{HostState}
 use Rattle.host_model.proofs.Submitted.{SleepersAre, SubmittedAre, next_is, no_more_is}
 use Rattle.proof_choice.specs.proof_giving.Tie.{IsRequest}
-use Rattle.proof_hearing.proofs.Beginning.{books_first}
 use Rattle.proof_hearing.specs.proof_queue.Heeding.{AllSteps, HeedsAs, HeedsSo}
-use Rattle.proof_hearing.specs.proof_queue.proof_attempts.proof_requests.law_host.Course.{course_from}
 use Rattle.proof_hearing.specs.proof_queue.proof_attempts.proof_requests.law_host.Heard.{heeds_alone}
+use Rattle.proof_hearing.specs.proof_queue.proof_attempts.proof_requests.law_host.Notes.{Start}
 use Rattle.proof_hearing.specs.proof_queue.proof_attempts.proof_requests.proof_alone.Careful.{Careful}
 use Rattle.proof_hearing.specs.proof_queue.proof_attempts.proof_requests.proof_alone.State.{HostMachine, done}
-use Rattle.proof_hearing.specs.proof_queue.proof_attempts.proof_requests.proof_alone.Steps.{Step, Tells, Comes, Misses, Says, Says_nothing, Asks, Refuses, Shows, Restarts, Begins_tick, Numbers, Judges, Does, entries}
+use Rattle.proof_hearing.specs.proof_queue.proof_attempts.proof_requests.proof_alone.Steps.{Step, Tells, Comes, Misses, Says, Says_nothing, Asks, Refuses, Shows, Restarts, Begins_tick, Numbers, Judges, Does, entries, happens}
 use Rattle.proof_hearing.specs.proof_queue.proof_attempts.proof_requests.proof_alone.Phases.{Phase, Resting, Asked, Risen, Ticking, Open, Behind, Sleeping, Submitting, May, Turns}
 use Rattle.proof_hearing.specs.proof_queue.proof_attempts.proof_requests.proof_alone.Runs.{Run}
 use Rattle.proof_hearing.specs.proof_queue.proof_attempts.proof_requests.proof_alone.Runs.Run.{Begins, Turned, Stepped}
-use Rattle.proof_noting.specs.Behind.{AtOpen, BehindSo, InPayload, OneLeft}
+use Rattle.proof_noting.specs.Behind.{AtOpen, BehindSo}
 use Rattle.proof_noting.specs.Behind.BehindSo.{None_left, One_left, Payload_left}
-use Rattle.proof_noting.specs.Noting.{AtRest, KnowsCourse}
-use Rattle.proof_noting.specs.Steps.{BringsFrame, BringsNotice, BringsPayload, CourseFits, Fitting, FittingWhole, IsBeside, IsPumping, IsUnsent, StepFollows, TurnFollows, first_of}
+use Rattle.proof_noting.specs.Noting.{KnowsCourse}
+use Rattle.proof_noting.specs.Parts.{Parts}
+use Rattle.proof_noting.specs.Steps.{BringsFrame, BringsNotice, BringsPayload, CourseFits, Fitting, IsUnsent, StepFollows, TurnFollows, first_of}
 use Rattle.proof_noting.specs.Sure.{Hears, SureRun, SureStep}
 use Rattle.proof_noting.proofs.Fitted.{follows_fit}
 
--- ---- what is known of the parts
+-- ---- where it begins
 
--- each kind of step, and each part that is over
-pub record Parts (key : List ℕ) (taken : List Entry → Carried → List Told) : Type 0 where
-  pub beside : (here next : Phase) (past : List Entry) (m : HostMachine) (step : Step) → IsBeside step → StepFollows key taken here past m step next
-  pub unsent : (here next : Phase) (past told : List Entry) (m : HostMachine) (event : HostEvent) → IsPumping here → IsUnsent event → StepFollows key taken here past m (Does event told) next
-  pub submits : (past told : List Entry) (m : HostMachine) (event : HostEvent) → IsRequest event → StepFollows key taken Submitting past m (Does event told) Submitting
-  pub starts : (next : Phase) (past : List Entry) (m : HostMachine) (state : HostState) → StepFollows key taken (Asked lines.Restart) past m (Restarts state) next
-  pub judged : (next : Phase) (past told : List Entry) (m : HostMachine) (item : Item) (rest : List LineUnit) (behind : List HostEvent) → (BringsPayload item → ⊥)
-      → StepFollows key taken Open past m (Judges item rest behind told) next
-  pub payload : (next : Phase) (past told : List Entry) (m : HostMachine) (item : Item) (rest : List LineUnit) (behind : List HostEvent) → BringsPayload item
-      → StepFollows key taken Open past m (Judges item rest behind told) next
-  pub one_left : (next : Phase) (past told : List Entry) (m : HostMachine) (one : HostEvent) → SureRun taken (first_of key) (Behind (one ∷ [])) past m → May (Behind (one ∷ [])) m (Does one told) next
-      → OneLeft key taken past m one → KnowsCourse key taken (first_of key) next (past ++ told) (done m one)
-  pub payload_left : (next : Phase) (past told : List Entry) (m : HostMachine) (one : HostEvent) (left : List HostEvent) → SureRun taken (first_of key) (Behind (one ∷ left)) past m
-      → May (Behind (one ∷ left)) m (Does one told) next → InPayload key taken (first_of key) past m (one ∷ left) → KnowsCourse key taken (first_of key) next (past ++ told) (done m one)
-  pub payload_over : (past : List Entry) (m : HostMachine) → SureRun taken (first_of key) (Behind []) past m → InPayload key taken (first_of key) past m [] → AtOpen key taken past m
-  pub ticks : (left : List HostEvent) (next : Phase) (past told : List Entry) (m : HostMachine) (one : HostEvent) → StepFollows key taken (Ticking left) past m (Does one told) next
-  pub rests : (next : Phase) (past : List Entry) (m : HostMachine) → TurnFollows key taken Resting next past m
-  pub asks : (line : Line) (next : Phase) (past : List Entry) (m : HostMachine) → TurnFollows key taken (Asked line) next past m
-  pub opens : (next : Phase) (past : List Entry) (m : HostMachine) → TurnFollows key taken Open next past m
-  pub sleeps : (next : Phase) (past : List Entry) (m : HostMachine) → TurnFollows key taken Sleeping next past m
-  pub submitted : (next : Phase) (past : List Entry) (m : HostMachine) → TurnFollows key taken Submitting next past m
-  pub tick_begins : (next : Phase) (past : List Entry) (m : HostMachine) → TurnFollows key taken Risen next past m
-  pub tick_ends : (left : List HostEvent) (next : Phase) (past : List Entry) (m : HostMachine) → TurnFollows key taken (Ticking left) next past m
-  pub whole : (past : List Entry) (m : HostMachine) → SureRun taken (first_of key) Resting past m → m.left ≡ 0 → AtRest key taken past m → FittingWhole key taken past
-  pub fits_asked : (line : Line) (past : List Entry) (m : HostMachine) → CourseFits key taken (Asked line) past m
-  pub fits_ticking : (left : List HostEvent) (past : List Entry) (m : HostMachine) → CourseFits key taken (Ticking left) past m
-  pub fits_one : (past : List Entry) (m : HostMachine) (one : HostEvent) → OneLeft key taken past m one → Fitting key taken past
-  pub fits_payload : (past : List Entry) (m : HostMachine) (left : List HostEvent) → InPayload key taken (first_of key) past m left → Fitting key taken past
+-- The course is known where it has begun. It has at first, or a step begins it; and no other step or end of a part does.
+pub record Beginning (key : List ℕ) (taken : List Entry → Carried → List Told) (from : Start) (Begun : Phase → List Entry → Type 0) (Starts : List Entry → HostMachine → Step → Type 0) : Type 0 where
+  pub first : Begun Resting [] → KnowsCourse key taken from (first_of key) Resting [] (first_of key)
+  pub turn : (here next : Phase) (past : List Entry) (m : HostMachine) → Turns here m next → Begun next past → Begun here past
+  pub step : (here next : Phase) (past : List Entry) (m : HostMachine) (one : Step) → (sure : SureRun taken (first_of key) here past m) → SureStep taken sure.run one → May here m one next → Starts past m one
+      → Begun next (past ++ entries m one) → Begun here past ⊎ KnowsCourse key taken from (first_of key) next (past ++ entries m one) (happens m one)
 
 -- ---- which items bring a payload
 
@@ -106,29 +81,29 @@ submitted_of = record {
 sleepers_unsent : SleepersAre IsUnsent
 sleepers_unsent = record { queues = λ n. tt; drops = λ n. tt }
 
-module _ (key : List ℕ) (taken : List Entry → Carried → List Told) (parts : Parts key taken) where
+module _ (key : List ℕ) (taken : List Entry → Carried → List Told) (from : Start) (parts : Parts key taken from) where
   abbrev start : HostMachine
   start = first_of key
 
   abbrev Know : Phase → List Entry → HostMachine → Type 0
-  Know here past m = KnowsCourse key taken start here past m
+  Know here past m = KnowsCourse key taken from start here past m
 
   -- a step that may come only at one phase
-  at : (here is : Phase) (past : List Entry) (m : HostMachine) (step : Step) (next : Phase) → here ≡ is → StepFollows key taken is past m step next → StepFollows key taken here past m step next
-  at here is past m step next same follows = subst (λ (p : Phase). StepFollows key taken p past m step next) (sym same) follows
+  at : (here is : Phase) (past : List Entry) (m : HostMachine) (step : Step) (next : Phase) → here ≡ is → StepFollows key taken from is past m step next → StepFollows key taken from here past m step next
+  at here is past m step next same follows = subst (λ (p : Phase). StepFollows key taken from p past m step next) (sym same) follows
 
   judges : (next : Phase) (past told : List Entry) (m : HostMachine) (item : Item) (rest : List LineUnit) (behind : List HostEvent) → BringsPayload item ⊎ (BringsPayload item → ⊥)
-      → StepFollows key taken Open past m (Judges item rest behind told) next
+      → StepFollows key taken from Open past m (Judges item rest behind told) next
   judges next past told m item rest behind (inl brings) = parts.payload next past told m item rest behind brings
   judges next past told m item rest behind (inr other) = parts.judged next past told m item rest behind other
 
   -- an event that is left behind an item
   left_goes : (next : Phase) (past told : List Entry) (m : HostMachine) (one : HostEvent) (left : List HostEvent) → SureRun taken start (Behind (one ∷ left)) past m
-      → May (Behind (one ∷ left)) m (Does one told) next → BehindSo key taken start past m (one ∷ left) → Know next (past ++ told) (done m one)
+      → May (Behind (one ∷ left)) m (Does one told) next → BehindSo key taken from start past m (one ∷ left) → Know next (past ++ told) (done m one)
   left_goes next past told m one [] sure may (One_left first so) = parts.one_left next past told m one sure may so
   left_goes next past told m one left sure may (Payload_left so) = parts.payload_left next past told m one left sure may so
 
-  does : (here next : Phase) (past told : List Entry) (m : HostMachine) (event : HostEvent) → StepFollows key taken here past m (Does event told) next
+  does : (here next : Phase) (past told : List Entry) (m : HostMachine) (event : HostEvent) → StepFollows key taken from here past m (Does event told) next
   does (Ticking left) next past told m event = parts.ticks left next past told m event
   does (Behind []) next past told m event = λ sure so may know. absurd may.0
   does (Behind (first ∷ left)) next past told m event = λ sure so may know.
@@ -148,7 +123,7 @@ module _ (key : List ℕ) (taken : List Entry → Carried → List Told) (parts 
       by sure so may know (inr unsent) = parts.unsent Submitting next past told m event tt unsent sure so may know
   does here next past told m event = λ sure so may know. absurd may.0
 
-  steps : (here next : Phase) (past : List Entry) (m : HostMachine) (step : Step) → May here m step next → StepFollows key taken here past m step next
+  steps : (here next : Phase) (past : List Entry) (m : HostMachine) (step : Step) → May here m step next → StepFollows key taken from here past m step next
   steps here next past m (Tells e) may = parts.beside here next past m (Tells e) tt
   steps here next past m (Comes unit) may = parts.beside here next past m (Comes unit) tt
   steps here next past m (Misses text marks) may = parts.beside here next past m (Misses text marks) tt
@@ -165,11 +140,11 @@ module _ (key : List ℕ) (taken : List Entry → Carried → List Told) (parts 
   steps here next past m (Does event told) may = does here next past told m event
 
   -- where nothing is left behind an item
-  none_left : (past : List Entry) (m : HostMachine) → SureRun taken start (Behind []) past m → BehindSo key taken start past m [] → AtOpen key taken past m
+  none_left : (past : List Entry) (m : HostMachine) → SureRun taken start (Behind []) past m → BehindSo key taken from start past m [] → AtOpen key taken from past m
   none_left past m sure (None_left so) = so
   none_left past m sure (Payload_left so) = parts.payload_over past m sure so
 
-  turns : (here next : Phase) (past : List Entry) (m : HostMachine) → Turns here m next → TurnFollows key taken here next past m
+  turns : (here next : Phase) (past : List Entry) (m : HostMachine) → Turns here m next → TurnFollows key taken from here next past m
   turns Resting next past m is = parts.rests next past m
   turns (Asked line) next past m is = parts.asks line next past m
   turns Risen next past m is = parts.tick_begins next past m
@@ -182,44 +157,41 @@ module _ (key : List ℕ) (taken : List Entry → Carried → List Told) (parts 
 
   -- ---- the walk
 
-  at_first : Know Resting [] start
-  at_first = record {
-    course = course_from [] (record { keepings = []; texts = [] });
-    of = record { kept = []; opened = []; is = λ keepings texts. refl };
-    follows = record {
-      fits = refl;
-      none_due = refl;
-      low = omega arith;
-      heeded = tt;
-      so = inl (record { over = refl; books = books_first key (heeds_alone taken) (keys_of key) });
-    };
-    frames = tt;
-  }
+  module _ (Begun : Phase → List Entry → Type 0) (Starts : List Entry → HostMachine → Step → Type 0) (beginning : Beginning key taken from Begun Starts) where
+    -- it goes on where it had begun
+    goes : (here next : Phase) (past : List Entry) (m : HostMachine) (one : Step) (sure : SureRun taken start here past m) → SureStep taken sure.run one → May here m one next
+        → (Begun here past → Know here past m) → Begun here past ⊎ Know next (past ++ entries m one) (happens m one) → Know next (past ++ entries m one) (happens m one)
+    goes here next past m one sure so may known (inl begun) = steps here next past m one may sure so may (known begun)
+    goes here next past m one sure so may known (inr begins) = begins
 
-  pub walks : {here : Phase} {told : List Entry} {m : HostMachine} → (run : Run start here told m) → Careful run → AllSteps (HeedsSo (heeds_alone taken)) run → AllSteps (HeedsAs (heeds_alone taken)) run
-      → Hears run → Know here told m
-  walks Begins careful sure as_told hears = at_first
-  walks {here = next} {told = told} {m = m} (Turned {here = here} turned run) careful sure as_told hears =
-      turns here next told m turned (record { run = run; careful = careful.0; heeds_so = sure; heeds_as = as_told; hears = hears }) careful.1 turned (walks run careful.0 sure as_told hears)
-  walks {here = next} {told = all} {m = later} (Stepped {here = here} {told = told} {m = m} step may all_is later_is run) careful sure as_told hears =
-      subst (λ (l : List Entry). Know next l later) (sym all_is)
-      (subst (λ (k : HostMachine). Know next (told ++ entries m step) k) (sym later_is)
-      (steps here next told m step may (record { run = run; careful = careful.0; heeds_so = sure.0; heeds_as = as_told.0; hears = hears.0 })
-      (record { well = careful.1; heeds_so = sure.1; heeds_as = as_told.1; hears = hears.1 }) may (walks run careful.0 sure.0 as_told.0 hears.0)))
+    pub walks : {here : Phase} {told : List Entry} {m : HostMachine} → (run : Run start here told m) → Careful run → AllSteps (HeedsSo (heeds_alone taken)) run
+        → AllSteps (HeedsAs (heeds_alone taken)) run → Hears run → AllSteps Starts run → Begun here told → Know here told m
+    walks Begins careful sure as_told hears starts begun = beginning.first begun
+    walks {here = next} {told = told} {m = m} (Turned {here = here} turned run) careful sure as_told hears starts begun =
+        turns here next told m turned (record { run = run; careful = careful.0; heeds_so = sure; heeds_as = as_told; hears = hears }) careful.1 turned
+        (walks run careful.0 sure as_told hears starts (beginning.turn here next told m turned begun))
+    walks {here = next} {told = all} {m = later} (Stepped {here = here} {told = told} {m = m} step may all_is later_is run) careful sure as_told hears starts begun =
+        let so_far : SureRun taken start here told m = record { run = run; careful = careful.0; heeds_so = sure.0; heeds_as = as_told.0; hears = hears.0 } in
+        let so : SureStep taken run step = record { well = careful.1; heeds_so = sure.1; heeds_as = as_told.1; hears = hears.1 } in
+        subst (λ (l : List Entry). Know next l later) (sym all_is)
+        (subst (λ (k : HostMachine). Know next (told ++ entries m step) k) (sym later_is)
+        (goes here next told m step so_far so may
+        (λ before. walks run careful.0 sure.0 as_told.0 hears.0 starts.0 before)
+        (beginning.step here next told m step so_far so may starts.1 (subst (λ (l : List Entry). Begun next l) all_is begun))))
 
   -- ---- it fits
 
-  pub fits : (here : Phase) (past : List Entry) (m : HostMachine) → CourseFits key taken here past m
-  fits Resting past m = λ sure know. follows_fit key taken past m know.course know.of know.follows
+  pub fits : (here : Phase) (past : List Entry) (m : HostMachine) → CourseFits key taken from here past m
+  fits Resting past m = λ sure know. follows_fit key taken from past m know.course know.of know.follows
   fits (Asked line) past m = parts.fits_asked line past m
-  fits Risen past m = λ sure know. follows_fit key taken past m know.course know.of know.follows
+  fits Risen past m = λ sure know. follows_fit key taken from past m know.course know.of know.follows
   fits (Ticking left) past m = parts.fits_ticking left past m
-  fits Open past m = λ sure know. follows_fit key taken past m know.course know.of know.follows
+  fits Open past m = λ sure know. follows_fit key taken from past m know.course know.of know.follows
   fits (Behind left) past m = λ sure know. by left know
     where
-      by : (left : List HostEvent) → BehindSo key taken start past m left → Fitting key taken past
-      by [] (None_left so) = follows_fit key taken past m so.course so.of so.follows
+      by : (left : List HostEvent) → BehindSo key taken from start past m left → Fitting key taken from past
+      by [] (None_left so) = follows_fit key taken from past m so.course so.of so.follows
       by (one ∷ []) (One_left first so) = parts.fits_one past m one so
       by left (Payload_left so) = parts.fits_payload past m left so
-  fits Sleeping past m = λ sure know. follows_fit key taken past m know.course know.of know.follows
-  fits Submitting past m = λ sure know. follows_fit key taken past m know.course know.of know.follows
+  fits Sleeping past m = λ sure know. follows_fit key taken from past m know.course know.of know.follows
+  fits Submitting past m = λ sure know. follows_fit key taken from past m know.course know.of know.follows

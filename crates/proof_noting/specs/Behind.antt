@@ -17,7 +17,7 @@ use Rattle.proof_hearing.specs.proof_queue.proof_attempts.proof_requests.law_hos
 use Rattle.proof_hearing.specs.proof_queue.proof_attempts.proof_requests.law_host.Following.{is_note}
 use Rattle.proof_hearing.specs.proof_queue.proof_attempts.proof_requests.law_host.Heard.{heeds_alone}
 use Rattle.proof_hearing.specs.proof_queue.proof_attempts.proof_requests.law_host.HostLegal.{IsHeeded}
-use Rattle.proof_hearing.specs.proof_queue.proof_attempts.proof_requests.law_host.Notes.{course_of, first_start}
+use Rattle.proof_hearing.specs.proof_queue.proof_attempts.proof_requests.law_host.Notes.{Start, course_of}
 use Rattle.proof_hearing.specs.proof_queue.proof_attempts.proof_requests.proof_alone.State.{HostMachine, done}
 use Rattle.proof_hearing.specs.proof_queue.proof_attempts.proof_requests.proof_alone.Steps.{AreFrames, IsOfUnit}
 use Rattle.proof_hearing.specs.proof_queue.proof_attempts.proof_requests.proof_alone.Phases.{Behind}
@@ -31,16 +31,16 @@ abbrev pub Answered : HostMachine → Course → Type 0
 Answered m course = AreFrames m.came ⊎ ((course.ticked ≡ m.clock) × (m.awaits ≡ false))
 
 -- nothing is left
-pub record AtOpen (key : List ℕ) (taken : List Entry → Carried → List Told) (past : List Entry) (m : HostMachine) : Type 0 where
+pub record AtOpen (key : List ℕ) (taken : List Entry → Carried → List Told) (from : Start) (past : List Entry) (m : HostMachine) : Type 0 where
   pub course : Course
-  pub of : CourseOf (heeds_alone taken) past course
+  pub of : CourseOf (heeds_alone taken) from past course
   pub follows : Follows key taken past m course
   pub answered : Answered m course
 
 -- One event is left, of a request or an interview: its notes make of the course one that follows the host.
-pub record OneLeft (key : List ℕ) (taken : List Entry → Carried → List Told) (past : List Entry) (m : HostMachine) (event : HostEvent) : Type 0 where
+pub record OneLeft (key : List ℕ) (taken : List Entry → Carried → List Told) (from : Start) (past : List Entry) (m : HostMachine) (event : HostEvent) : Type 0 where
   pub course : Course
-  pub of : CourseOf (heeds_alone taken) past course
+  pub of : CourseOf (heeds_alone taken) from past course
   pub fits : course.fits ≡ true
   pub told : List Entry
   pub outs_are : outs m.state event ≡ noted told
@@ -54,7 +54,7 @@ pub record OneLeft (key : List ℕ) (taken : List Entry → Carried → List Tol
 
 -- Events of a payload are left, of those that followed it (`followed`). In the run without what became of the acknowledgement (`marks`) the course is in the middle of it: since `begun` these
 -- choices were made, the rest is what comes of what remains, and by all of it the host goes by these messages. With the marks the attempts of each node are the same.
-pub record InPayload (key : List ℕ) (taken : List Entry → Carried → List Told) (start : HostMachine) (past : List Entry) (m : HostMachine) (left : List HostEvent) : Type 0 where
+pub record InPayload (key : List ℕ) (taken : List Entry → Carried → List Told) (from : Start) (start : HostMachine) (past : List Entry) (m : HostMachine) (left : List HostEvent) : Type 0 where
   pub before : List Entry
   pub marks : List Entry
   pub marked : AllByRecursion IsOfUnit marks
@@ -68,8 +68,10 @@ pub record InPayload (key : List ℕ) (taken : List Entry → Carried → List T
   pub begun : Course
   pub kept : List Bool
   pub opened : List (Option (List ℕ))
+  pub heard : List Entry
+  pub split : before ++ acknowledges ∷ [] ≡ from.before ++ heard
   pub begins : (keepings : List Bool) (texts : List (Option (List ℕ)))
-      → course_of (heeds_alone taken) first_start (before ++ acknowledges ∷ []) (record { keepings = kept ++ keepings; texts = opened ++ texts })
+      → course_of (heeds_alone taken) from heard (record { keepings = kept ++ keepings; texts = opened ++ texts })
       ≡ with_heeded (before ++ acknowledges ∷ []) (record { node = node; payload = payload })
       (finishes (hearing_at taken before (before ++ acknowledges ∷ []) node payload) Whole (choosing keepings texts begun))
   pub untaken : begun.taken ≡ []
@@ -99,7 +101,7 @@ pub record InPayload (key : List ℕ) (taken : List Entry → Carried → List T
   pub sure : SureRun taken start (Behind left) ((before ++ acknowledges ∷ []) ++ course.due) m
 
 -- whichever of these it is
-pub data BehindSo (key : List ℕ) (taken : List Entry → Carried → List Told) (start : HostMachine) (past : List Entry) (m : HostMachine) : (left : List HostEvent) → Type 0 where
-  None_left : AtOpen key taken past m → BehindSo key taken start past m []
-  One_left : (event : HostEvent) → OneLeft key taken past m event → BehindSo key taken start past m (event ∷ [])
-  Payload_left : {left : List HostEvent} → InPayload key taken start past m left → BehindSo key taken start past m left
+pub data BehindSo (key : List ℕ) (taken : List Entry → Carried → List Told) (from : Start) (start : HostMachine) (past : List Entry) (m : HostMachine) : (left : List HostEvent) → Type 0 where
+  None_left : AtOpen key taken from past m → BehindSo key taken from start past m []
+  One_left : (event : HostEvent) → OneLeft key taken from past m event → BehindSo key taken from start past m (event ∷ [])
+  Payload_left : {left : List HostEvent} → InPayload key taken from start past m left → BehindSo key taken from start past m left

@@ -21,7 +21,7 @@ use Rattle.proof_hearing.specs.proof_queue.proof_attempts.proof_requests.law_hos
 use Rattle.proof_hearing.specs.proof_queue.proof_attempts.proof_requests.law_host.Following.{course_after}
 use Rattle.proof_hearing.specs.proof_queue.proof_attempts.proof_requests.law_host.Heard.{heeds_alone}
 use Rattle.proof_hearing.specs.proof_queue.proof_attempts.proof_requests.law_host.HostLegal.{IsHeeded}
-use Rattle.proof_hearing.specs.proof_queue.proof_attempts.proof_requests.law_host.Notes.{course_of, first_start}
+use Rattle.proof_hearing.specs.proof_queue.proof_attempts.proof_requests.law_host.Notes.{Start, course_of}
 use Rattle.proof_hearing.specs.proof_queue.proof_attempts.proof_requests.law_host.Ticks.{is_denied}
 use Rattle.proof_hearing.specs.proof_queue.proof_attempts.proof_requests.proof_alone.State.{HostMachine}
 use Rattle.proof_following.specs.Ended.{sleep_entries}
@@ -30,12 +30,14 @@ use Rattle.proof_following.specs.proof_ends.Ends.{errands_of, seconds_of}
 
 -- ---- choices
 
--- The course of a transcript, whatever is chosen later: these choices were made, and those that are still to come stand in it.
-pub record CourseOf (heeds : Heeds) (past : List Entry) (course : Course) : Type 0 where
+-- The course of what was heard since the start, whatever is chosen later: these choices were made, and those that are still to come stand in it.
+pub record CourseOf (heeds : Heeds) (from : Start) (past : List Entry) (course : Course) : Type 0 where
+  pub heard : List Entry
+  pub split : past ≡ from.before ++ heard
   pub kept : List Bool
   pub opened : List (Option (List ℕ))
   pub is : (keepings : List Bool) (texts : List (Option (List ℕ)))
-      → course_of heeds first_start past (record { keepings = kept ++ keepings; texts = opened ++ texts }) ≡ choosing keepings texts course
+      → course_of heeds from heard (record { keepings = kept ++ keepings; texts = opened ++ texts }) ≡ choosing keepings texts course
 
 -- Entries make this of a course, by these choices, whatever is chosen later.
 pub record Goes (heeds : Heeds) (past told : List Entry) (course next : Course) : Type 0 where

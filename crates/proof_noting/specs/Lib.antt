@@ -5,6 +5,8 @@ pub mod Ticking
 pub mod Noting
 pub mod Ground
 pub mod Steps
+pub mod Parts
+pub mod Starts
 pub use Rattle.proof_choice.specs as proof_choice
 pub use Rattle.proof_hearing.specs as proof_hearing
 pub use Rattle.proof_following.specs as proof_following

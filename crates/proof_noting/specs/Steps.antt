@@ -21,7 +21,7 @@ use Rattle.proof_hearing.specs.proof_queue.proof_attempts.proof_requests.law_hos
 use Rattle.proof_hearing.specs.proof_queue.proof_attempts.proof_requests.law_host.HostLegal.{IsHeeded}
 use Rattle.proof_hearing.specs.proof_queue.proof_attempts.proof_requests.law_host.Following.{ended_whole}
 use Rattle.proof_hearing.specs.proof_queue.proof_attempts.proof_requests.law_host.Nonces.{UsesNonces}
-use Rattle.proof_hearing.specs.proof_queue.proof_attempts.proof_requests.law_host.Notes.{NotesWhatHappens, course_of, first_start}
+use Rattle.proof_hearing.specs.proof_queue.proof_attempts.proof_requests.law_host.Notes.{NotesWhatHappens, Start, course_of}
 use Rattle.proof_hearing.specs.proof_queue.proof_attempts.proof_requests.proof_alone.State.{HostMachine, first_alone}
 use Rattle.proof_hearing.specs.proof_queue.proof_attempts.proof_requests.proof_alone.Steps.{Step, Tells, Comes, Misses, Says, Says_nothing, Asks, Refuses, Shows, Begins_tick, Numbers, entries, happens}
 use Rattle.proof_hearing.specs.proof_queue.proof_attempts.proof_requests.proof_alone.Phases.{Phase, Sleeping, Submitting, May, Turns}
@@ -36,16 +36,16 @@ first_of key = first_alone (keys_of key) (Some [])
 -- ---- steps
 
 -- where what is known of the course stands before the step, it stands after it
-abbrev pub StepFollows : (key : List ℕ) (taken : List Entry → Carried → List Told) (here : Phase) (past : List Entry) (m : HostMachine) (step : Step) (next : Phase) → Type 0
-StepFollows key taken here past m step next =
-    (sure : SureRun taken (first_of key) here past m) → SureStep taken sure.run step → May here m step next → KnowsCourse key taken (first_of key) here past m
-    → KnowsCourse key taken (first_of key) next (past ++ entries m step) (happens m step)
+abbrev pub StepFollows : (key : List ℕ) (taken : List Entry → Carried → List Told) (from : Start) (here : Phase) (past : List Entry) (m : HostMachine) (step : Step) (next : Phase) → Type 0
+StepFollows key taken from here past m step next =
+    (sure : SureRun taken (first_of key) here past m) → SureStep taken sure.run step → May here m step next → KnowsCourse key taken from (first_of key) here past m
+    → KnowsCourse key taken from (first_of key) next (past ++ entries m step) (happens m step)
 
 -- where a part is over
-abbrev pub TurnFollows : (key : List ℕ) (taken : List Entry → Carried → List Told) (here next : Phase) (past : List Entry) (m : HostMachine) → Type 0
-TurnFollows key taken here next past m =
-    (sure : SureRun taken (first_of key) here past m) → TurnsWell (stage_of sure.run) here m → Turns here m next → KnowsCourse key taken (first_of key) here past m
-    → KnowsCourse key taken (first_of key) next past m
+abbrev pub TurnFollows : (key : List ℕ) (taken : List Entry → Carried → List Told) (from : Start) (here next : Phase) (past : List Entry) (m : HostMachine) → Type 0
+TurnFollows key taken from here next past m =
+    (sure : SureRun taken (first_of key) here past m) → TurnsWell (stage_of sure.run) here m → Turns here m next → KnowsCourse key taken from (first_of key) here past m
+    → KnowsCourse key taken from (first_of key) next past m
 
 -- a step of others, of a line that does not start the host again, or of time
 abbrev pub IsBeside : Step → Type 0
@@ -91,25 +91,29 @@ BringsPayload item = ⊥
 -- ---- the law
 
 -- by some choices all entries may stand, and nonces are used as they should
-pub record Fitting (key : List ℕ) (taken : List Entry → Carried → List Told) (past : List Entry) : Type 0 where
+pub record Fitting (key : List ℕ) (taken : List Entry → Carried → List Told) (from : Start) (past : List Entry) : Type 0 where
+  pub heard : List Entry
+  pub split : past ≡ from.before ++ heard
   pub choices : Choices
   pub drawn : ℕ → ℕ → List ℕ
-  pub fits : (course_of (heeds_alone taken) first_start past choices).fits ≡ true
-  pub nonces : UsesNonces key drawn (course_of (heeds_alone taken) first_start past choices)
+  pub fits : (course_of (heeds_alone taken) from heard choices).fits ≡ true
+  pub nonces : UsesNonces key drawn (course_of (heeds_alone taken) from heard choices)
 
-abbrev pub CourseFits : (key : List ℕ) (taken : List Entry → Carried → List Told) (here : Phase) (past : List Entry) (m : HostMachine) → Type 0
-CourseFits key taken here past m = SureRun taken (first_of key) here past m → KnowsCourse key taken (first_of key) here past m → Fitting key taken past
+abbrev pub CourseFits : (key : List ℕ) (taken : List Entry → Carried → List Told) (from : Start) (here : Phase) (past : List Entry) (m : HostMachine) → Type 0
+CourseFits key taken from here past m = SureRun taken (first_of key) here past m → KnowsCourse key taken from (first_of key) here past m → Fitting key taken from past
 
 -- and at a rest nothing is left to be noted, and by each payload it goes as far as it took up its messages
-pub record FittingWhole (key : List ℕ) (taken : List Entry → Carried → List Told) (past : List Entry) : Type 0 where
+pub record FittingWhole (key : List ℕ) (taken : List Entry → Carried → List Told) (from : Start) (past : List Entry) : Type 0 where
+  pub heard : List Entry
+  pub split : past ≡ from.before ++ heard
   pub choices : Choices
   pub drawn : ℕ → ℕ → List ℕ
-  pub fits : (course_of (heeds_alone taken) first_start past choices).fits ≡ true
-  pub in_the_end : (ended_whole (heeds_alone taken) past (course_of (heeds_alone taken) first_start past choices)).fits ≡ true
-  pub nonces : UsesNonces key drawn (course_of (heeds_alone taken) first_start past choices)
-  pub heeded : AllByRecursion (IsHeeded taken) (course_of (heeds_alone taken) first_start past choices).heeded
+  pub fits : (course_of (heeds_alone taken) from heard choices).fits ≡ true
+  pub in_the_end : (ended_whole (heeds_alone taken) past (course_of (heeds_alone taken) from heard choices)).fits ≡ true
+  pub nonces : UsesNonces key drawn (course_of (heeds_alone taken) from heard choices)
+  pub heeded : AllByRecursion (IsHeeded taken) (course_of (heeds_alone taken) from heard choices).heeded
 
 -- the law of notes by these messages, and where the run is whole what they are in the course
-pub record NotesInFull (key : List ℕ) (taken : List Entry → Carried → List Told) (whole : Bool) (heard : List Entry) : Type 0 where
-  pub notes : NotesWhatHappens key (heeds_alone taken) first_start whole heard
-  pub heeded : whole ≡ true → AllByRecursion (IsHeeded taken) (course_of (heeds_alone taken) first_start heard notes.choices).heeded
+pub record NotesInFull (key : List ℕ) (taken : List Entry → Carried → List Told) (from : Start) (whole : Bool) (heard : List Entry) : Type 0 where
+  pub notes : NotesWhatHappens key (heeds_alone taken) from whole heard
+  pub heeded : whole ≡ true → AllByRecursion (IsHeeded taken) (course_of (heeds_alone taken) from heard notes.choices).heeded

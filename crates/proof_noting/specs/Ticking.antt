@@ -17,16 +17,16 @@ use Rattle.proof_hearing.specs.proof_queue.proof_attempts.proof_requests.law_hos
 use Rattle.proof_hearing.specs.proof_queue.proof_attempts.proof_requests.law_host.Following.{is_note}
 use Rattle.proof_hearing.specs.proof_queue.proof_attempts.proof_requests.law_host.Heard.{heeds_alone}
 use Rattle.proof_hearing.specs.proof_queue.proof_attempts.proof_requests.law_host.HostLegal.{IsHeeded}
-use Rattle.proof_hearing.specs.proof_queue.proof_attempts.proof_requests.law_host.Notes.{course_of, first_start}
+use Rattle.proof_hearing.specs.proof_queue.proof_attempts.proof_requests.law_host.Notes.{Start, course_of}
 use Rattle.proof_hearing.specs.proof_queue.proof_attempts.proof_requests.law_host.Ticks.{nodes_in_order}
 use Rattle.proof_hearing.specs.proof_queue.proof_attempts.proof_requests.proof_alone.State.{HostMachine}
 use Rattle.proof_hearing.specs.proof_queue.proof_attempts.proof_requests.proof_alone.Steps.{AreFrames}
 use Rattle.proof_noting.specs.Following.{CourseOf, Follows}
 
 -- nothing was noted in it
-pub record NoneNoted (key : List ℕ) (taken : List Entry → Carried → List Told) (past : List Entry) (m : HostMachine) : Type 0 where
+pub record NoneNoted (key : List ℕ) (taken : List Entry → Carried → List Told) (from : Start) (past : List Entry) (m : HostMachine) : Type 0 where
   pub course : Course
-  pub of : CourseOf (heeds_alone taken) past course
+  pub of : CourseOf (heeds_alone taken) from past course
   pub follows : Follows key taken past m course
   pub early : course.ticked < m.clock
   pub frames : AreFrames m.came
@@ -52,7 +52,7 @@ OverSo past m course =
     ⊎ ((course.over ≡ false) × (m.state.requests.under_way ≡ None) × ((id : ℕ) × (request_last past ≡ request_of Abort id ∷ [])))
 
 -- Something was: `noted` since `start`, by an end of the request or by nodes up to the last one; the course in the middle of it (`mid`) has all that as due, and its books are the host's.
-pub record SomeNoted (key : List ℕ) (taken : List Entry → Carried → List Told) (past : List Entry) (m : HostMachine) (left : List HostEvent) : Type 0 where
+pub record SomeNoted (key : List ℕ) (taken : List Entry → Carried → List Told) (from : Start) (past : List Entry) (m : HostMachine) (left : List HostEvent) : Type 0 where
   pub start : List Entry
   pub noted : List Entry
   pub are : past ≡ start ++ noted
@@ -66,10 +66,12 @@ pub record SomeNoted (key : List ℕ) (taken : List Entry → Carried → List T
   pub mid : Course
   pub kept : List Bool
   pub opened : List (Option (List ℕ))
+  pub heard : List Entry
+  pub split : past ≡ from.before ++ heard
   -- what the nodes still to tick give up is due
   pub is : (keepings : List Bool) (texts : List (Option (List ℕ)))
       → (more : List Entry) × ((each_in_turn (gives_up_late (heeds_alone taken) start m.clock) rest (choosing keepings texts mid)).due ≡ noted ++ more)
-      × (course_of (heeds_alone taken) first_start past (record { keepings = kept ++ keepings; texts = opened ++ texts })
+      × (course_of (heeds_alone taken) from heard (record { keepings = kept ++ keepings; texts = opened ++ texts })
       ≡ record (each_in_turn (gives_up_late (heeds_alone taken) start m.clock) rest (choosing keepings texts mid)) { due = more })
   pub due : mid.due ≡ noted
   pub fits : mid.fits ≡ true
@@ -82,6 +84,6 @@ pub record SomeNoted (key : List ℕ) (taken : List Entry → Carried → List T
   pub time : clock start ≡ m.clock
   pub frames : AreFrames m.came
 
-pub data TickSo (key : List ℕ) (taken : List Entry → Carried → List Told) (past : List Entry) (m : HostMachine) (left : List HostEvent) : Type 0 where
-  Nothing : Ascends 0 left → NoneNoted key taken past m → TickSo key taken past m left
-  Something : SomeNoted key taken past m left → TickSo key taken past m left
+pub data TickSo (key : List ℕ) (taken : List Entry → Carried → List Told) (from : Start) (past : List Entry) (m : HostMachine) (left : List HostEvent) : Type 0 where
+  Nothing : Ascends 0 left → NoneNoted key taken from past m → TickSo key taken from past m left
+  Something : SomeNoted key taken from past m left → TickSo key taken from past m left

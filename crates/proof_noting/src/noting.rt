@@ -1,19 +1,22 @@
 //! A host alone notes what happens, and nothing else.
 
-ghost use Rattle.std.specs.Prelude.{◌≡◌, Bool, List, true, false, ℕ};
+ghost use Rattle.std.specs.Prelude.{◌≡◌, ◌++◌, Bool, List, true, false, ℕ};
 ghost use Rattle.std.specs.List.{AllByRecursion};
 ghost use Rattle.zw_text.specs.declared.entry.Entry.{Entry};
 ghost use Rattle.host_heard.specs.declared.told.Told.{Told};
+ghost use Rattle.law_transcript.specs.Restarts.{begins_refused};
 ghost use Rattle.law_transcript.specs.Units.{Carried};
 ghost use Rattle.proof_hearing.specs.proof_queue.Heeding.{AllSteps, HeedsAs, HeedsSo};
 ghost use Rattle.proof_hearing.specs.proof_queue.proof_attempts.proof_requests.law_host.Heard.{heeds_alone};
 ghost use Rattle.proof_hearing.specs.proof_queue.proof_attempts.proof_requests.law_host.HostLegal.{IsHeeded};
-ghost use Rattle.proof_hearing.specs.proof_queue.proof_attempts.proof_requests.law_host.Notes.{NotesWhatHappens, course_of, first_start};
+ghost use Rattle.proof_hearing.specs.proof_queue.proof_attempts.proof_requests.law_host.Notes.{NotesWhatHappens, Start, course_of, first_start};
 ghost use Rattle.proof_hearing.specs.proof_queue.proof_attempts.proof_requests.proof_alone.Careful.{Careful};
 ghost use Rattle.proof_hearing.specs.proof_queue.proof_attempts.proof_requests.proof_alone.Phases.{Phase, Resting};
 ghost use Rattle.proof_hearing.specs.proof_queue.proof_attempts.proof_requests.proof_alone.Runs.{Run};
 ghost use Rattle.proof_hearing.specs.proof_queue.proof_attempts.proof_requests.proof_alone.State.{HostMachine};
 ghost use Rattle.proof_noting.specs.Ground.{ErrandsAlong};
+ghost use Rattle.proof_noting.specs.Parts.{Parts};
+ghost use Rattle.proof_noting.specs.Starts.{EndsAnew, StartsSo};
 ghost use Rattle.proof_noting.specs.Steps.{NotesInFull, first_of};
 ghost use Rattle.proof_noting.specs.Sure.{ComeByReads};
 
@@ -22,8 +25,23 @@ use crate::items::notes_go_with_items;
 use crate::payloads::notes_go_with_payloads;
 use crate::requests::notes_go_with_requests;
 use crate::ticks::notes_go_with_ticks;
+use host_keep::texts_give_one_thing;
 use proof_choice::giving::hosts_count_attempts;
 use proof_choice::hosts_know_what_they_choose;
+use proof_hearing::nonces::hosts_count_nonces;
+
+/// Of a host alone the course of its notes goes on with each kind of step, and where a part is over, from whatever start.
+fn notes_go_on()
+    ensures { (key : List ℕ) (taken : List Entry → Carried → List Told) (from : Start) → ErrandsAlong key → Parts key taken from }
+{
+    hosts_count_attempts();
+    hosts_know_what_they_choose();
+    notes_go_beside();
+    notes_go_with_requests();
+    notes_go_with_items();
+    notes_go_with_payloads();
+    notes_go_with_ticks();
+}
 
 /// Along each careful run of a host alone, over a keeper that tells its records and has none at first, by messages that are heeded as the host took them
 /// (`hosts_go_by_messages` of `proof_queue` has some for each run), where what the chip wrote came in reads, as `replay` and `host` hear it: after each event
@@ -34,13 +52,20 @@ pub fn hosts_note_what_happens()
     ensures { (key : List ℕ) (taken : List Entry → Carried → List Told) (whole : Bool) (here : Phase) (told : List Entry) (m : HostMachine) →
         (run : Run (first_of key) here told m) → Careful run → AllSteps (HeedsSo (heeds_alone taken)) run →
         AllSteps (HeedsAs (heeds_alone taken)) run → ComeByReads false told → (whole ≡ true → (here ≡ Resting) × (m.left ≡ 0)) → ErrandsAlong key →
-        NotesInFull key taken whole told }
+        NotesInFull key taken first_start whole told }
 {
-    hosts_count_attempts();
-    hosts_know_what_they_choose();
-    notes_go_beside();
-    notes_go_with_requests();
-    notes_go_with_items();
-    notes_go_with_payloads();
-    notes_go_with_ticks();
+    notes_go_on();
+}
+
+/// The same where the course begins later: along such a run that tells what stood before the start, with the words of a restart last, and then what was heard,
+/// which does not begin with a refusal of it. Where the host starts again there, it does so from records of that start.
+pub fn hosts_note_from_starts()
+    ensures { (key : List ℕ) (taken : List Entry → Carried → List Told) (from : Start) → EndsAnew from.before → (whole : Bool) (here : Phase)
+        (told heard : List Entry) (m : HostMachine) → (run : Run (first_of key) here told m) → Careful run → AllSteps (HeedsSo (heeds_alone taken)) run →
+        AllSteps (HeedsAs (heeds_alone taken)) run → ComeByReads false told → (whole ≡ true → (here ≡ Resting) × (m.left ≡ 0)) → ErrandsAlong key →
+        AllSteps (StartsSo from) run → told ≡ from.before ++ heard → begins_refused heard ≡ false → NotesInFull key taken from whole heard }
+{
+    hosts_count_nonces();
+    texts_give_one_thing();
+    notes_go_on();
 }

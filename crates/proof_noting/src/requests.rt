@@ -7,6 +7,7 @@ ghost use Rattle.host_model.specs.Events.{HostEvent};
 ghost use Rattle.host_model.specs.State.{HostState};
 ghost use Rattle.law_transcript.specs.Units.{Carried};
 ghost use Rattle.proof_choice.specs.proof_giving.Tie.{IsRequest};
+ghost use Rattle.proof_hearing.specs.proof_queue.proof_attempts.proof_requests.law_host.Notes.{Start};
 ghost use Rattle.proof_hearing.specs.proof_queue.proof_attempts.proof_requests.proof_alone.Phases.{Asked, Phase, Submitting};
 ghost use Rattle.proof_hearing.specs.proof_queue.proof_attempts.proof_requests.proof_alone.State.{HostMachine};
 ghost use Rattle.proof_hearing.specs.proof_queue.proof_attempts.proof_requests.proof_alone.Steps.{Does, Restarts};
@@ -22,10 +23,10 @@ use proof_hearing::nonces::hosts_seal_once;
 
 /// Along such runs the course goes on with each request that the host submits, which may be sent by its books, and where the host starts again.
 pub fn notes_go_with_requests()
-    ensures submits { (key : List ℕ) (taken : List Entry → Carried → List Told) → GroundAlong taken (first_of key) → (past told : List Entry) (m : HostMachine)
-        (event : HostEvent) → IsRequest event → StepFollows key taken Submitting past m (Does event told) Submitting }
-    ensures starts { (key : List ℕ) (taken : List Entry → Carried → List Told) → GroundAlong taken (first_of key) → (next : Phase) (past : List Entry)
-        (m : HostMachine) (state : HostState) → StepFollows key taken (Asked lines.Restart) past m (Restarts state) next }
+    ensures submits { (key : List ℕ) (taken : List Entry → Carried → List Told) (from : Start) → GroundAlong taken (first_of key) → (past told : List Entry)
+        (m : HostMachine) (event : HostEvent) → IsRequest event → StepFollows key taken from Submitting past m (Does event told) Submitting }
+    ensures starts { (key : List ℕ) (taken : List Entry → Carried → List Told) (from : Start) → GroundAlong taken (first_of key) → (next : Phase)
+        (past : List Entry) (m : HostMachine) (state : HostState) → StepFollows key taken from (Asked lines.Restart) past m (Restarts state) next }
 {
     attempts_have_what_they_give();
     hosts_have_points();

@@ -16,11 +16,11 @@ asking c key =
     ))
 
 pub returns-clause-judged : goal.returns-clause-judged
-returns-clause-judged c = λ key taken ground next past told m item rest behind no_payload.
-    item_follows key taken c.hosts_tell_of_ends.ensures.walk c.hosts_show_open_sessions.ensures.opened (asking c key) ground next past told m item rest behind no_payload
+returns-clause-judged c = λ key taken from ground next past told m item rest behind no_payload.
+    item_follows key taken from c.hosts_tell_of_ends.ensures.walk c.hosts_show_open_sessions.ensures.opened (asking c key) ground next past told m item rest behind no_payload
 
 pub returns-clause-event : goal.returns-clause-event
-returns-clause-event c = λ key taken ground next past told m one sure may left. event_follows key taken past m one left next told may
+returns-clause-event c = λ key taken from ground next past told m one sure may left. event_follows key taken from past m one left next told may
 
 pub returns-clause-fits : goal.returns-clause-fits
-returns-clause-fits c = λ key taken past m one left. one_fits key taken past m one left
+returns-clause-fits c = λ key taken from past m one left. one_fits key taken from past m one left

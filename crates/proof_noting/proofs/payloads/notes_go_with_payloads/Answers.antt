@@ -24,15 +24,15 @@ module _ (c : goal.After-hosts_show_open_sessions) (key : List ℕ) (taken : Lis
   queues = λ past m f rest run careful heeds takes now may. c.hosts_queue_as_told.ensures.judges (keys_of key) taken past m f rest run careful heeds takes now may
 
 pub returns-clause-judged : goal.returns-clause-judged
-returns-clause-judged c = λ key taken ground next past told m item rest behind brings. item_judged key taken ground c.hosts_show_open_sessions.ensures.opened (queues c key taken) next past told m item rest behind brings
+returns-clause-judged c = λ key taken from ground next past told m item rest behind brings. item_judged key taken from ground c.hosts_show_open_sessions.ensures.opened (queues c key taken) next past told m item rest behind brings
 
 pub returns-clause-event : goal.returns-clause-event
-returns-clause-event c = λ key taken ground next past told m one left sure may it.
-    subst (λ (p : Phase). KnowsCourse key taken (first_of key) p (past ++ told) (done m one)) (sym may.0.1)
-    (Payload_left (event_goes key taken ground (points c key taken) past told m one left sure ((refl, refl), may.1, may.2, may.3) it))
+returns-clause-event c = λ key taken from ground next past told m one left sure may it.
+    subst (λ (p : Phase). KnowsCourse key taken from (first_of key) p (past ++ told) (done m one)) (sym may.0.1)
+    (Payload_left (event_goes key taken from ground (points c key taken) past told m one left sure ((refl, refl), may.1, may.2, may.3) it))
 
 pub returns-clause-over : goal.returns-clause-over
-returns-clause-over c = λ key taken ground past m sure it. payload_over key taken ground (points c key taken) past m sure it
+returns-clause-over c = λ key taken from ground past m sure it. payload_over key taken from ground (points c key taken) past m sure it
 
 pub returns-clause-fits : goal.returns-clause-fits
-returns-clause-fits c = λ key taken past m left it. payload_fits key taken past m left it
+returns-clause-fits c = λ key taken from past m left it. payload_fits key taken from past m left it

@@ -42,13 +42,13 @@ module _ (c : goal.After-hosts_show_open_sessions) (key : List ℕ) where
   }
 
 pub returns-clause-begins : goal.returns-clause-begins
-returns-clause-begins c = λ key taken along next past m. tick_begins key taken (laws c key taken along) next past m
+returns-clause-begins c = λ key taken from along next past m. tick_begins key taken from (laws c key taken along) next past m
 
 pub returns-clause-event : goal.returns-clause-event
-returns-clause-event c = λ key taken along left next past told m one. tick_step key taken (laws c key taken along) left next past told m one
+returns-clause-event c = λ key taken from along left next past told m one. tick_step key taken from (laws c key taken along) left next past told m one
 
 pub returns-clause-ends : goal.returns-clause-ends
-returns-clause-ends c = λ key taken along left next past m. tick_ends key taken (laws c key taken along) left next past m
+returns-clause-ends c = λ key taken from along left next past m. tick_ends key taken from (laws c key taken along) left next past m
 
 pub returns-clause-fits : goal.returns-clause-fits
-returns-clause-fits c = λ key taken along left past m sure known. tick_fits key taken past m left known
+returns-clause-fits c = λ key taken from along left past m sure known. tick_fits key taken from past m left known
