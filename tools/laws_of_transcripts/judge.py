@@ -16,10 +16,10 @@ WORLD_LAWS = (
 )
 PROMPT_LAWS = ("RestsWell", "SendsInTurn", "FitsQueue", "GivesUpAfterThree")
 HEADLINE_LAWS = ("KeepsSessions", "CarriesOnce", "ChangesOnce", "ChangesWhole", "SucceedsAfterChange", "EndsTruly", "ConfirmsLast")
-BESIDE = ("CountsFaults", "ShowsValues", "EndsWithTable")
+BESIDE = ("CountsFaults", "EndsWithTable")
 WHOLES = {
     "IsHostLegal": HOST_LAWS,
-    "IsLegal": tuple(law for law in HOST_LAWS if law not in PROMPT_LAWS + HEADLINE_LAWS + BESIDE) + WORLD_LAWS,
+    "IsLegal": tuple(law for law in HOST_LAWS if law not in BESIDE) + WORLD_LAWS,
     "IsPrompt": PROMPT_LAWS,
     "Headline": HEADLINE_LAWS,
     "AnswersInTime": ("AnswersInTime",),

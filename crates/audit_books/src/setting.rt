@@ -1,43 +1,17 @@
 //! The settings of an order, one at a time.
 
 ghost use Rattle.std.specs.Prelude.{◌≡◌, ◌∷◌, [], length, slice_get, Some, MatchOption};
-ghost use Rattle.host_orders.specs.Settings.{config_settings, full_of as full_by, setting as setting_made, settings_by, value_setting as value_made};
+ghost use Rattle.host_orders.specs.Settings.{config_settings, setting as setting_made, settings_by, value_setting as value_made};
 ghost use Rattle.zw_base.specs.declared.property.Name.TheVariants as names;
-ghost use Rattle.host_orders.specs.Messages.{level_of as level_by};
 ghost use Rattle.audit_books.specs.Asking.{IsNoneThere, is_there, same_setting, settings_asked};
 
 use crate::kind::actuator_of;
-use host_orders::Actuator;
+use host_orders::{Actuator, full_of, level_of};
 use zw_base::{EndPoint, Name, Order, Property, Setting, What, Word, properties_in_order};
 use zw_range::setting_in_range;
 
-/// The level of a dimmer that is all the way on, in per cent.
-const FULL_LEVEL: u32 = 99;
-/// The value of what is all the way on.
-const FULL: u32 = 255;
 /// The last configuration parameter of a node.
 const LAST_PARAMETER: usize = 255;
-
-/// The value that a word asks of a switch or a lock.
-fn full_of(word: Word) -> u32
-    ensures { result ≡ full_by word }
-{
-    match word {
-        Word::On => FULL,
-        Word::Off | Word::Level(_) => 0,
-    }
-}
-
-/// The level in per cent that a word asks of a dimmer.
-fn level_of(word: Word) -> u32
-    ensures { result ≡ level_by word }
-{
-    match word {
-        Word::On => FULL_LEVEL,
-        Word::Off => 0,
-        Word::Level(level) => u32::from(level),
-    }
-}
 
 fn setting(end: EndPoint, name: Name, value: u32) -> Setting
     ensures { result ≡ setting_made end name value }
@@ -54,7 +28,7 @@ fn value_setting(actuator: Actuator, end: EndPoint, word: Word) -> Setting
 {
     match actuator {
         Actuator::Binary => setting(end, Name::Switch, full_of(word)),
-        Actuator::Multilevel => setting(end, Name::Level, level_of(word)),
+        Actuator::Multilevel => setting(end, Name::Level, u32::from(level_of(word))),
         Actuator::Lock => setting(end, Name::Lock, full_of(word)),
     }
 }

@@ -4,10 +4,9 @@ ghost use Rattle.std.specs.Prelude.{◌≡◌};
 ghost use Rattle.route_table.specs.Network.{linked};
 ghost use Rattle.chip_sim.specs.Nodes.{nodes_where};
 
-use crate::marks::{MAX_NODE, node_after};
 use chip_functions::NodeMask;
 use route_table::RouteTable;
-use zw_base::NodeId;
+use zw_base::{MAX_NODE, NodeId, node_after};
 
 /// The version of the Serial API that the chip tells, and its own type and version.
 pub(crate) const INIT_VERSION: u8 = 5;

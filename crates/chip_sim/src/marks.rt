@@ -1,17 +1,14 @@
 //! Nodes that are marked.
 
-ghost use Rattle.std.specs.Prelude.{◌≡◌, ◌+◌, ◌<◌, ◌||◌, false, nat_eq, slice_set};
+ghost use Rattle.std.specs.Prelude.{◌≡◌, ◌||◌, false, nat_eq, slice_set};
 ghost use Rattle.chip_sim.specs.Nodes.{none_marked, is_marked, nodes_where};
 
 use chip_functions::NodeMask;
 use std::marker::Model;
-use zw_base::{NodeId, read_node};
+use zw_base::{MAX_NODE, NodeId, node_after};
 
 /// The places of all nodes, with place 0 of none.
 const PLACES: usize = 233;
-
-/// The greatest node id.
-pub(crate) const MAX_NODE: u8 = 232;
 
 /// Which nodes are marked. Contracts see a list: the place of a node is its number.
 #[derive(Debug, Drop)]
@@ -64,12 +61,4 @@ impl Marks {
         }
         mask
     }
-}
-
-/// The node after so many others.
-pub(crate) fn node_after(place: u8) -> NodeId
-    requires { place < MAX_NODE }
-    ensures { result ≡ place + 1 }
-{
-    read_node(place + 1).unwrap()
 }

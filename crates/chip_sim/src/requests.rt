@@ -34,7 +34,7 @@ use chip_functions::{
 use route_table::Route;
 use serial_frame::{Frame, Item, Kind, Refusal, Unit};
 use std::alloc::Global;
-use zw_base::{Bytes, List, NoMemory, NodeId, read_node};
+use zw_base::{Bytes, List, NoMemory, NodeId, controller};
 
 /// The most that is put out at an item: an answer, a response, and what the request does.
 const MOST_AT_ITEM: usize = 3;
@@ -185,7 +185,7 @@ impl Chip {
             },
             Request::MemoryGetId => Response::MemoryGetId {
                 home_id: HOME_ID,
-                node: home(),
+                node: controller(),
             },
             Request::GetNodeProtocolInfo { node } => self.protocol_info(*node),
             Request::IsFailedNode { node } => Response::IsFailedNode {
@@ -340,13 +340,6 @@ fn capabilities() -> Response
         product: 0,
         functions: FUNCTIONS,
     }
-}
-
-/// The chip's own node.
-fn home() -> NodeId
-    ensures { result ≡ 1 }
-{
-    read_node(HOME).unwrap()
 }
 
 /// The answer to an item: a good frame is acknowledged, or collides; a whole frame that is invalid is refused.

@@ -87,10 +87,14 @@ pub fn put_nodes(out: &mut Bytes, list: &NodeList) -> Result<(), NoMemory>
     Ok(())
 }
 
+/// The most bytes of a number.
+const MOST_BYTES: usize = 4;
+
 /// Adds numbers of one size.
 pub fn put_numbers(out: &mut Bytes, list: &NumberList) -> Result<(), NoMemory>
     ensures ok { OnOk result (out.new ≡ out.old ++ written (numbers list.now.size list.now.items)) }
 {
+    out.reserve(list.len().saturating_mul(MOST_BYTES))?;
     for number in list.as_slice() {
         put_sized(out, list.size(), *number)?;
     }

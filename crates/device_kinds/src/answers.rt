@@ -1,6 +1,6 @@
 //! How a device words its answers.
 
-ghost use Rattle.std.specs.Prelude.{◌≡◌, false, ◌<◌, ◌≤◌, length, [], ◌∷◌, Some, None, IfOk, IfSome, All};
+ghost use Rattle.std.specs.Prelude.{◌≡◌, false, ◌<◌, [], ◌∷◌, Some, None, IfOk, IfSome, All};
 ghost use Rattle.std.specs.Option.{option_to_list};
 ghost use Rattle.class_info.specs.InfoSpelling.{form};
 ghost use Rattle.device_kinds.specs.Telling.{IsAnswer};
@@ -12,17 +12,6 @@ use encap::{Ends, Plan, wrap};
 use std::alloc::Global;
 use supervision::{FAIL, NO_SUPPORT, WORKING};
 use zw_base::{Bytes, List, NoMemory, Payload, Replies};
-
-/// These bytes as a payload.
-pub fn payload(bytes: &[u8]) -> Payload
-    requires { length bytes.now ≤ 46 }
-    ensures { result ≡ bytes.now }
-{
-    match Payload::of(bytes) {
-        Some(payload) => payload,
-        None => unreachable!(),
-    }
-}
 
 /// The status that a device keeps, as a report carries it.
 pub fn status_of(status: u8) -> ReportStatus
@@ -126,6 +115,6 @@ pub fn send(text: Option<Bytes>, out: &mut Replies)
     ensures sizes { All IsPayload out.new }
 {
     if let Some(text) = text {
-        out.push(payload(text.as_slice()));
+        out.push(Payload::fitting(text.as_slice()));
     }
 }

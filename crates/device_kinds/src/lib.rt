@@ -26,7 +26,7 @@ mod settings;
 mod telling;
 mod verdict;
 
-pub use answers::{answered, bare, payload, send, session, status_of};
+pub use answers::{answered, bare, send, session, status_of};
 pub use change::Change;
 pub use effect::Effect;
 pub use effects::Grounds;

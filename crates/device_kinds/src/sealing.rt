@@ -6,7 +6,6 @@ ghost use Rattle.class_info.specs.InfoSpelling.{form};
 ghost use Rattle.device_kinds.specs.Worded.{IsPayload};
 
 use crate::SECURITY;
-use crate::answers::payload;
 use class_info::InfoMessage;
 use std::alloc::Global;
 use zw_base::{NoMemory, Payload};
@@ -29,5 +28,5 @@ pub fn nonce_report(alloc: Global, nonce: [u8; 8]) -> Result<Payload, NoMemory>
     ensures size { IfOk result (λ payload. IsPayload payload) }
 {
     let text = class_info::write(alloc, &InfoMessage::NonceReport { nonce })?;
-    Ok(payload(text.as_slice()))
+    Ok(Payload::fitting(text.as_slice()))
 }

@@ -8,7 +8,6 @@ ghost use Rattle.device_kinds.specs.Segments.{segment_session as session_of_segm
 ghost use Rattle.device_kinds.specs.Worded.{IsPayload};
 
 use crate::TRANSPORT_SERVICE;
-use crate::answers::payload;
 use class_info::InfoMessage;
 use transport_segments::ends_datagram;
 use zw_base::Payload;
@@ -44,7 +43,7 @@ pub fn complete(id: u8) -> Payload
     ensures value { result ≡ form (InfoMessage.TransportComplete id) }
     ensures size { IsPayload result }
 {
-    payload(&[TRANSPORT_SERVICE, COMPLETE, id * 16])
+    Payload::fitting(&[TRANSPORT_SERVICE, COMPLETE, id * 16])
 }
 
 /// That a segment is missing.
@@ -54,7 +53,7 @@ pub fn request(id: u8, offset: u16) -> Payload
     ensures value { result ≡ form (InfoMessage.TransportRequest id offset) }
     ensures size { IsPayload result }
 {
-    payload(&[
+    Payload::fitting(&[
         TRANSPORT_SERVICE,
         REQUEST,
         id * 16 + (offset / 256) as u8,

@@ -5,3 +5,4 @@ pub mod Hearing
 pub mod Ticking
 pub mod Showing
 pub mod Kinds
+pub use Rattle.device_kinds.specs as device_kinds

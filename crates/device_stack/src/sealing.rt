@@ -10,11 +10,11 @@ ghost use Rattle.device_stack.specs.Hearing.{hears_securely, hears_sealed, hears
 use crate::Stack;
 use class_core::ClassFault;
 use class_info::InfoMessage;
-use device_kinds::{HOST, SECURITY, is_sealed, node, nonce_report, payload};
+use device_kinds::{HOST, SECURITY, is_sealed, node, nonce_report};
 use encap::{Opened, Outer};
 use s0_crypto::{SealEnds, keys, open};
 use std::alloc::Global;
-use zw_base::{NoMemory, Replies};
+use zw_base::{NoMemory, Payload, Replies};
 
 /// Nonce Get.
 const NONCE_GET: u8 = 0x40;
@@ -125,7 +125,7 @@ impl Stack {
         let Some(message) = self.sealing.offer(&keys(self.key), nonce, drawn)? else {
             return Ok(());
         };
-        out.push(payload(message.as_slice()));
+        out.push(Payload::fitting(message.as_slice()));
         Ok(())
     }
 
@@ -196,7 +196,7 @@ impl Stack {
             return Ok(());
         };
         if self.answer_sealed(&opened)? {
-            out.push(payload(&[SECURITY, NONCE_GET]));
+            out.push(Payload::fitting(&[SECURITY, NONCE_GET]));
         }
         Ok(())
     }

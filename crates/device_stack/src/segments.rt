@@ -12,11 +12,11 @@ ghost use Rattle.device_stack.specs.Answers.{status_report};
 
 use crate::Stack;
 use class_info::InfoMessage;
-use device_kinds::{bare, complete, is_last_of, payload as payload_of, request, segment_session};
+use device_kinds::{bare, complete, is_last_of, request, segment_session};
 use encap::Supervised;
 use supervision::session_id;
 use transport_segments::{SegmentFault, Taken, segment_id};
-use zw_base::{Bytes, NoMemory, Replies};
+use zw_base::{Bytes, NoMemory, Payload, Replies};
 
 impl Stack {
     /// Hears a payload that may be a segment.
@@ -98,7 +98,7 @@ impl Stack {
         self.reassembly.clear();
         out.push(complete(id));
         if let Some(text) = answer {
-            out.push(payload_of(text.as_slice()));
+            out.push(Payload::fitting(text.as_slice()));
         }
         Ok(())
     }
@@ -151,7 +151,7 @@ impl Stack {
     {
         let text = self.last_status()?;
         out.push(complete(id));
-        out.push(payload_of(text.as_slice()));
+        out.push(Payload::fitting(text.as_slice()));
         Ok(())
     }
 

@@ -15,12 +15,13 @@ ghost use Rattle.device_stack.specs.Showing.{shown_of, shown_at};
 use crate::Stack;
 use crate::work::Work;
 use device_kinds::{
-    Change, Kind, WAKE_UP, answered, bare, is_same, one_setting, payload as payload_of, report,
-    root, send,
+    Change, Kind, WAKE_UP, answered, bare, is_same, one_setting, report, root, send,
 };
 use std::alloc::Global;
 use supervision::SUCCESS;
-use zw_base::{By, Bytes, EndPoint, List, Name, NoMemory, Property, Replies, Sequence, Setting};
+use zw_base::{
+    By, Bytes, EndPoint, List, Name, NoMemory, Payload, Property, Replies, Sequence, Setting,
+};
 
 /// For how many ticks a device that does not listen stays awake after it was active.
 const AWAKE_TICKS: u64 = 200;
@@ -172,7 +173,7 @@ impl Stack {
         if !self.kind.listens() {
             self.awake = true;
             self.active_at = self.clock;
-            out.push(payload_of(&[WAKE_UP, NOTIFICATION]));
+            out.push(Payload::fitting(&[WAKE_UP, NOTIFICATION]));
         }
         Ok(())
     }

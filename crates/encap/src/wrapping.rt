@@ -1,6 +1,6 @@
 //! Messages put into their wraps.
 
-ghost use Rattle.std.specs.Prelude.{◌≡◌, ◌+◌, ◌^◌, ◌<◌, ◌≤◌, ◌++◌, length, None, IfOk, IfErr};
+ghost use Rattle.std.specs.Prelude.{◌≡◌, ◌+◌, ◌^◌, ◌<◌, ◌≤◌, length, None, IfOk, IfErr};
 ghost use Rattle.encap.specs.Wraps.{Wraps, listed, crc16_text};
 ghost use Rattle.encap.specs.Written.{
   AreEnds,
@@ -155,7 +155,7 @@ fn supervised(alloc: Global, session: Option<Supervised>, inner: Bytes) -> Resul
         None => Ok(inner),
         Some(session) => {
             let updates = if session.updates { 0x80 } else { 0 };
-            headed(
+            Bytes::joined(
                 alloc,
                 &[0x6C, 0x01, updates + session.id, inner.len() as u8],
                 inner.as_slice(),
@@ -171,7 +171,7 @@ fn addressed(alloc: Global, channel: Option<Ends>, inner: Bytes) -> Result<Bytes
 {
     match channel {
         None => Ok(inner),
-        Some(ends) => headed(
+        Some(ends) => Bytes::joined(
             alloc,
             &[0x60, 0x0D, ends.source.number(), ends.target.number()],
             inner.as_slice(),
@@ -193,18 +193,9 @@ fn checked(alloc: Global, outer: Outer, inner: Bytes) -> Result<Bytes, NoMemory>
 fn with_check(alloc: Global, inner: &[u8]) -> Result<Bytes, NoMemory>
     ensures { IfOk result (λ bytes. bytes ≡ crc16_text inner.now) }
 {
-    let mut bytes = headed(alloc, &[0x56, 0x01], inner)?;
+    let mut bytes = Bytes::joined(alloc, &[0x56, 0x01], inner)?;
     let check = crc_ccitt(bytes.as_slice());
     bytes.push((check / 256) as u8)?;
     bytes.push((check % 256) as u8)?;
-    Ok(bytes)
-}
-
-/// A header and then what is inside it.
-fn headed(alloc: Global, header: &[u8], inner: &[u8]) -> Result<Bytes, NoMemory>
-    ensures { IfOk result (λ bytes. bytes ≡ header.now ++ inner.now) }
-{
-    let mut bytes = Bytes::from_slice(alloc, header)?;
-    bytes.extend(inner)?;
     Ok(bytes)
 }

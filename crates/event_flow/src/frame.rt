@@ -5,7 +5,7 @@ ghost use Rattle.event_flow.specs.State.{payload_of, receiver_of, sender_of};
 
 use crate::EventEntry;
 use supervision::{SUCCESS, session_id};
-use zw_base::{NodeId, Payload, read_node};
+use zw_base::{NodeId, Payload, controller};
 
 /// The classes and commands of a frame (Supervision Command Class; Notification Command Class).
 const SUPERVISION: u8 = 0x6C;
@@ -23,9 +23,6 @@ const REPORT_LENGTH: u8 = 4;
 
 /// The duration of a final report.
 const NO_DURATION: u8 = 0;
-
-/// The host's node.
-const HOST: u8 = 1;
 
 /// What happened at a device: a type and a level, as in a Notification Report of version 1.
 #[derive(Clone, Copy, Debug)]
@@ -60,19 +57,13 @@ pub struct Effect {
     pub sends: Option<Frame>,
 }
 
-fn host() -> NodeId
-    ensures { result ≡ 1 }
-{
-    read_node(HOST).unwrap()
-}
-
 /// Who sent the frame.
 pub fn sender(frame: &Frame) -> NodeId
     ensures { result ≡ sender_of frame.now }
 {
     match frame.content {
         Content::Event(_) => frame.node,
-        Content::Receipt => host(),
+        Content::Receipt => controller(),
     }
 }
 
@@ -81,7 +72,7 @@ pub fn receiver(frame: &Frame) -> NodeId
     ensures { result ≡ receiver_of frame.now }
 {
     match frame.content {
-        Content::Event(_) => host(),
+        Content::Event(_) => controller(),
         Content::Receipt => frame.node,
     }
 }

@@ -1,4 +1,5 @@
 mod Asked
+mod NodeSessions
 mod Loops
 mod Opened
 pub mod Refusing

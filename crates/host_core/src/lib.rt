@@ -11,6 +11,7 @@
 
 mod host;
 mod laws;
+mod listing;
 mod opening;
 mod orders;
 mod pumping;

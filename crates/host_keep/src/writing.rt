@@ -157,7 +157,7 @@ fn write_row(alloc: Global, numbers: &[u64]) -> Result<Bytes, NoMemory>
     ensures { IfOk result (λ bytes. bytes ≡ row_text numbers.now) }
 {
     let text = row_value(alloc, numbers)?.to_vec(alloc)?;
-    Bytes::from_slice(alloc, text.as_slice())
+    Ok(Bytes::of(text))
 }
 
 /// The text of a record: its numbers as a JSON array with no space.

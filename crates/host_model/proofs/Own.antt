@@ -1,28 +1,12 @@
 -- What the host does of itself: in a pump and in a tick.
 use Rattle.std.proofs.Common.{◌≡◌, ℕ, List, [], ◌∷◌, map, refl}
 use Rattle.std.specs.List.{AllByRecursion}
-use Rattle.host_requests.specs.Events.RequestsEvent.{Ticks as request_ticks}
 use Rattle.host_model.specs.State.{HostState}
-use Rattle.host_model.specs.Events.{HostEvent, Requests_do, Line_ticks, Node_ticks, Queues_no_more, Drops_no_more, Submits_abort, Submits_front, Starts, Gives_text, Gives_segment, Begins, Begin_unkept}
+use Rattle.host_model.specs.Events.{HostEvent, IsOwn, Requests_do, Line_ticks, Node_ticks, Queues_no_more, Drops_no_more, Submits_abort, Submits_front, Starts, Gives_text, Gives_segment, Begins, Begin_unkept}
 use Rattle.host_model.specs.Did.{after_all}
 use Rattle.host_model.specs.Pumping.{Pumps}
 use Rattle.host_model.specs.Ticking.{tick_events, first_ticks, ticking_nodes}
 use Rattle.host_model.proofs.Submitted.{SleepersAre, SubmittedAre, pump_is}
-
-abbrev pub IsOwn : HostEvent → Type 0
-IsOwn Line_ticks = Unit {0}
-IsOwn (Requests_do event moment) = event ≡ request_ticks
-IsOwn (Node_ticks n) = Unit {0}
-IsOwn (Queues_no_more n) = Unit {0}
-IsOwn (Drops_no_more n) = Unit {0}
-IsOwn Submits_abort = Unit {0}
-IsOwn Submits_front = Unit {0}
-IsOwn (Starts n plan more payload) = Unit {0}
-IsOwn (Gives_text n payload) = Unit {0}
-IsOwn (Gives_segment n more payload) = Unit {0}
-IsOwn (Begins n session command) = Unit {0}
-IsOwn (Begin_unkept n) = Unit {0}
-IsOwn event = ⊥
 
 -- ---- a pump
 

@@ -31,17 +31,13 @@ use Rattle.host_heard.specs.declared.told.Told.{Told}
 use Rattle.host_heard.specs.declared.told.Told.TheVariants.{Report, NonceGet, NonceReport, Notification, SegmentRequest, Values}
 use Rattle.host_model.specs.Taking.{IsKeptOr, told_requests, told_if, is_secure, FinalEvents, ReportEvents, NonceGetEvents, NonceReportEvents, resent, value_event, value_events, IsTaken, AreTaken, IsOpened, SealedEvents, PayloadEvents, InterviewEvents, ResponseEvents, NoticeEvents, FrameEvents, IsFollowed, AreJudged}
 use Rattle.host_model.specs.State.{HostState, node_of}
-use Rattle.host_model.specs.Events.{HostEvent, Accepts, Cancels, Hears, Unreads, Spends, Hears_value, Has_no_room}
+use Rattle.host_model.specs.Events.{HostEvent, Accepts, Cancels, Hears, Unreads, Spends, Hears_value, Has_no_room, IsOwn}
 use Rattle.host_model.specs.After.{after}
 use Rattle.host_model.specs.Did.{after_all}
 use Rattle.host_model.specs.Pumping.{Pumps}
 use Rattle.host_model.specs.Ticking.{tick_events}
-use Rattle.host_model.specs.Outs.{answers}
-use Rattle.host_model.proofs.Own.{IsOwn, pump_own, tick_own}
-
-abbrev pub Silent : List HostEvent → Type 0
-Silent [] = Unit {0}
-Silent (e ∷ es) = ((h : HostState) → answers h e ≡ []) × Silent es
+use Rattle.host_model.specs.Outs.{answers, Silent}
+use Rattle.host_model.proofs.Own.{pump_own, tick_own}
 
 pub silent-append : (a b : List HostEvent) → Silent a → Silent b → Silent (a ++ b)
 silent-append [] b first later = later

@@ -1,6 +1,6 @@
 -- What may happen to a host, one event at a time (this project's own rules on the Serial API and on the Supervision, Security 0, Transport
 -- Service and Wake Up Command Classes). An event carries what is chosen: drawn bytes, and by its name whether a record was kept.
-use Rattle.std.specs.Prelude.{ℕ, Bool, List}
+use Rattle.std.specs.Prelude.{◌≡◌, ℕ, Bool, List}
 use Rattle.zw_base.specs.declared.property.Property.{Property}
 use Rattle.zw_base.specs.declared.property.Setting.{Setting}
 use Rattle.zw_base.specs.declared.order.Order.{Order}
@@ -8,6 +8,7 @@ use Rattle.serial_frame.specs.declared.item.Item.{Item}
 use Rattle.chip_functions.specs.declared.notice.Update.{Update}
 use Rattle.host_requests.specs.declared.task.Task.{Task}
 use Rattle.host_requests.specs.Events.{RequestsEvent}
+use Rattle.host_requests.specs.Events.RequestsEvent.{Ticks as request_ticks}
 use Rattle.host_node.specs.declared.attempt.Moment.{Moment}
 use Rattle.host_node.specs.declared.attempt.Plan.{Plan}
 use Rattle.host_keep.specs.declared.final_status.FinalStatus.{FinalStatus}
@@ -62,3 +63,19 @@ pub data HostEvent : Type 0 where
   -- a session begins for the command that waited longest; its record is not kept
   Begins : (node session command : ℕ) → HostEvent
   Begin_unkept : (node : ℕ) → HostEvent
+
+-- what a host does of itself, in a pump and in a tick
+abbrev pub IsOwn : HostEvent → Type 0
+IsOwn Line_ticks = Unit {0}
+IsOwn (Requests_do event moment) = event ≡ request_ticks
+IsOwn (Node_ticks n) = Unit {0}
+IsOwn (Queues_no_more n) = Unit {0}
+IsOwn (Drops_no_more n) = Unit {0}
+IsOwn Submits_abort = Unit {0}
+IsOwn Submits_front = Unit {0}
+IsOwn (Starts n plan more payload) = Unit {0}
+IsOwn (Gives_text n payload) = Unit {0}
+IsOwn (Gives_segment n more payload) = Unit {0}
+IsOwn (Begins n session command) = Unit {0}
+IsOwn (Begin_unkept n) = Unit {0}
+IsOwn event = ⊥

@@ -17,3 +17,7 @@ pub mod Opening
 pub mod Holding
 pub mod Recording
 pub mod Refusals
+pub mod Listing
+pub use Rattle.host_node.specs as host_node
+pub use Rattle.host_keep.specs as host_keep
+pub use Rattle.host_requests.specs as host_requests

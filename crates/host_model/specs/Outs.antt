@@ -1,5 +1,5 @@
 -- What a host puts out at each event: units for the chip and entries of the transcript (this project's own rules).
-use Rattle.std.specs.Prelude.{ℕ, ◌+◌, Bool, true, false, List, [], ◌∷◌, ◌++◌, length, map, Option, Some, None}
+use Rattle.std.specs.Prelude.{◌≡◌, ℕ, ◌+◌, Bool, true, false, List, [], ◌∷◌, ◌++◌, length, map, Option, Some, None}
 use Rattle.zw_base.specs.declared.property.Setting.{Setting}
 use Rattle.zw_text.specs.declared.entry.Entry.{Entry}
 use Rattle.zw_text.specs.declared.entry.Entry.TheVariants as entry
@@ -125,3 +125,8 @@ abbrev pub answers : HostState → HostEvent → List Entry
 answers h (Accepts order carriage) = entry.Accepted (length h.commands + 1) order.node ∷ []
 answers h (Cancels command) = entry.Out command ended.Cancelled ∷ []
 answers h event = []
+
+-- events that answer none, whatever the host
+abbrev pub Silent : List HostEvent → Type 0
+Silent [] = Unit {0}
+Silent (e ∷ es) = ((h : HostState) → answers h e ≡ []) × Silent es

@@ -13,7 +13,7 @@
 //! The definitions are in `specs/`: `State`, `Sessions` for what goes on the air, `Ends` for requests and attempts that
 //! end, `Events` with `After`, `Outs`, `Records` and `May`, `Did` for lists of events, `Taking`, `Pumping`, `Ticking`
 //! for which list a call is, and `Facts`; `Restoring` for one record, `Opening` for all of them and the restart,
-//! `Holding` for when tables agree with what is kept, `Recording` for the records of events.
+//! `Holding` for when tables agree with what is kept, `Recording` for the records of events, `Listing` for the final table.
 #![tactic(auto)]
 
 mod event_laws;
@@ -25,6 +25,8 @@ mod pumping;
 mod record_laws;
 
 pub use event_laws::{facts_are_kept, facts_are_kept_by_all};
+pub use host_keep::records_go_on;
+pub use host_node::a_restart_needs_the_records_alone;
 pub use lists::{lists_go_on, pieces_go_on};
 pub use loops::{messages_go_on, ticks_of_nodes_go_on, turns_of_a_pump_go_on};
 pub use opening::{

@@ -20,5 +20,5 @@ pub use carriage::{Carriage, Form};
 pub use errand::{Gettable, get_payload, send_payload};
 pub use judging::judge;
 pub use refused::Refused;
-pub use setting::{properties_of, settings};
+pub use setting::{full_of, level_of, properties_of, settings};
 pub use wrapping::write_message;

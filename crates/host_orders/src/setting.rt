@@ -15,7 +15,7 @@ const FULL_LEVEL: u8 = 99;
 const FULL: u32 = 255;
 
 /// The level in per cent that a word asks of a dimmer.
-pub(crate) fn level_of(word: Word) -> u8
+pub fn level_of(word: Word) -> u8
     ensures { result ≡ level_by word }
 {
     match word {
@@ -26,7 +26,7 @@ pub(crate) fn level_of(word: Word) -> u8
 }
 
 /// The value that a word asks of a switch or a lock.
-fn full_of(word: Word) -> u32
+pub fn full_of(word: Word) -> u32
     ensures { result ≡ full_by word }
 {
     match word {

@@ -22,13 +22,10 @@ use air_frames::{Heading, MAX_NEW_NONCES};
 use include_text::{IncludeEntry, IncludeRefusal};
 use std::alloc::Global;
 use std::marker::Model;
-use zw_base::{List, NoMemory, NodeId, Payload, Replies, read_node};
+use zw_base::{List, NoMemory, NodeId, Payload, Replies, controller};
 
 /// One place for each node number from 0 to 232; that of 0 is never used.
 const NODES: usize = 233;
-
-/// Node 1.
-const HOST: u8 = 1;
 
 /// The air between node 1 and the others. Contracts see its state, and its room: how many more frames can surely be sent.
 #[derive(Drop)]
@@ -60,27 +57,6 @@ pub struct Coming {
     pub node: NodeId,
     pub heading: Heading,
     pub payload: Payload,
-}
-
-/// A payload of its own with these bytes.
-fn copy_of(payload: &[u8]) -> Payload
-    requires { length payload.now ≤ 46 }
-    ensures { result ≡ payload.now }
-{
-    match Payload::of(payload) {
-        Some(copy) => copy,
-        None => unreachable!(),
-    }
-}
-
-/// Node 1.
-fn host() -> NodeId
-    ensures { result ≡ 1 }
-{
-    match read_node(HOST) {
-        Some(node) => node,
-        None => unreachable!(),
-    }
 }
 
 impl Air {
@@ -157,20 +133,20 @@ impl Air {
             node,
             heading,
             lost: self.losing > 0,
-            payload: copy_of(payload),
+            payload: Payload::fitting(payload),
             shown: self.pairs[at].nonces.shown(),
         };
         self.losing = self.losing.saturating_sub(1);
         self.frames.put(flight);
         let (from, to) = match heading {
-            Heading::Outward => (host(), node),
-            Heading::Homeward => (node, host()),
+            Heading::Outward => (controller(), node),
+            Heading::Homeward => (node, controller()),
         };
         out.put(IncludeEntry::Air {
             frame: self.frames.len() as u64,
             from,
             to,
-            payload: copy_of(payload),
+            payload: Payload::fitting(payload),
         });
     }
 
@@ -259,6 +235,6 @@ fn heard_copy(number: u64, flight: &Flight) -> Coming
         number,
         node: flight.node,
         heading: flight.heading,
-        payload: copy_of(flight.payload.bytes()),
+        payload: Payload::fitting(flight.payload.bytes()),
     }
 }

@@ -44,17 +44,14 @@ ghost use Rattle.inclusion.specs.Including.{
   without_secure,
 };
 
-use crate::joiner::host;
-use crate::message::{
-    NONCE_GET, SCHEME_GET, is_verify, key_set, message_of, nonce_report, payload,
-};
+use crate::message::{NONCE_GET, SCHEME_GET, is_verify, key_set, message_of, nonce_report};
 use crate::sealing::{TEMPORARY_KEY, nonce_named, seal_for};
 use crate::{AddFault, EXCHANGE_TICKS, Exchange, Message};
 use s0_crypto::{SealEnds, open};
 use s0_session::{NonceBook, Sender};
 use std::alloc::Global;
 use std::marker::Model;
-use zw_base::{Bytes, NoMemory, NodeId, Replies};
+use zw_base::{Bytes, NoMemory, NodeId, Payload, Replies, controller};
 
 /// One place for each node number from 0 to 232; that of 0 is never used.
 const NODES: usize = 233;
@@ -125,7 +122,7 @@ impl Includer {
             return Err(AddFault::Secure);
         }
         let ends = SealEnds {
-            sender: host(),
+            sender: controller(),
             receiver: node,
         };
         let mut sender = Sender::new(self.alloc, ends);
@@ -136,7 +133,7 @@ impl Includer {
             asked: false,
             sender,
         });
-        out.push(payload(&SCHEME_GET));
+        out.push(Payload::fitting(&SCHEME_GET));
         Ok(())
     }
 
@@ -294,7 +291,7 @@ impl Includer {
         };
         let ends = SealEnds {
             sender: node,
-            receiver: host(),
+            receiver: controller(),
         };
         match open(self.alloc, self.key, nonce, &ends, payload)? {
             Some(plain) => Ok(is_verify(plain.as_slice())),
@@ -331,7 +328,7 @@ fn ask(
     let plain = Bytes::from_slice(alloc, &key_set(key))?;
     exchange.sender.ask(plain);
     exchange.asked = true;
-    out.push(payload(&NONCE_GET));
+    out.push(Payload::fitting(&NONCE_GET));
     Ok(())
 }
 
@@ -349,7 +346,7 @@ fn seal_key(
     ensures err_replies { OnErr result (out.new ≡ []) }
 {
     if let Some(message) = seal_for(&mut exchange.sender, TEMPORARY_KEY, nonce, drawn)? {
-        out.push(payload(message.as_slice()));
+        out.push(Payload::fitting(message.as_slice()));
     }
     Ok(())
 }

@@ -5,28 +5,13 @@ ghost use Rattle.inclusion.specs.Messages.{IsSealed};
 ghost use Rattle.inclusion.specs.Joining.{fresh_joiner, forgetful, gives_nonce, joiner_takes, takes_for, takes_key, takes_nonce, takes_sealed, tells_scheme};
 
 use crate::Message;
-use crate::message::{
-    KEY_VERIFY, NONCE_GET, SCHEME_REPORT, key_in, message_of, nonce_report, payload,
-};
+use crate::message::{KEY_VERIFY, NONCE_GET, SCHEME_REPORT, key_in, message_of, nonce_report};
 use crate::sealing::{TEMPORARY_KEY, nonce_named, seal_for};
 use s0_crypto::{SealEnds, open};
 use s0_session::{Account, Sender};
 use std::alloc::Global;
 use std::marker::Model;
-use zw_base::{Bytes, NoMemory, NodeId, Replies, read_node};
-
-/// Node 1, the host.
-const HOST: u8 = 1;
-
-/// The host's node.
-pub(crate) fn host() -> NodeId
-    ensures { result ≡ 1 }
-{
-    match read_node(HOST) {
-        Some(node) => node,
-        None => unreachable!(),
-    }
-}
+use zw_base::{Bytes, NoMemory, NodeId, Payload, Replies, controller};
 
 /// A lock that may be given a key. Contracts see all that it is.
 #[derive(Drop)]
@@ -53,7 +38,7 @@ impl Joiner {
     {
         let ends = SealEnds {
             sender: node,
-            receiver: host(),
+            receiver: controller(),
         };
         Ok(Joiner {
             alloc,
@@ -110,7 +95,7 @@ impl Joiner {
         ensures replies { out.new ≡ (tells_scheme self.old self.old.key).replies }
     {
         if self.key.is_none() {
-            out.push(payload(&SCHEME_REPORT));
+            out.push(Payload::fitting(&SCHEME_REPORT));
         }
     }
 
@@ -147,7 +132,7 @@ impl Joiner {
             return Ok(());
         };
         if let Some(message) = seal_for(&mut self.sealing, key, nonce, drawn)? {
-            out.push(payload(message.as_slice()));
+            out.push(Payload::fitting(message.as_slice()));
         }
         Ok(())
     }
@@ -191,7 +176,7 @@ impl Joiner {
             return Ok(());
         }
         let ends = SealEnds {
-            sender: host(),
+            sender: controller(),
             receiver: self.node,
         };
         let Some(plain) = open(self.alloc, TEMPORARY_KEY, nonce, &ends, payload)? else {
@@ -214,7 +199,7 @@ impl Joiner {
         let verify = Bytes::from_slice(self.alloc, &KEY_VERIFY)?;
         self.sealing.ask(verify);
         self.key = Some(key);
-        out.push(payload(&NONCE_GET));
+        out.push(Payload::fitting(&NONCE_GET));
         Ok(())
     }
 }

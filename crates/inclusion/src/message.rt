@@ -1,6 +1,6 @@
 //! The payloads of the key exchange.
 
-ghost use Rattle.std.specs.Prelude.{◌≡◌, ◌≤◌, length};
+ghost use Rattle.std.specs.Prelude.{◌≡◌};
 ghost use Rattle.std.specs.Str.{bytes_eq};
 ghost use Rattle.inclusion.specs.Messages.{HasHeader, has_command, key_set, key_set_in, key_verify, message_of, nonce_report};
 
@@ -117,7 +117,7 @@ pub(crate) fn nonce_report(nonce: &[u8; 8]) -> Payload
     ensures { result ≡ nonce_report nonce.now }
 {
     let n = nonce;
-    payload(&[
+    Payload::fitting(&[
         SECURITY,
         NONCE_REPORT,
         n[0],
@@ -129,15 +129,4 @@ pub(crate) fn nonce_report(nonce: &[u8; 8]) -> Payload
         n[6],
         n[7],
     ])
-}
-
-/// These bytes as a payload.
-pub(crate) fn payload(bytes: &[u8]) -> Payload
-    requires { length bytes.now ≤ 46 }
-    ensures { result ≡ bytes.now }
-{
-    match Payload::of(bytes) {
-        Some(payload) => payload,
-        None => unreachable!(),
-    }
 }

@@ -1,5 +1,5 @@
 -- What a legal host does, over what it heard, from whatever its keeper kept (this project's own rule): the laws of the host alone, as one.
-use Rattle.std.specs.Prelude.{◌≡◌, ℕ, Bool, true, List, [], ◌∷◌, ◌++◌, Option, ⊤, IfSome}
+use Rattle.std.specs.Prelude.{◌≡◌, ℕ, ◌-◌, Bool, true, false, List, [], ◌∷◌, ◌++◌, length, take, Option, ⊤, IfSome}
 use Rattle.std.specs.List.{flat_map, AllByRecursion}
 use Rattle.host_heard.specs.declared.told.Told.{Told}
 use Rattle.value_store.specs.ValueText.{values_text}
@@ -71,9 +71,14 @@ pub record IsHostLegal (key : List ℕ) (heeds : Heeds) (start : Start) (whole :
 abbrev pub IsHeeded : (List Entry → Carried → List Told) → Heeding → Type 0
 IsHeeded taken heeding = taken heeding.past heeding.carried ≡ heeding.messages
 
+-- the payloads that it has gone through: of a run that an allocation failure ended it may be in the middle of the last
+abbrev pub gone_through : Bool → List Heeding → List Heeding
+gone_through true heeded = heeded
+gone_through false heeded = take (length heeded - 1) heeded
+
 -- a host of which nothing is known but what it heard: it is legal as it goes by what nodes listed in their interviews, and by the messages that it
 -- took up, sealed or not
 pub record IsLegalAlone (key : List ℕ) (start : Start) (whole : Bool) (heard : List Entry) (records : Option (List (List ℕ))) : Type 0 where
   pub taken : List Entry → Carried → List Told
   pub legal : IsHostLegal key (heeds_alone taken) start whole heard records
-  pub heeded : AllByRecursion (IsHeeded taken) (course_of (heeds_alone taken) start heard legal.notes.choices).heeded
+  pub heeded : AllByRecursion (IsHeeded taken) (gone_through whole (course_of (heeds_alone taken) start heard legal.notes.choices).heeded)

@@ -24,10 +24,9 @@ use Rattle.law_wire.specs.Routes.{GoesByRoute}
 use Rattle.law_wire.specs.Serial.{ended}
 use Rattle.law_wire.specs.Shown.{ShowsDevices}
 use Rattle.law_wire.specs.Times.{TellsTime}
-use Rattle.law_time.specs.Heeds.{heeds_of}
 use Rattle.law_host.specs.Heard.{heard_by_host}
-use Rattle.law_host.specs.HostLegal.{ShowsValues}
-use Rattle.law_host.specs.Notes.{NotesWhatHappens, first_start}
+use Rattle.law_host.specs.HostLegal.{IsLegalAlone, ShowsValues}
+use Rattle.law_host.specs.Notes.{first_start}
 
 -- the device of a node did what came to it, as far as the run went
 abbrev pub DidAsShown : Bool → ℕ → List Entry → State → State → Type 0
@@ -65,17 +64,17 @@ pub record IsLegalOnLine (whole : Bool) (devices : List State) (transcript : Lis
   pub serves : ServesHost whole devices transcript
   pub times : TellsTime (ended whole transcript)
 
--- lines are answered, devices do what comes to them, air and serial line keep their laws; the host sends what is due and notes what happens, takes
--- back what it is asked to and stores what is confirmed; what lines ask for of devices and stored values is shown; and its records, where they are
--- told, say what it showed
+-- lines are answered, devices do what comes to them, air and serial line keep their laws; over what it heard of the run the host is legal and prompt as
+-- one alone is; it sends what is due by what devices list, takes back what it is asked to and stores what is confirmed; what lines ask for of devices
+-- and stored values is shown; and its records, where they are told, say what it showed
 pub record IsLegal (key : List ℕ) (before after : List State) (whole : Bool) (transcript : List Entry)
     (told : Option (List (List ℕ))) : Type 0 where
   pub answers : AnswersLines whole before transcript
   pub devices : DevicesDid whole before after transcript
   pub air : IsLegalOnAir whole before transcript
   pub line : IsLegalOnLine whole before transcript
+  pub host : IsLegalAlone key first_start whole (heard_by_host transcript) told
   pub sends : SendsWhatIsDue (always (listing_of before)) key transcript
-  pub notes : NotesWhatHappens key (heeds_of before) first_start whole (heard_by_host transcript)
   pub cancels : CancelsWhenAsked transcript
   pub stores : StoresConfirmed whole (always (listing_of before)) transcript
   pub shows : ShowsDevices before (ended whole transcript)

@@ -15,3 +15,4 @@ pub use Rattle.law_time.specs as law_time
 pub use Rattle.law_transcript.specs as law_transcript
 pub use Rattle.law_wire.specs as law_wire
 pub use Rattle.law_transcript.specs.device_sim as device_sim
+pub use Rattle.law_transcript.specs.device_stack as device_stack

@@ -65,6 +65,7 @@ pub fn worked_run()
     worked_pipes();
     worked_records();
     worked_showing();
+    worked_legal();
 }
 
 /// With the records of another order it is not, no transcript is in which the chip answers a frame that never came, and no whole run that ends with a

@@ -1,1 +1,2 @@
 pub mod Computing
+pub use Rattle.law_wire.proofs.Listening

@@ -3,14 +3,14 @@
 use Rattle.std.specs.Prelude.{◌≡◌, ℕ, ◌+◌, ◌-◌, ◌==◌, ◌&&◌, ◌||◌, not, bytes_eq, nat_lt, is_some, Bool, true, false, if◌then◌else◌, List, [], ◌∷◌, ◌++◌, length, Option, Some, None}
 use Rattle.std.specs.List.{flat_map, list_any, list_all}
 use Rattle.serial_frame.specs.declared.unit.TheConstants.{CAN}
-use Rattle.chip_functions.specs.declared.function.TheConstants.{SEND_DATA}
+use Rattle.chip_functions.specs.declared.function.TheConstants.{REQUEST_NODE_INFO, SEND_DATA}
 use Rattle.law_wire.specs.device_stack.State.{State}
 use Rattle.zw_words.specs.declared.side.Side.TheVariants.{Host, Chip}
 use Rattle.zw_text.specs.declared.line.Line.{Line}
 use Rattle.zw_text.specs.declared.line.Line.TheVariants as lines
 use Rattle.zw_text.specs.declared.entry.Ended.TheVariants.{Unanswered}
 use Rattle.zw_text.specs.declared.entry.Entry.{Entry}
-use Rattle.zw_text.specs.declared.entry.Entry.TheVariants.{Said, Written, Dropped, Garbled, Heard, Out, ChipFull}
+use Rattle.zw_text.specs.declared.entry.Entry.TheVariants.{Said, Time, Written, Dropped, Garbled, Heard, Out, ChipFull}
 use Rattle.zw_text.specs.Transcript.{AirFrame, sessions, joined, shown, folded, line_of, lines_run, frames, where_same}
 use Rattle.law_wire.specs.law_transcript.Commands.{waiting}
 use Rattle.law_wire.specs.law_transcript.Fates.{marks_left, first_fates}
@@ -129,18 +129,34 @@ chip_is_idle past now =
     (are_none (shown chip_frame_at past) || nat_lt 0 (acknowledgements_come Host (folded after_frame [] past)))
     && list_all (λ tick. nat_lt tick now) (shown_after starts_at [] past)
 
--- when the chip last took a payload: it answers the request by 1, or dropped its answer, and owes its callback from then on
+-- when the chip last took a payload, or a question for what a node lists: it answers the request by 1, or dropped its answer, and owes its callback, or
+-- what the node lists, from then on
 abbrev pub is_taking : List ℕ → Bool
-is_taking unit = is_frame unit 1 && ((function_in unit == SEND_DATA) && bytes_eq (body_in unit) (1 ∷ []))
+is_taking unit = is_frame unit 1 && ((function_in unit == SEND_DATA || function_in unit == REQUEST_NODE_INFO) && bytes_eq (body_in unit) (1 ∷ []))
 
 abbrev pub taken_at : List Entry → Entry → List ℕ
 taken_at past (Written Chip unit) = if is_taking unit then clock past ∷ [] else []
 taken_at past ChipFull = clock past ∷ []
 taken_at past _ = []
 
--- it took none in this tick, nor dropped its answer: the callback of one that has no route comes in the next tick, and no frame tells of it
+-- it took none in this tick, nor dropped its answer: the callback of one that has no route, and what a node lists, come in the next tick, and no frame
+-- tells of it
 abbrev pub owes_no_call : List Entry → ℕ → Bool
 owes_no_call past now = list_all (λ tick. nat_lt tick now) (shown_after taken_at [] past)
+
+-- what stands since the last line, or the last tick of which there is an entry, began
+abbrev pub since_begun : List Entry → Entry → List Entry
+since_begun following (Said words) = []
+since_begun following (Time tick) = []
+since_begun following entry = following ++ entry ∷ []
+
+abbrev pub host_unit_at : Entry → List (List ℕ)
+host_unit_at (Written Host unit) = unit ∷ []
+host_unit_at _ = []
+
+-- the host has written fewer units in it than a settling has passes: so the settling is over, and none of them is still on its way to the chip
+abbrev pub is_settled : List Entry → Bool
+is_settled past = nat_lt (length (shown host_unit_at (folded since_begun [] past))) 64
 
 -- no series of a node runs
 abbrev pub is_idle : List Entry → ℕ → ℕ → Bool
@@ -179,6 +195,7 @@ pub record IsStill (listing : List Entry → ℕ → List ℕ) (devices : List S
   pub host : is_rest past now ≡ true
   pub chip : chip_is_idle past now ≡ true
   pub called : owes_no_call past now ≡ true
+  pub settled : is_settled past ≡ true
   pub air : air_is_empty past ≡ true
   pub idle : list_all (is_idle past now) (joined past) ≡ true
   pub asleep : list_all (is_asleep_if_known listing past) (joined past) ≡ true

@@ -44,3 +44,4 @@ pub mod WrongCalm
 pub mod WrongBetween
 pub mod WrongChoice
 pub use Rattle.law_wire.specs.law_transcript as law_transcript
+pub use Rattle.law_wire.specs as law_wire

@@ -1,5 +1,5 @@
 -- Moments that are not calm, and stretches that are invalid, one thing wrong in each.
-use Rattle.std.specs.Prelude.{List, [], ◌∷◌, ◌++◌, codes, take}
+use Rattle.std.specs.Prelude.{ℕ, zero, suc, List, [], ◌∷◌, ◌++◌, codes, take}
 use Rattle.zw_words.specs.declared.side.Side.TheVariants.{Chip}
 use Rattle.zw_text.specs.declared.entry.Ended.TheVariants as endings
 use Rattle.zw_text.specs.declared.entry.Entry.{Entry}
@@ -27,6 +27,23 @@ abbrev pub denied_frame : List Entry
 denied_frame =
     Said (codes "garble c 0 1") ∷ Said (codes "failed 2") ∷ failed_asked ∷ chip_acknowledges ∷ has_failed ∷
     Garbled Chip (bytes (codes "010400620199")) ∷ by_host (codes "15") ∷ []
+
+-- the chip has taken a question for what a node lists after the host gave it up: what it lists is to come
+abbrev pub information_owed : List Entry
+information_owed = Said (codes "tick 1") ∷ Time 1 ∷ by_chip (codes "01040160019B") ∷ host_acknowledges ∷ []
+
+-- so often the chip writes a frame, by which it did not take a question, and the host acknowledges it
+abbrev pub in_turns : ℕ → List Entry
+in_turns zero = []
+in_turns (suc turns) = by_chip (codes "01040160009A") ∷ host_acknowledges ∷ in_turns turns
+
+-- in as many passes as a tick has: the last acknowledgement may be on its way
+abbrev pub unsettled : List Entry
+unsettled = Said (codes "tick 1") ∷ Time 1 ∷ in_turns 64
+
+-- and in one less
+abbrev pub just_settled : List Entry
+just_settled = Said (codes "tick 1") ∷ Time 1 ∷ in_turns 63
 
 -- ---- stretches
 

@@ -4,7 +4,7 @@ ghost use Rattle.std.specs.Prelude.{◌≡◌, true, false, [], ◌∷◌, drop,
 ghost use Rattle.law_wire.specs.device_stack.State.{fresh};
 ghost use Rattle.law_wire.specs.device_kinds.declared.kind.Kind.TheVariants as kinds;
 ghost use Rattle.std.specs.List.{list_all};
-ghost use Rattle.law_time.specs.Calm.{IsCalm, IsStill, air_is_empty, chip_is_idle, is_not_stuck, owes_no_call};
+ghost use Rattle.law_time.specs.Calm.{IsCalm, IsStill, air_is_empty, chip_is_idle, is_not_stuck, is_settled, owes_no_call};
 ghost use Rattle.law_time.specs.Rests.{is_rest};
 ghost use Rattle.law_time.specs.Stretches.{are_plain_listeners, IsStretch, is_quiet, is_time, is_alone, answers_all, AnswersInTime};
 ghost use Rattle.law_time.specs.WorkedBetween.{callback_owed, order_unkept, stretch_of_refused, stretch_unkept};
@@ -69,12 +69,16 @@ ghost use Rattle.law_time.specs.WrongCalm.{
   taken_back,
   cancelled_by_host,
   denied_frame,
+  information_owed,
+  just_settled,
+  unsettled,
 };
 ghost use Rattle.law_time.specs.WorkedTurns.{known_sleeper};
 
 /// A run begins in a calm moment, and is calm again when its command is answered, and when a node that sleeps is asleep; so are the moments
 /// before the stretches below, one in which all marks are used up, one a tick after a restart, one in which an unknown node is awake, one a
-/// tick after the chip dropped a frame, and those in which a command waits for a node that sleeps or whose next series is to come.
+/// tick after the chip dropped a frame or took a question for what a node lists, and those in which a command waits for a node that sleeps or whose
+/// next series is to come. Of 63 units of the host in one tick none is on its way.
 pub fn worked_calm()
     ensures first { IsCalm (always (listing_of (the_switch ∷ []))) (the_switch ∷ []) [] 0 }
     ensures last { IsCalm (always (listing_of (the_switch ∷ []))) (the_switch ∷ []) calm_exchange 500 }
@@ -92,12 +96,14 @@ pub fn worked_calm()
     ensures abort { IsCalm (always (listing_of (the_switch ∷ []))) (the_switch ∷ []) abort_alone 0 }
     ensures after_frame { IsCalm (always (listing_of (the_switch ∷ []))) (the_switch ∷ []) abort_after_frame 0 }
     ensures dropped { IsCalm (always (listing_of (the_switch ∷ []))) (the_switch ∷ []) dropped_by_chip 2 }
+    ensures told { IsCalm (always (listing_of (the_switch ∷ []))) (the_switch ∷ []) information_owed 2 }
+    ensures settled { is_settled just_settled ≡ true }
 {}
 
 /// A moment is not calm while a frame, an acknowledgement or a unit is to be lost, changed or answered by CAN, which frames of devices and
 /// repeated ones leave so, bytes are stalled, a request is under way, the chip waits for an acknowledgement, or owes a callback though no
-/// frame is on the air, or has just dropped a frame, a frame is on the air, a series runs, a node that does not listen is kept awake, a
-/// device is at work on a change, the host has just restarted, or a node is stuck.
+/// frame is on the air, or what a node lists, or has just dropped a frame, or may still be to hear the last of 64 units of the host, a frame is on
+/// the air, a series runs, a node that does not listen is kept awake, a device is at work on a change, the host has just restarted, or a node is stuck.
 pub fn rejected_calm()
     ensures marked { IsCalm (always (listing_of (the_switch ∷ []))) (the_switch ∷ []) (Said (codes "lose 1") ∷ []) 0 → ⊥ }
     ensures acknowledgement { IsCalm (always (listing_of (the_switch ∷ []))) (the_switch ∷ []) (Said (codes "loseack 1") ∷ []) 0 → ⊥ }
@@ -120,6 +126,8 @@ pub fn rejected_calm()
     ensures denied { IsCalm (always (listing_of (the_switch ∷ []))) (the_switch ∷ []) denied_frame 15 → ⊥ }
     ensures owed { IsCalm (always (listing_of (the_switch ∷ the_other_switch ∷ []))) (the_switch ∷ the_other_switch ∷ []) callback_owed 104 → ⊥ }
     ensures dropped { IsCalm (always (listing_of (the_switch ∷ []))) (the_switch ∷ []) dropped_by_chip 1 → ⊥ }
+    ensures information { IsCalm (always (listing_of (the_switch ∷ []))) (the_switch ∷ []) information_owed 1 → ⊥ }
+    ensures unsettled { IsCalm (always (listing_of (the_switch ∷ []))) (the_switch ∷ []) unsettled 1 → ⊥ }
 {}
 
 /// Stretches that answer in time: of one node, of two that listen, and of one that sleeps; of one that is reached over another node; and of

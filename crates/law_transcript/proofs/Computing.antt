@@ -17,12 +17,12 @@ use Rattle.encap.specs.Opening.{opened_at}
 use Rattle.host_heard.specs.Telling.{heard_at}
 use Rattle.host_keep.specs.Kept.{first_nodes, after_all}
 use Rattle.device_sim.specs.Event.{outcome_of, device_after, device_replies}
-use Rattle.device_stack.specs.Effects.{effect_of}
-use Rattle.device_stack.specs.Hearing.{answers, answers_bytes, hears_openly, hears}
-use Rattle.device_kinds.specs.Judging.{judged_message}
-use Rattle.device_stack.specs.Showing.{shown_of}
-use Rattle.device_kinds.specs.Telling.{told}
-use Rattle.device_stack.specs.Ticking.{ticked, woken, set_by_hand}
+use Rattle.device_sim.specs.device_stack.Effects.{effect_of}
+use Rattle.device_sim.specs.device_stack.Hearing.{answers, answers_bytes, hears_openly, hears}
+use Rattle.device_sim.specs.device_kinds.Judging.{judged_message}
+use Rattle.device_sim.specs.device_stack.Showing.{shown_of}
+use Rattle.device_sim.specs.device_kinds.Telling.{told}
+use Rattle.device_sim.specs.device_stack.Ticking.{ticked, woken, set_by_hand}
 
 -- what an answer unfolds to compute what a transcript shows of lines and orders
 unfoldable pub computing_lines : ⊤

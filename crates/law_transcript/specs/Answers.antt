@@ -6,7 +6,7 @@ use Rattle.std.specs.Set.{distinct_count}
 use Rattle.zw_base.specs.PropertyOrder.{same_property}
 use Rattle.zw_base.specs.declared.property.Property.{Property}
 use Rattle.zw_base.specs.declared.order.Order.{Order}
-use Rattle.device_stack.specs.State.{State}
+use Rattle.device_sim.specs.device_stack.State.{State}
 use Rattle.host_orders.specs.Classes.{actuator_of}
 use Rattle.host_orders.specs.Errands.{send_refusal, get_refusal}
 use Rattle.host_orders.specs.Refusals.{Known, refusal_of}

@@ -1,7 +1,7 @@
 -- The headline: what holds of a run's transcript and of its devices, whatever is lost, delayed, repeated or restarted (this
 -- project's own theorem).
 use Rattle.std.specs.Prelude.{◌≡◌, ◌≤◌, ℕ, true, List, Some}
-use Rattle.device_stack.specs.State.{State, fresh}
+use Rattle.device_sim.specs.device_stack.State.{State, fresh}
 use Rattle.zw_text.specs.declared.entry.Entry.{Entry}
 use Rattle.law_transcript.specs.Nodes.{device_of, listing_of, is_supervised, always}
 use Rattle.law_transcript.specs.Sessions.{KeepsSessions}

@@ -25,8 +25,9 @@ pub mod WorkedWrongLines
 pub mod WorkedDevices
 pub mod WorkedRepeats
 pub mod WorkedCases
-pub use Rattle.device_kinds.specs as device_kinds
+pub use Rattle.device_sim.specs.device_kinds as device_kinds
 pub use Rattle.device_sim.specs as device_sim
-pub use Rattle.device_stack.specs as device_stack
+pub use Rattle.device_sim.specs.device_stack as device_stack
 pub use Rattle.host_keep.specs as host_keep
 pub use Rattle.host_orders.specs as host_orders
+pub use Rattle.zw_text.specs as zw_text

@@ -3,9 +3,9 @@
 -- it has succeeded.
 use Rattle.std.specs.Prelude.{ℕ, ◌==◌, Bool, if◌then◌else◌, List, [], ◌∷◌, Option, Some, None, unwrap_or}
 use Rattle.std.specs.List.{list_any}
-use Rattle.device_kinds.specs.declared.kind.Kind.TheVariants.{Switch}
-use Rattle.device_kinds.specs.Kind.{classes_of, lists}
-use Rattle.device_stack.specs.State.{State}
+use Rattle.device_sim.specs.device_kinds.declared.kind.Kind.TheVariants.{Switch}
+use Rattle.device_sim.specs.device_kinds.Kind.{classes_of, lists}
+use Rattle.device_sim.specs.device_stack.State.{State}
 use Rattle.zw_text.specs.declared.entry.Entry.{Entry}
 use Rattle.zw_text.specs.Transcript.{joined, interviews}
 

@@ -4,7 +4,7 @@ use Rattle.std.specs.Prelude.{◌≡◌, ◌≤◌, ℕ, List, [], length, ⊤}
 use Rattle.std.specs.List.{flat_map, AllByRecursion}
 use Rattle.zw_base.specs.declared.property.By.TheVariants.{Plain}
 use Rattle.supervision.specs.Host.{command_at}
-use Rattle.device_kinds.specs.declared.change.Change.{Change}
+use Rattle.device_sim.specs.device_kinds.declared.change.Change.{Change}
 use Rattle.zw_text.specs.declared.entry.Entry.{Entry}
 use Rattle.zw_text.specs.declared.entry.Entry.TheVariants.{Out}
 use Rattle.zw_text.specs.declared.entry.Ended.TheVariants.{Success as Succeeds}

@@ -9,8 +9,8 @@ use Rattle.std.specs.Cmp.Lexicographic.{slice_cmp}
 use Rattle.zw_base.specs.PropertyOrder.{rank_of}
 use Rattle.zw_base.specs.declared.property.Property.{Property}
 use Rattle.host_orders.specs.Settings.{properties_of}
-use Rattle.device_stack.specs.State.{State}
-use Rattle.device_stack.specs.Showing.{shown_of}
+use Rattle.device_sim.specs.device_stack.State.{State}
+use Rattle.device_sim.specs.device_stack.Showing.{shown_of}
 use Rattle.zw_text.specs.declared.entry.Entry.{Entry}
 use Rattle.zw_text.specs.declared.entry.Entry.TheVariants.{TableEnd, TableNode, TableValue, Device}
 use Rattle.zw_text.specs.Transcript.{joined, sessions, reported}

@@ -5,8 +5,8 @@ use Rattle.std.specs.List.{list_any, flat_map, AllByRecursion}
 use Rattle.zw_base.specs.PropertyOrder.{same_property}
 use Rattle.zw_base.specs.declared.property.Property.{Property}
 use Rattle.zw_base.specs.declared.property.By.{By}
-use Rattle.device_kinds.specs.declared.change.Change.{Change}
-use Rattle.device_stack.specs.State.{State, value_of}
+use Rattle.device_sim.specs.device_kinds.declared.change.Change.{Change}
+use Rattle.device_sim.specs.device_stack.State.{State, value_of}
 use Rattle.host_orders.specs.Settings.{properties_of}
 use Rattle.host_keep.specs.Kept.{value_among, or_else}
 use Rattle.zw_text.specs.declared.entry.Entry.{Entry}

@@ -7,9 +7,9 @@ use Rattle.zw_base.specs.declared.property.Name.TheVariants as names
 use Rattle.zw_base.specs.declared.property.By.TheVariants.{Session}
 use Rattle.zw_words.specs.declared.side.Side.TheVariants.{Host, Chip}
 use Rattle.host_orders.specs.Settings.{setting, config_settings}
-use Rattle.device_kinds.specs.declared.change.Change.{Change}
-use Rattle.device_kinds.specs.declared.kind.Kind.TheVariants as kinds
-use Rattle.device_stack.specs.State.{State, fresh}
+use Rattle.device_sim.specs.device_kinds.declared.change.Change.{Change}
+use Rattle.device_sim.specs.device_kinds.declared.kind.Kind.TheVariants as kinds
+use Rattle.device_sim.specs.device_stack.State.{State, fresh}
 use Rattle.zw_text.specs.declared.entry.Ended.TheVariants as endings
 use Rattle.zw_text.specs.declared.entry.Refusal.TheVariants as refusals
 use Rattle.zw_text.specs.declared.entry.Entry.{Entry}

@@ -6,8 +6,8 @@ use Rattle.zw_base.specs.declared.order.Order.{Order}
 use Rattle.zw_base.specs.declared.order.Word.TheVariants.{On, Level}
 use Rattle.zw_base.specs.declared.order.What.TheVariants.{Value, Mode, Bulk, Associate}
 use Rattle.host_orders.specs.Settings.{setting}
-use Rattle.device_kinds.specs.declared.kind.Kind.TheVariants as kinds
-use Rattle.device_stack.specs.State.{State, fresh}
+use Rattle.device_sim.specs.device_kinds.declared.kind.Kind.TheVariants as kinds
+use Rattle.device_sim.specs.device_stack.State.{State, fresh}
 use Rattle.zw_text.specs.declared.entry.Ended.{Ended}
 use Rattle.zw_text.specs.declared.entry.Refusal.TheVariants as refusals
 use Rattle.zw_text.specs.declared.entry.Entry.{Entry}

@@ -4,7 +4,7 @@ use Rattle.zw_base.specs.declared.property.Name.TheVariants as names
 use Rattle.zw_base.specs.declared.property.By.TheVariants.{Session, Plain}
 use Rattle.zw_words.specs.declared.side.Side.TheVariants.{Host, Chip}
 use Rattle.host_orders.specs.Settings.{setting}
-use Rattle.device_kinds.specs.declared.change.Change.{Change}
+use Rattle.device_sim.specs.device_kinds.declared.change.Change.{Change}
 use Rattle.zw_text.specs.declared.entry.Ended.TheVariants as endings
 use Rattle.zw_text.specs.declared.entry.Entry.{Entry}
 use Rattle.zw_text.specs.declared.entry.Entry.TheVariants.{Said, Accepted, Begin, Written, Air, Heard, Dev, Out, Store, Time}

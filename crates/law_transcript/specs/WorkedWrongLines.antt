@@ -1,8 +1,8 @@
 -- Lines that pass though they are to be refused, or are refused otherwise than they may be, and the heard values of lines that follow.
 use Rattle.std.specs.Prelude.{ℕ, zero, suc, ◌*◌, ◌/◌, ◌%◌, List, [], ◌∷◌, ◌++◌, map, replicate, codes}
 use Rattle.std.specs.List.{range_with_len}
-use Rattle.device_kinds.specs.declared.kind.Kind.TheVariants as kinds
-use Rattle.device_stack.specs.State.{State, fresh}
+use Rattle.device_sim.specs.device_kinds.declared.kind.Kind.TheVariants as kinds
+use Rattle.device_sim.specs.device_stack.State.{State, fresh}
 use Rattle.zw_base.specs.declared.property.Name.TheVariants as names
 use Rattle.host_orders.specs.Settings.{setting}
 use Rattle.zw_text.specs.declared.entry.Refusal.{Refusal}

@@ -23,6 +23,7 @@ pub use device::{
     rejected_devices, rejected_made, rejected_records, worked_devices, worked_made, worked_records,
     worked_table,
 };
+pub use device_sim::{sessions_rise, when_changes_come};
 pub use host::{
     rejected_answers, rejected_lines, worked_answers, worked_bounds, worked_cancels,
     worked_choices, worked_first, worked_heard, worked_properties, worked_refusals, worked_stores,

@@ -8,7 +8,7 @@ mod Halting
 pub mod Judging
 pub mod ShownRecords
 mod Linked
-mod Listening
+pub mod Listening
 mod Losing
 mod Machine
 pub mod Moves

@@ -1,6 +1,7 @@
 pub mod Networks
 pub mod Routes
 pub mod Reach
+pub mod Listening
 pub mod Arriving
 pub mod Asked
 pub mod Taking

@@ -75,17 +75,6 @@ impl Model for Air {
     } };
 }
 
-/// A payload of its own with these bytes.
-pub(crate) fn copy_of(payload: &[u8]) -> Payload
-    requires { length payload.now ≤ 46 }
-    ensures { result ≡ payload.now }
-{
-    match Payload::of(payload) {
-        Some(copy) => copy,
-        None => unreachable!(),
-    }
-}
-
 impl Air {
     /// Nothing is linked or joined, and nothing was sent. It takes the memory for all frames that it remembers.
     pub fn new(alloc: Global) -> Result<Air, NoMemory>
@@ -236,7 +225,7 @@ impl Air {
             ⊎ IsOnAir self.old.state (self.old.state.frames.sent + 1 - 4097)) }
     {
         self.reserve(1)?;
-        Ok(self.depart(to, Heading::Outward, Some(route), copy_of(payload)))
+        Ok(self.depart(to, Heading::Outward, Some(route), Payload::fitting(payload)))
     }
 
     /// Whether a node is joined.
@@ -275,7 +264,7 @@ impl Air {
         }
         self.reserve(1)?;
         let way = self.way_home(from);
-        Ok(Some(self.depart(from, Heading::Homeward, way, copy_of(payload))))
+        Ok(Some(self.depart(from, Heading::Homeward, way, Payload::fitting(payload))))
     }
 
     /// The payload of the frame of that number, unless it was never sent or is forgotten.

@@ -52,15 +52,15 @@ ghost use Rattle.mesh_sim.specs.Steps.{
   Comes,
 };
 
-use crate::air::{NO_ROUTE, copy_of};
+use crate::air::NO_ROUTE;
 use crate::devices::{changes_of, hear_one};
 use crate::event::{TRANSMIT_NO_ACK, TRANSMIT_OK};
-use crate::fate::{Fate, controller, fate_now};
+use crate::fate::{Fate, fate_now};
 use crate::{Air, AirEvent};
 use air_frames::Heading;
 use device_sim::Device;
 use route_table::Route;
-use zw_base::{Draw, List, NoMemory, NodeId, Payload, Replies};
+use zw_base::{Draw, List, NoMemory, NodeId, Payload, Replies, controller};
 
 /// The most payloads that a device gives in one call.
 const MAX_REPLIES: u8 = 8;
@@ -184,7 +184,7 @@ impl Air {
             arrival: Arrival {
                 number: self.frames.next_number(),
                 node: frame.node(),
-                payload: copy_of(frame.payload()),
+                payload: Payload::fitting(frame.payload()),
             },
         }
     }
@@ -403,13 +403,13 @@ impl Air {
         ensures room { self.new.room + 1 ≡ self.old.room }
         ensures out_room { out.new.room + 1 ≡ out.old.room }
     {
-        let frame = self.depart(node, Heading::Homeward, way, copy_of(reply));
+        let frame = self.depart(node, Heading::Homeward, way, Payload::fitting(reply));
         out.put(AirEvent::Sent {
             frame,
             from: node,
             to: controller(),
             route: way.unwrap_or(NO_ROUTE),
-            payload: copy_of(reply),
+            payload: Payload::fitting(reply),
         });
     }
 }

@@ -7,10 +7,7 @@ use crate::devices::listener_in;
 use air_frames::{Frame, Heading};
 use device_sim::Device;
 use route_table::RouteTable;
-use zw_base::{NodeId, read_node};
-
-/// Node 1, the controller.
-const CONTROLLER: u8 = 1;
+use zw_base::{NodeId, controller, read_node};
 
 /// What becomes of a frame that arrives.
 #[derive(Clone, Copy, Debug)]
@@ -25,16 +22,6 @@ pub enum Fate {
     AtChip,
     /// The device at that place of the list hears it.
     AtDevice(usize),
-}
-
-/// Node 1.
-pub(crate) fn controller() -> NodeId
-    ensures { result ≡ 1 }
-{
-    match read_node(CONTROLLER) {
-        Some(node) => node,
-        None => unreachable!(),
-    }
 }
 
 /// The first hop from one node over repeaters to another that is no link.

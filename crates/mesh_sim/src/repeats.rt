@@ -9,13 +9,12 @@ ghost use Rattle.air_frames.specs.History.{Mark, IsOf, refusal_in};
 ghost use Rattle.mesh_sim.specs.Faults.{IsFault};
 ghost use Rattle.mesh_sim.specs.Steps.{Repeats, Did, IsRepeatOf, IsCut, HasHeard, HasPerhaps, ComesAgain, IsHeardAgain, IsHeardPerhaps};
 
-use crate::air::copy_of;
 use crate::arrivals::{Arrival, enter_at_chip};
 use crate::devices::listener_in;
 use crate::{Air, AirEvent, RepeatFault};
 use air_frames::{Heading, Refusal, ages_are_those_of_the_history};
 use device_sim::Device;
-use zw_base::{Draw, List, NoMemory};
+use zw_base::{Draw, List, NoMemory, Payload};
 
 /// A frame that may be repeated.
 #[derive(Drop)]
@@ -69,7 +68,7 @@ impl Air {
             arrival: Arrival {
                 number: frame,
                 node: sent.node(),
-                payload: copy_of(sent.payload()),
+                payload: Payload::fitting(sent.payload()),
             },
         })
     }

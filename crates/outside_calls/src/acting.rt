@@ -46,34 +46,7 @@ impl Outside {
         ensures kept { length devices.new.items ≡ length devices.old.items }
     {
         let mut replies = Replies::new(self.core.alloc())?;
-        for place in 0..devices.len() {
-            self.tick_at(place, &mut replies, devices, out)?;
-        }
-        Ok(())
-    }
-
-    /// The device at a place ticks.
-    fn tick_at(
-        &mut self,
-        place: usize,
-        replies: &mut Replies,
-        devices: &mut Vec<Box<dyn Device>>,
-        out: &mut List<Entry>,
-    ) -> Result<(), NoMemory>
-        requires few { length devices.old.items < 2 ^ 64 }
-        requires within { place < length devices.old.items }
-        requires free { replies.old ≡ [] }
-        ensures devices { OnOk result (map (λ d. state d) devices.new.items ≡ set_by_hand (map (λ d. state d) devices.old.items) (Some place) (Ticks [])) }
-        ensures ok { OnOk result ((route : Option TheRoute) × MayActByHand self.old (map (λ d. state d) devices.old.items) (Some place) (Ticks []) route
-            × Enters (acts_by_hand self.old (map (λ d. state d) devices.old.items) (Some place) (Ticks []) route) self.new out.old.items out.new.items) }
-        ensures free { OnOk result (replies.new ≡ []) }
-        ensures no_entries { OnErr result (out.new.items ≡ out.old.items) }
-        ensures err { OnErr result (HasActedByHand self.old (map (λ d. state d) devices.old.items) (map (λ d. state d) devices.new.items)
-            (Some place) (Ticks [])) }
-        ensures kept { length devices.new.items ≡ length devices.old.items }
-    {
-        tick_one(&mut self.core, &mut devices[place], replies, out)?;
-        Ok(())
+        tick_all(&mut self.core, devices.as_mut_slice(), &mut replies, out)
     }
 
     /// The device at a place does something.
@@ -199,6 +172,25 @@ fn perform(
     let mut replies = Replies::new(core.alloc())?;
     act_one(device, act, &mut replies)?;
     tell_act(core, node, first, device, &replies, told)
+}
+
+/// The devices tick, in the order of the list. The same replies, of which there are none before and after, serve each device.
+fn tick_all(
+    core: &mut OutsideCore,
+    devices: &mut [Box<dyn Device>],
+    replies: &mut Replies,
+    out: &mut List<Entry>,
+) -> Result<(), NoMemory>
+    requires { replies.old ≡ [] }
+    ensures ok { OnOk result (RunOf (DeviceTicks 0 (length devices.old))
+        (outside core.old (map (λ d. state d) devices.old)) (outside core.new (map (λ d. state d) devices.new)) out.old.items out.new.items) }
+    ensures err { OnErr result (Stops (PrefixOf (DeviceTicks 0 (length devices.old)))
+        (outside core.old (map (λ d. state d) devices.old)) (map (λ d. state d) devices.new) out.old.items out.new.items) }
+{
+    for device in devices.iter_mut() {
+        tick_one(core, device, replies, out)?;
+    }
+    Ok(())
 }
 
 /// A device ticks. One that changes nothing sends nothing, and costs no more than that; else both are told and entered. The

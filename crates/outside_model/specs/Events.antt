@@ -77,6 +77,10 @@ with_way o Chip w = record o { to_host = w }
 abbrev pub cleared_entries : Side → ℕ → List Entry
 cleared_entries side count = if nat_lt 0 count then Cleared side count ∷ [] else []
 
+abbrev pub IsCleared : Entry → Type 0
+IsCleared (Cleared side count) = Unit {0}
+IsCleared _ = ⊥
+
 abbrev pub clears : OuterState → Side → Outcome
 clears o side = record { outer = with_way o side (way.after (way_of o side) Clears); entries = cleared_entries side (length (way_of o side).bytes) }
 

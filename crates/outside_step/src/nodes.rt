@@ -1,6 +1,6 @@
 //! Nodes that join, and the links that the chip learns of them.
 
-ghost use Rattle.std.specs.Prelude.{◌≡◌, ◌+◌, ◌-◌, ◌<◌, ◌&&◌};
+ghost use Rattle.std.specs.Prelude.{◌≡◌, ◌-◌, ◌&&◌};
 ghost use Rattle.route_table.specs.Network.{linked};
 ghost use Rattle.chip_sim.specs.Did.{after_all};
 ghost use Rattle.mesh_sim.specs.Air.{is_joined};
@@ -8,21 +8,7 @@ ghost use Rattle.outside_model.specs.State.{with_chip};
 ghost use Rattle.outside_model.specs.Nodes.{is_known, links_of, pairs_of, joins, discovers};
 
 use crate::OutsideCore;
-use zw_base::{NodeId, read_node};
-
-/// The greatest node id.
-const MAX_NODE: u8 = 232;
-
-/// The node at a place, counted from 0.
-fn node_after(place: u8) -> NodeId
-    requires { place < MAX_NODE }
-    ensures { result ≡ place + 1 }
-{
-    match read_node(place + 1) {
-        Some(node) => node,
-        None => unreachable!(),
-    }
-}
+use zw_base::{MAX_NODE, NodeId, node_after};
 
 impl OutsideCore {
     /// Whether a node is joined.

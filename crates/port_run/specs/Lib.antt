@@ -4,3 +4,4 @@ pub mod Schedule
 pub mod Serving
 pub mod Ending
 pub mod Quiet
+pub use Rattle.host_core.specs as host_core

@@ -55,3 +55,15 @@ pub use Rattle.law_wire.proofs.Having
 pub use Rattle.law_wire.proofs.Deciding
 pub use Rattle.proof_walk.proofs.EventLists as outside_model_EventLists
 pub use Rattle.proof_walk.proofs.HostOuts
+pub use Rattle.proof_walk.proofs.Pumps
+pub use Rattle.proof_walk.proofs.Rising
+pub use Rattle.proof_walk.proofs.Begun
+pub use Rattle.proof_walk.proofs.Ended
+pub use Rattle.proof_walk.proofs.OpenSessions
+pub use Rattle.proof_walk.proofs.Silence
+pub use Rattle.proof_walk.proofs.host_model_Values
+pub use Rattle.proof_walk.proofs.Counts
+pub use Rattle.proof_walk.proofs.Legal
+pub use Rattle.proof_walk.proofs.Own
+pub use Rattle.proof_walk.proofs.RestoredFacts
+pub use Rattle.proof_walk.proofs.host_model_EventLists

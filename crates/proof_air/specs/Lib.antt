@@ -11,3 +11,5 @@ pub use Rattle.law_wire.specs.law_transcript as law_transcript
 pub use Rattle.law_wire.specs as law_wire
 pub use Rattle.proof_walk.specs.outside_model as outside_model
 pub use Rattle.proof_walk.specs.proof_device as proof_device
+pub use Rattle.proof_walk.specs.host_model as host_model
+pub use Rattle.proof_walk.specs.mesh_sim as mesh_sim

@@ -21,6 +21,8 @@ pub use carrying::{handlers_go_on, lines_bring_what_was_heard};
 pub use doings::lines_are_done_by_devices;
 pub use history::history_goes_on;
 pub use landing::{landings_go_on, lines_land_in_time};
-pub use proof_walk as walk;
-pub use proof_walk::{device, host};
+pub use proof_walk::{
+    a_host_begins_with_what_is_kept, a_restart_keeps_what_is_held, asides_keep_facts,
+    attempts_have_what_they_give, changes_are_shown, facts_are_kept, laws_follow, time_goes_on,
+};
 pub use repeats::{lines_refuse_what_is_old, lines_repeat_what_is_fresh};

@@ -1,12 +1,12 @@
 -- Steps of others: entries, units of the chip that come or do not, and the number of a tick before them.
-use Rattle.std.proofs.Common.{◌≡◌, ◌≤◌, ℕ, ◌==◌, ◌&&◌, ◌||◌, not, Bool, true, false, if◌then◌else◌, inl, List, [], ◌∷◌, ◌++◌, length, drop, refl, sym, ap, ◌∙◌, subst, append-nil, append_assoc, arith}
+use Rattle.std.proofs.Common.{◌≡◌, ◌≤◌, ℕ, ◌+◌, ◌-◌, ◌==◌, ◌&&◌, ◌||◌, not, Bool, true, false, if◌then◌else◌, inl, inr, List, [], ◌∷◌, ◌++◌, length, drop, refl, sym, ap, ◌∙◌, subst, append-nil, append_assoc, arith}
 use Rattle.std.proofs.lemmas.Grind.{flat_map-append}
-use Rattle.std.proofs.lemmas.List.{length-set}
+use Rattle.std.proofs.lemmas.List.{get_or-set_other, length-set}
 use Rattle.std.proofs.lemmas.Slice.Eq.{bytes_eq-Decides}
-use Rattle.std.specs.Prelude.{Option, nat_lt}
+use Rattle.std.specs.Prelude.{Option, min, nat_lt}
 use Rattle.std.specs.List.{AllByRecursion}
 use Rattle.std.specs.Str.{bytes_eq}
-use Rattle.zw_base.proofs.Each.{all-append}
+use Rattle.zw_base.proofs.Each.{all-append, all-weaker}
 use Rattle.serial_frame.specs.Frame.{FrameParts}
 use Rattle.serial_frame.specs.Items.{unit_text}
 use Rattle.serial_frame.specs.declared.item.Item.{Item}
@@ -14,7 +14,7 @@ use Rattle.serial_frame.specs.declared.item.Item.TheVariants.{Good, Refused}
 use Rattle.serial_frame.specs.declared.item.Refusal.TheVariants.{BadSum}
 use Rattle.serial_frame.specs.declared.unit.Unit.{Unit as LineUnit}
 use Rattle.serial_frame.specs.declared.unit.Unit.TheVariants.{Ack, Nak, Can, Framed}
-use Rattle.serial_frame.specs.declared.unit.TheConstants.{ACK, NAK, CAN}
+use Rattle.serial_frame.specs.declared.unit.TheConstants.{SOF, ACK, NAK, CAN}
 use Rattle.serial_pipes.specs.State.{WayState, change_for, fits, garbled, garbled_place, mark_for}
 use Rattle.serial_pipes.specs.Events.{Writes, after, passing, told_by}
 use Rattle.serial_pipes.specs.Events as way
@@ -25,6 +25,7 @@ use Rattle.s0_crypto.specs.declared.key_pair.Keys.{Keys}
 use Rattle.zw_words.specs.declared.side.Side.TheVariants.{Chip}
 use Rattle.zw_text.specs.declared.entry.Entry.{Entry}
 use Rattle.zw_text.specs.declared.entry.Entry.TheVariants as entry
+use Rattle.law_host.specs.law_time.Judged.{is_data}
 use Rattle.law_host.specs.law_time.Requests.{is_answer}
 use Rattle.proof_line.specs.host_model.State.{HostState}
 use Rattle.proof_line.specs.outside_model.State.{OuterState}
@@ -37,9 +38,9 @@ use Rattle.proof_line.proofs.Tellings.{Tells}
 use Rattle.proof_alone.specs.State.{HostMachine, host_machine}
 use Rattle.proof_alone.specs.Steps.{AreFrames, ChangesFrame, DidNotCome, IsFramed, IsOfOthers, Comes, Misses, Numbers}
 use Rattle.proof_alone.specs.Steps as step
-use Rattle.proof_alone.specs.Phases.{MayCome, Phase, IsBetween}
-use Rattle.proof_alone.specs.Careful.{CarefulRun, MayMeet, Stage}
-use Rattle.proof_alone.proofs.Carefully.{stepped}
+use Rattle.proof_alone.specs.Phases.{MayCome, Phase, Open, Risen, IsBetween}
+use Rattle.proof_alone.specs.Careful.{MayHear, MayMeet, Stage, StaysFrame}
+use Rattle.proof_alone.proofs.Carefully.{Leads, else_hears, goes_on}
 use Rattle.proof_alone.proofs.Stamps.{Time3, entered}
 
 -- ---- changes that wait
@@ -84,6 +85,15 @@ garbled_answers_none garble f =
     let same : length (garbled garble text) ≡ length text = length-set text (garbled_place garble text) _ in
     long_answers_none (garbled garble text) (omega (arith, same))
 
+-- the first byte is never changed
+never_first : (place long : ℕ) → 2 ≤ long → 0 ≡ min (2 + place) (long - 1) → ⊥
+never_first place long room bad = omega (arith, room, bad)
+
+garbled_stays : (garble : Garble) (f : FrameParts) → is_data (garbled garble (unit_text (Framed f))) ≡ true
+garbled_stays garble f =
+    let text : List ℕ = unit_text (Framed f) in
+    ap (λ (byte : ℕ). byte == SOF) (get_or-set_other text (garbled_place garble text) 0 _ 0 (never_first garble.place (length text) (omega arith)))
+
 -- the items that frames become are frames
 pub framed_items : (way : WayState) (units : List LineUnit) → AreFrames units → AreFrames (good_units (items_all way units))
 framed_items way [] frames = tt
@@ -110,53 +120,74 @@ framed_items way (unit ∷ units) frames =
     one Nak framed = absurd framed
     one Can framed = absurd framed
 
+-- ---- what may be told here
+
+-- an entry of others
+abbrev pub MayTell : Phase → Entry → Type 0
+MayTell here e = IsOfOthers e × MayHear here (step.Tells e)
+
+-- any, where items are judged
+pub any_told : (asides : List Entry) → AllByRecursion IsOfOthers asides → AllByRecursion (MayTell Open) asides
+any_told asides all = all-weaker IsOfOthers (MayTell Open) (λ e of_others. (of_others, tt)) asides all
+
+framed_data : (unit : LineUnit) → IsFramed unit → is_data (unit_text unit) ≡ true
+framed_data (Framed f) framed = refl
+framed_data unit framed = absurd framed
+
+-- a unit that may come may be missed
+missed : (here : Phase) (unit : LineUnit) (marks : List Entry) → MayCome here unit → StaysFrame marks → MayHear here (Misses (unit_text unit) marks)
+missed Risen unit marks (inl framed) stays = (framed_data unit framed, stays)
+missed Risen unit marks (inr is) stays = absurd (let bad : Risen ≡ Open = is in cc)
+missed here unit marks may stays = tt
+
 -- ---- with these fields, which stay
 
-module _ (start : HostMachine) (stage : Stage) (keys : Keys) (records : Option (List (List ℕ))) (state : HostState) (left : ℕ) where
+module _ (Led : Stage → Phase → List Entry → HostMachine → Type 0) (leads : Leads Led) (stage : Stage) (keys : Keys) (records : Option (List (List ℕ))) (state : HostState) (left : ℕ) where
   abbrev pub at : List LineUnit → ℕ → Bool → HostMachine
   at came clock awaits = host_machine keys records state came clock left awaits
 
   -- the number, where it is to be entered
-  pub number_run : (here : Phase) (told : List Entry) (came : List LineUnit) (clock : ℕ) (awaits : Bool) → CarefulRun start stage here told (at came clock awaits)
-      → CarefulRun start stage here (told ++ (if awaits then entry.Time clock ∷ [] else [])) (at came clock false)
-  number_run here told came clock true run = stepped Numbers (refl, refl) tt refl refl refl run
-  number_run here told came clock false run = subst (λ (l : List Entry). CarefulRun start stage here l (at came clock false)) (sym (append-nil told)) run
+  pub number_run : (here : Phase) (told : List Entry) (came : List LineUnit) (clock : ℕ) (awaits : Bool) → Led stage here told (at came clock awaits)
+      → Led stage here (told ++ (if awaits then entry.Time clock ∷ [] else [])) (at came clock false)
+  number_run here told came clock true run = goes_on leads Numbers (refl, refl) (tt, else_hears here Numbers tt) refl refl refl run
+  number_run here told came clock false run = subst (λ (l : List Entry). Led stage here l (at came clock false)) (sym (append-nil told)) run
 
   module _ (here : Phase) (between : IsBetween here) (clock : ℕ) where
     abbrev pub Here : List Entry → List LineUnit → Type 0
-    Here told came = CarefulRun start stage here told (at came clock false)
+    Here told came = Led stage here told (at came clock false)
 
     -- entries of others
-    pub asides_run : (asides told : List Entry) (came : List LineUnit) → AllByRecursion IsOfOthers asides → Here told came → Here (told ++ asides) came
+    pub asides_run : (asides told : List Entry) (came : List LineUnit) → AllByRecursion (MayTell here) asides → Here told came → Here (told ++ asides) came
     asides_run [] told came all run = subst (λ (l : List Entry). Here l came) (sym (append-nil told)) run
     asides_run (one ∷ asides) told came all run =
-        let next : Here (told ++ one ∷ []) came = stepped (step.Tells one) (between, all.0, refl, refl) tt refl refl refl run in
+        let next : Here (told ++ one ∷ []) came = goes_on leads (step.Tells one) (between, all.0.0, refl, refl) (tt, all.0.1) refl refl refl run in
         subst (λ (l : List Entry). Here l came) (append_assoc told (one ∷ []) asides) (asides_run asides (told ++ one ∷ []) came all.1 next)
 
     -- where units may come
     module _ (meets : MayMeet stage) where
       comes : (told : List Entry) (came : List LineUnit) (unit : LineUnit) → MayCome here unit → Here told came → Here (told ++ entry.Written Chip (unit_text unit) ∷ []) (came ++ unit ∷ [])
-      comes told came unit may run = stepped (Comes unit) (between, refl, refl, may) meets refl refl refl run
+      comes told came unit may run = goes_on leads (Comes unit) (between, refl, refl, may) (meets, else_hears here (Comes unit) tt) refl refl refl run
 
-      misses : (told : List Entry) (came : List LineUnit) (text : List ℕ) (marks : List Entry) → DidNotCome marks → ChangesFrame text marks → Here told came
+      misses : (told : List Entry) (came : List LineUnit) (text : List ℕ) (marks : List Entry) → DidNotCome marks → ChangesFrame text marks → MayHear here (Misses text marks) → Here told came
           → Here (told ++ entry.Written Chip text ∷ marks) (came ++ [])
-      misses told came text marks none changes run =
+      misses told came text marks none changes hears run =
           subst (λ (l : List LineUnit). Here (told ++ entry.Written Chip text ∷ marks) l) (sym (append-nil came))
-          (stepped (Misses text marks) (between, none, refl, refl, changes) meets refl refl refl run)
+          (goes_on leads (Misses text marks) (between, none, refl, refl, changes) (meets, hears) refl refl refl run)
 
       -- ---- a unit that the chip writes
 
       abbrev By : List Entry → List LineUnit → List ℕ → LineUnit → Mark → List Item → Type 0
       By told came bytes unit mark items = Here (told ++ entry.Written Chip (unit_text unit) ∷ told_by Chip bytes mark (unit_text unit)) (came ++ good_units items)
 
-      lost_by : (told : List Entry) (came : List LineUnit) (bytes : List ℕ) (unit : LineUnit) (room : Bool) → Here told came → By told came bytes unit Lost (if room then [] else [])
-      lost_by told came bytes unit true run = misses told came (unit_text unit) (entry.Dropped Chip ∷ []) tt tt run
-      lost_by told came bytes unit false run = misses told came (unit_text unit) (entry.Dropped Chip ∷ []) tt tt run
+      lost_by : (told : List Entry) (came : List LineUnit) (bytes : List ℕ) (unit : LineUnit) (room : Bool) → MayCome here unit → Here told came
+          → By told came bytes unit Lost (if room then [] else [])
+      lost_by told came bytes unit true may run = misses told came (unit_text unit) (entry.Dropped Chip ∷ []) tt tt (missed here unit (entry.Dropped Chip ∷ []) may tt) run
+      lost_by told came bytes unit false may run = misses told came (unit_text unit) (entry.Dropped Chip ∷ []) tt tt (missed here unit (entry.Dropped Chip ∷ []) may tt) run
 
       free_by : (told : List Entry) (came : List LineUnit) (unit : LineUnit) (room : Bool) → MayCome here unit → Here told came
           → Here (told ++ entry.Written Chip (unit_text unit) ∷ (if room then [] else entry.Overrun Chip ∷ [])) (came ++ good_units (if room then Good unit ∷ [] else []))
       free_by told came unit true may run = comes told came unit may run
-      free_by told came unit false may run = misses told came (unit_text unit) (entry.Overrun Chip ∷ []) tt tt run
+      free_by told came unit false may run = misses told came (unit_text unit) (entry.Overrun Chip ∷ []) tt tt (missed here unit (entry.Overrun Chip ∷ []) may tt) run
 
       changed_none : (f : FrameParts) (refused : Item) (room same : Bool) → same ≡ false → good_units (refused ∷ []) ≡ []
           → good_units (if room then (if same then Good (Framed f) else refused) ∷ [] else []) ≡ []
@@ -170,11 +201,13 @@ module _ (start : HostMachine) (stage : Stage) (keys : Keys) (records : Option (
           let t : List ℕ = unit_text (Framed f) in
           let c : List ℕ = garbled garble t in
           subst (λ (l : List LineUnit). Here (told ++ entry.Written Chip t ∷ told_by Chip bytes (Changed garble) t) (came ++ l)) (sym (changed_none f (Refused (BadSum (wanted_sum c) (found_sum c))) (fits bytes t) (garble.xor == 0) other refl))
-          (by c (refl, garbled_answers_none garble f) (fits bytes c))
+          (by c (refl, garbled_answers_none garble f) (garbled_stays garble f) (fits bytes c))
         where
-          by : (c : List ℕ) → (is_answer (unit_text (Framed f)) ≡ false) × (is_answer c ≡ false) → (room : Bool) → Here (told ++ entry.Written Chip (unit_text (Framed f)) ∷ (entry.Garbled Chip c ∷ (if room then [] else entry.Overrun Chip ∷ []))) (came ++ [])
-          by c changes true = misses told came (unit_text (Framed f)) (entry.Garbled Chip c ∷ []) tt changes run
-          by c changes false = misses told came (unit_text (Framed f)) (entry.Garbled Chip c ∷ (entry.Overrun Chip ∷ [])) tt changes run
+          by : (c : List ℕ) → (is_answer (unit_text (Framed f)) ≡ false) × (is_answer c ≡ false) → is_data c ≡ true → (room : Bool)
+              → Here (told ++ entry.Written Chip (unit_text (Framed f)) ∷ (entry.Garbled Chip c ∷ (if room then [] else entry.Overrun Chip ∷ []))) (came ++ [])
+          by c changes stays true = misses told came (unit_text (Framed f)) (entry.Garbled Chip c ∷ []) tt changes (missed here (Framed f) (entry.Garbled Chip c ∷ []) (inl tt) stays) run
+          by c changes stays false =
+              misses told came (unit_text (Framed f)) (entry.Garbled Chip c ∷ (entry.Overrun Chip ∷ [])) tt changes (missed here (Framed f) (entry.Garbled Chip c ∷ (entry.Overrun Chip ∷ [])) (inl tt) stays) run
 
       -- by the change that waits
       change_by : (told : List Entry) (came : List LineUnit) (bytes : List ℕ) (unit : LineUnit) (garbles : List Garble) → MayCome here unit → AllChange garbles → Here told came
@@ -191,12 +224,12 @@ module _ (start : HostMachine) (stage : Stage) (keys : Keys) (records : Option (
         where
           by : (b : Bool) → By told came w.bytes unit (if b then Lost else change_for w.marks.garbles unit)
               (if fits w.bytes (unit_text unit) then (if b then [] else unit_item w.marks.garbles unit ∷ []) else [])
-          by true = lost_by told came w.bytes unit (fits w.bytes (unit_text unit)) run
+          by true = lost_by told came w.bytes unit (fits w.bytes (unit_text unit)) may run
           by false = change_by told came w.bytes unit w.marks.garbles may all run
 
       -- units one after another, among entries of others
       pub tells_run : (units : List LineUnit) (entries told : List Entry) (came : List LineUnit) (w : WayState) → AllByRecursion (MayCome here) units → AllChange w.marks.garbles
-          → Tells IsOfOthers Chip w units entries → Here told came → Here (told ++ entries) (came ++ good_units (items_all w units))
+          → Tells (MayTell here) Chip w units entries → Here told came → Here (told ++ entries) (came ++ good_units (items_all w units))
       tells_run [] entries told came w may all tells run = subst (λ (l : List LineUnit). Here (told ++ entries) l) (sym (append-nil came)) (asides_run entries told came tells run)
       tells_run (unit ∷ units) entries told came w may all (before, rest, is, asides, more) run =
           let one : List Entry = way.told Chip w unit in
@@ -216,15 +249,15 @@ module _ (start : HostMachine) (stage : Stage) (keys : Keys) (records : Option (
 abbrev pub at_time : Keys → Option (List (List ℕ)) → HostState → List LineUnit → ℕ → Time3 → HostMachine
 at_time keys records state came left time = host_machine keys records state came time.2 left (time.0 && not time.1)
 
-pub stamp_run : (start : HostMachine) (stage led : Stage) (o : OuterState) (here next : Phase) (keys : Keys) (records later_records : Option (List (List ℕ))) (state later_state : HostState)
+pub stamp_run : (Led : Stage → Phase → List Entry → HostMachine → Type 0) (leads : Leads Led) (stage led : Stage) (o : OuterState) (here next : Phase) (keys : Keys) (records later_records : Option (List (List ℕ))) (state later_state : HostState)
     (came later_came : List LineUnit) (left : ℕ) (past told : List Entry)
-    → CarefulRun start stage here past (at_time keys records state came left (time_of o))
-    → ((awaits : Bool) (all : List Entry) → (awaits ≡ true → told ≡ []) → CarefulRun start stage here all (host_machine keys records state came o.clock left awaits)
-    → CarefulRun start led next (all ++ told) (host_machine keys later_records later_state later_came o.clock left awaits))
-    → CarefulRun start led next (past ++ stamp o told) (at_time keys later_records later_state later_came left (time_of (has_entered o told)))
-stamp_run start stage led o here next keys records later_records state later_state came later_came left past [] run goes = goes (awaits_number o) past (λ awaits. refl) run
-stamp_run start stage led o here next keys records later_records state later_state came later_came left past (e ∷ told) run goes =
-    let numbered = number_run start stage keys records state left here past came o.clock (awaits_number o) run in
+    → Led stage here past (at_time keys records state came left (time_of o))
+    → ((awaits : Bool) (all : List Entry) → (awaits ≡ true → told ≡ []) → Led stage here all (host_machine keys records state came o.clock left awaits)
+    → Led led next (all ++ told) (host_machine keys later_records later_state later_came o.clock left awaits))
+    → Led led next (past ++ stamp o told) (at_time keys later_records later_state later_came left (time_of (has_entered o told)))
+stamp_run Led leads stage led o here next keys records later_records state later_state came later_came left past [] run goes = goes (awaits_number o) past (λ awaits. refl) run
+stamp_run Led leads stage led o here next keys records later_records state later_state came later_came left past (e ∷ told) run goes =
+    let numbered = number_run Led leads stage keys records state left here past came o.clock (awaits_number o) run in
     let gone = goes false (past ++ ticked_entry o) (λ (bad : false ≡ true). absurd cc) numbered in
-    subst (λ (b : Bool). CarefulRun start led next (past ++ (ticked_entry o ++ e ∷ told)) (host_machine keys later_records later_state later_came o.clock left b)) (sym (entered o.in_tick o.stamped))
-    (subst (λ (l : List Entry). CarefulRun start led next l (host_machine keys later_records later_state later_came o.clock left false)) (append_assoc past (ticked_entry o) (e ∷ told)) gone)
+    subst (λ (b : Bool). Led led next (past ++ (ticked_entry o ++ e ∷ told)) (host_machine keys later_records later_state later_came o.clock left b)) (sym (entered o.in_tick o.stamped))
+    (subst (λ (l : List Entry). Led led next l (host_machine keys later_records later_state later_came o.clock left false)) (append_assoc past (ticked_entry o) (e ∷ told)) gone)

@@ -19,10 +19,10 @@ use Rattle.proof_line.proofs.HostNotes.{NoteOuts, all_outs_note}
 use Rattle.proof_line.proofs.Holding.{NoMark}
 use Rattle.proof_alone.specs.State.{HostMachine}
 use Rattle.proof_alone.specs.Steps.{AreTold, ChangesFrame, DidNotCome, IsOfUnit, Step, Tells, Comes, Misses, Says, Says_nothing, Asks, Refuses, Shows, Restarts, Begins_tick, Numbers, Judges, Does, entries, happens}
-use Rattle.proof_alone.specs.Phases.{Phase, Asked, IsBetween, May}
+use Rattle.proof_alone.specs.Phases.{Phase, Asked, Risen, IsBetween, May}
 use Rattle.proof_alone.specs.Runs.{Run}
 use Rattle.proof_alone.specs.Runs.Run.{Begins, Stepped, Turned}
-use Rattle.proof_alone.specs.Careful.{Careful, MayMeet, RunCarefully, Stage, StepsWell, TurnsWell, stage_after, stage_of, stage_turned}
+use Rattle.proof_alone.specs.Careful.{Careful, MayHear, MayMeet, RunCarefully, Stage, StepsWell, TurnsWell, stage_after, stage_of, stage_turned}
 use Rattle.proof_alone.proofs.ReadingLines.{others_ask_nothing}
 use Rattle.proof_alone.specs.Reading.{Anything}
 use Rattle.proof_alone.specs.Words.{KnowsWords}
@@ -138,6 +138,11 @@ answers_apart h (Accepts order carriage) = tt
 answers_apart h (Cancels command) = tt
 answers_apart h event = tt
 
+-- a unit that was changed comes as it was changed to
+changed_hears : (here : Phase) (text changed : List ℕ) → MayHear here (Misses text (entry.Garbled Chip changed ∷ [])) → MayHear here (Misses changed (entry.Garbled Chip changed ∷ []))
+changed_hears Risen text changed hears = (hears.1, hears.1)
+changed_hears here text changed hears = tt
+
 -- ---- along a run
 
 module _ (start : HostMachine) where
@@ -148,8 +153,8 @@ module _ (start : HostMachine) where
     at : stage_of run ≡ stage
 
   -- what is heard by a step more
-  abbrev Goes : Type 0 → Stage → Phase → List Entry → HostMachine → Step → Type 0
-  Goes Fine stage next past m one = RunIf (Fine × StepsWell stage one) (stage_after stage one) next (heard_by_host (past ++ entries m one)) (happens m one)
+  abbrev Goes : Type 0 → Stage → (here next : Phase) → List Entry → HostMachine → Step → Type 0
+  Goes Fine stage here next past m one = RunIf (Fine × StepsWell stage here one) (stage_after stage one) next (heard_by_host (past ++ entries m one)) (happens m one)
 
   -- what is heard of entries after others
   after_it : (past told : List Entry) → NoMark told → heard_by_host (past ++ told) ≡ heard_by_host past ++ heard_from (line_last past) told
@@ -157,10 +162,10 @@ module _ (start : HostMachine) where
 
   -- the step is heard as it is
   kept : (Fine : Type 0) (stage : Stage) (here next : Phase) (past : List Entry) (m : HostMachine) (one : Step) → May here m one next → NoMark (entries m one)
-      → heard_from (line_last past) (entries m one) ≡ entries m one → RunIf Fine stage here (heard_by_host past) m → Goes Fine stage next past m one
+      → heard_from (line_last past) (entries m one) ≡ entries m one → RunIf Fine stage here (heard_by_host past) m → Goes Fine stage here next past m one
   kept Fine stage here next past m one may none heard ran = record {
     run = Stepped one may (after_it past (entries m one) none ∙ ap (λ (l : List Entry). heard_by_host past ++ l) heard) refl ran.run;
-    careful = λ both. (ran.careful both.0, subst (λ (s : Stage). StepsWell s one) (sym ran.at) both.1);
+    careful = λ both. (ran.careful both.0, subst (λ (s : Stage). StepsWell s here one) (sym ran.at) both.1);
     at = ap (λ (s : Stage). stage_after s one) ran.at;
   }
 
@@ -177,38 +182,41 @@ module _ (start : HostMachine) where
     abbrev Before : Type 0
     Before = RunIf Fine stage here (heard_by_host past) m
 
-    aside_run : (e : Entry) → May here m (Tells e) next → Before → Goes Fine stage next past m (Tells e)
-    aside_run (entry.Air frame sender receiver repeaters payload) may ran =
-        left_out Fine (Unit {0}) stage here next past (entry.Air frame sender receiver repeaters payload ∷ []) m tt refl may.3 ran
-    aside_run (entry.Heard frame) may ran = left_out Fine (Unit {0}) stage here next past (entry.Heard frame ∷ []) m tt refl may.3 ran
-    aside_run (entry.Lost frame) may ran = left_out Fine (Unit {0}) stage here next past (entry.Lost frame ∷ []) m tt refl may.3 ran
-    aside_run (entry.Unheard frame) may ran = left_out Fine (Unit {0}) stage here next past (entry.Unheard frame ∷ []) m tt refl may.3 ran
-    aside_run (entry.Dev node by setting) may ran = left_out Fine (Unit {0}) stage here next past (entry.Dev node by setting ∷ []) m tt refl may.3 ran
-    aside_run (entry.Device node setting) may ran = left_out Fine (Unit {0}) stage here next past (entry.Device node setting ∷ []) m tt refl may.3 ran
-    aside_run (entry.Forget first second) may ran = left_out Fine (Unit {0}) stage here next past (entry.Forget first second ∷ []) m tt refl may.3 ran
-    aside_run entry.ChipFull may ran = left_out Fine (Unit {0}) stage here next past (entry.ChipFull ∷ []) m tt refl may.3 ran
-    aside_run (entry.Cleared side count) may ran = left_out Fine (Unit {0}) stage here next past (entry.Cleared side count ∷ []) m tt refl may.3 ran
+    -- an entry that is not heard
+    unheard : (e : Entry) → NoMark (e ∷ []) → heard_from (line_last past) (e ∷ []) ≡ [] → next ≡ here → Before → Goes Fine stage here next past m (Tells e)
+    unheard e none heard is ran = left_out Fine (StepsWell stage here (Tells e)) stage here next past (e ∷ []) m none heard is ran
+
+    aside_run : (e : Entry) → May here m (Tells e) next → Before → Goes Fine stage here next past m (Tells e)
+    aside_run (entry.Air frame sender receiver repeaters payload) may ran = unheard (entry.Air frame sender receiver repeaters payload) tt refl may.3 ran
+    aside_run (entry.Heard frame) may ran = unheard (entry.Heard frame) tt refl may.3 ran
+    aside_run (entry.Lost frame) may ran = unheard (entry.Lost frame) tt refl may.3 ran
+    aside_run (entry.Unheard frame) may ran = unheard (entry.Unheard frame) tt refl may.3 ran
+    aside_run (entry.Dev node by setting) may ran = unheard (entry.Dev node by setting) tt refl may.3 ran
+    aside_run (entry.Device node setting) may ran = unheard (entry.Device node setting) tt refl may.3 ran
+    aside_run (entry.Forget first second) may ran = unheard (entry.Forget first second) tt refl may.3 ran
+    aside_run entry.ChipFull may ran = unheard entry.ChipFull tt refl may.3 ran
+    aside_run (entry.Cleared side count) may ran = unheard (entry.Cleared side count) tt refl may.3 ran
     aside_run e may ran = absurd may.1
 
     -- a unit that did not come
     misses_run : (text : List ℕ) (marks : List Entry) → IsBetween here → m.awaits ≡ false → next ≡ here → DidNotCome marks → ChangesFrame text marks → Before
-        → Goes Fine stage next past m (Misses text marks)
+        → Goes Fine stage here next past m (Misses text marks)
     misses_run text (entry.Dropped Chip ∷ []) between awaits is none changes ran =
-        left_out Fine (MayMeet stage) stage here next past (entry.Written Chip text ∷ entry.Dropped Chip ∷ []) m tt refl is ran
+        left_out Fine (StepsWell stage here (Misses text (entry.Dropped Chip ∷ []))) stage here next past (entry.Written Chip text ∷ entry.Dropped Chip ∷ []) m tt refl is ran
     misses_run text (entry.Overrun Chip ∷ []) between awaits is none changes ran =
-        left_out Fine (MayMeet stage) stage here next past (entry.Written Chip text ∷ entry.Overrun Chip ∷ []) m tt refl is ran
+        left_out Fine (StepsWell stage here (Misses text (entry.Overrun Chip ∷ []))) stage here next past (entry.Written Chip text ∷ entry.Overrun Chip ∷ []) m tt refl is ran
     misses_run text (entry.Garbled Chip changed ∷ []) between awaits is none changes ran = record {
       run = Stepped (Misses changed (entry.Garbled Chip changed ∷ [])) (between, tt, awaits, is, (changes.1, changes.1))
           (after_it past (entry.Written Chip text ∷ entry.Garbled Chip changed ∷ []) tt) refl ran.run;
-      careful = λ both. (ran.careful both.0, subst MayMeet (sym ran.at) both.1);
+      careful = λ both. (ran.careful both.0, (subst MayMeet (sym ran.at) both.1.0, changed_hears here text changed both.1.1));
       at = ran.at;
     }
     misses_run text (entry.Garbled Chip changed ∷ entry.Overrun Chip ∷ []) between awaits is none changes ran =
-        left_out Fine (MayMeet stage) stage here next past (entry.Written Chip text ∷ entry.Garbled Chip changed ∷ entry.Overrun Chip ∷ []) m tt refl is ran
+        left_out Fine (StepsWell stage here (Misses text (entry.Garbled Chip changed ∷ entry.Overrun Chip ∷ []))) stage here next past (entry.Written Chip text ∷ entry.Garbled Chip changed ∷ entry.Overrun Chip ∷ []) m tt refl is ran
     misses_run text marks between awaits is none changes ran = absurd none
 
     -- a refusal: that of a line of others is not heard
-    refusal_goes : (refused : Refusal) → May here m (Refuses refused) next → KnowsWords here past m → Before → Goes Fine stage next past m (Refuses refused)
+    refusal_goes : (refused : Refusal) → May here m (Refuses refused) next → KnowsWords here past m → Before → Goes Fine stage here next past m (Refuses refused)
     refusal_goes refused (line, here_is, why, awaits, next_is) words ran = by (is_of_others (line ∷ [])) refl
       where
         told : List Entry
@@ -217,18 +225,18 @@ module _ (start : HostMachine) where
         line_is : line_last past ≡ line ∷ []
         line_is = (subst (λ (q : Phase). KnowsWords q past m) here_is words).0
 
-        by : (b : Bool) → is_of_others (line ∷ []) ≡ b → Goes Fine stage next past m (Refuses refused)
+        by : (b : Bool) → is_of_others (line ∷ []) ≡ b → Goes Fine stage here next past m (Refuses refused)
         by true is =
             let heard : heard_from (line_last past) told ≡ [] = ap (λ (ls : List Line). (if is_of_others ls then [] else told) ++ []) line_is ∙ ap (λ (b : Bool). (if b then [] else told) ++ []) is in
             let there : RunIf Fine stage (Asked line) (heard_by_host past) m = subst (λ (q : Phase). RunIf Fine stage q (heard_by_host past) m) here_is ran in
             let opened : RunIf Fine stage next (heard_by_host past) m =
             record { run = Turned (inl (others_ask_nothing line is, next_is)) there.run; careful = λ fine. (there.careful fine, tt); at = there.at } in
-            left_out Fine (Unit {0}) stage next next past told m tt heard refl opened
+            left_out Fine (StepsWell stage here (Refuses refused)) stage next next past told m tt heard refl opened
         by false is =
             kept Fine stage here next past m (Refuses refused) (line, here_is, why, awaits, next_is) tt
             (ap (λ (ls : List Line). (if is_of_others ls then [] else told) ++ []) line_is ∙ ap (λ (b : Bool). (if b then [] else told) ++ []) is) ran
 
-    step_goes : (one : Step) → May here m one next → KnowsWords here past m → Before → Goes Fine stage next past m one
+    step_goes : (one : Step) → May here m one next → KnowsWords here past m → Before → Goes Fine stage here next past m one
     step_goes (Tells e) may words ran = aside_run e may ran
     step_goes (Comes unit) may words ran = kept Fine stage here next past m (Comes unit) may tt refl ran
     step_goes (Misses text marks) may words ran = misses_run text marks may.0 may.2 may.3 may.1 may.4 ran
@@ -263,8 +271,8 @@ module _ (start : HostMachine) where
       }
   hears {here = next} {m = later} (Stepped {here = here} {told = told} {m = m} step may all_is later_is run) =
       let one = step_goes (Careful run) (stage_of run) here next told m step may (words_known run) (hears run) in
-      subst (λ (l : List Entry). RunIf (Careful run × StepsWell (stage_of run) step) (stage_after (stage_of run) step) next (heard_by_host l) later) (sym all_is)
-      (subst (λ (n : HostMachine). RunIf (Careful run × StepsWell (stage_of run) step) (stage_after (stage_of run) step) next (heard_by_host (told ++ entries m step)) n) (sym later_is) one)
+      subst (λ (l : List Entry). RunIf (Careful run × StepsWell (stage_of run) here step) (stage_after (stage_of run) step) next (heard_by_host l) later) (sym all_is)
+      (subst (λ (n : HostMachine). RunIf (Careful run × StepsWell (stage_of run) here step) (stage_after (stage_of run) step) next (heard_by_host (told ++ entries m step)) n) (sym later_is) one)
 
   pub is_heard : {here : Phase} {told : List Entry} {m : HostMachine} → Run start here told m → Run start here (heard_by_host told) m
   is_heard run = (hears run).run

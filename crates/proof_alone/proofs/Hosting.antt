@@ -28,8 +28,8 @@ use Rattle.proof_line.proofs.Times.{time_of}
 use Rattle.proof_alone.specs.State.{HostMachine, host_machine}
 use Rattle.proof_alone.specs.Steps.{AreFrames, AreTold, Does, Judges, TakesItem}
 use Rattle.proof_alone.specs.Phases.{Phase, Resting, Risen, Ticking, Open, Behind, Sleeping, Submitting, GoesBy}
-use Rattle.proof_alone.specs.Careful.{CarefulRun, Fresh, Looked, MayJudge, Stage, stage_judged, stage_pumped}
-use Rattle.proof_alone.proofs.Carefully.{all_judged, may_pump, stepped, still_judges, turned}
+use Rattle.proof_alone.specs.Careful.{Fresh, Looked, MayJudge, Stage, stage_judged, stage_pumped}
+use Rattle.proof_alone.proofs.Carefully.{Leads, all_judged, else_hears, goes_on, may_pump, still_judges, turns_on}
 use Rattle.proof_alone.proofs.Coming.{at_time, stamp_run}
 use Rattle.proof_alone.proofs.Stamps.{Time3, outs_told}
 
@@ -80,7 +80,8 @@ takes : (item : Item) (items : List Item) (rest : List LineUnit) → TakesItem i
 takes (Good unit) items rest = refl
 takes (Refused refusal) items rest = refl
 
-module _ (W : Type 0) (at : W → OuterState) (put : W → List HostOut → List Entry) (next_of : W → List HostOut → W) (enters : Enters W at put next_of) (start : HostMachine) (keys : Keys) (left : ℕ) where
+module _ (W : Type 0) (at : W → OuterState) (put : W → List HostOut → List Entry) (next_of : W → List HostOut → W) (enters : Enters W at put next_of) (Led : Stage → Phase → List Entry → HostMachine → Type 0)
+    (leads : Leads Led) (keys : Keys) (left : ℕ) where
   -- what events make of it, and what is entered of them
   abbrev pub later : W → HostState → List HostEvent → W
   later w h events = next_of w (outs_all h events)
@@ -96,7 +97,7 @@ module _ (W : Type 0) (at : W → OuterState) (put : W → List HostOut → List
 
   -- a run to here, with a host, its records, what has come, and what is beside it
   abbrev pub To : Stage → Phase → List Entry → Option (List (List ℕ)) → HostState → List LineUnit → W → Type 0
-  To stage here past records h came w = CarefulRun start stage here past (at_time keys records h came left (time_of (at w)))
+  To stage here past records h came w = Led stage here past (at_time keys records h came left (time_of (at w)))
 
   -- and to what events make of it
   abbrev pub Then : Stage → Phase → List Entry → Option (List (List ℕ)) → HostState → List LineUnit → W → List HostEvent → Type 0
@@ -126,24 +127,24 @@ module _ (W : Type 0) (at : W → OuterState) (put : W → List HostOut → List
   -- what is entered of it is told, with the number of the tick where that is still to be entered
   event_run : (stage led : Stage) (here next : Phase) (past : List Entry) (records : Option (List (List ℕ))) (h : HostState) (came later_came : List LineUnit) (w : W) (event : HostEvent)
       → ((awaits : Bool) (all said : List Entry) → AreTold (outs h event) said → (awaits ≡ true → said ≡ [])
-      → CarefulRun start stage here all (host_machine keys records h came (at w).clock left awaits)
-      → CarefulRun start led next (all ++ said) (host_machine keys (kept records h (event ∷ [])) (after h event) later_came (at w).clock left awaits))
+      → Led stage here all (host_machine keys records h came (at w).clock left awaits)
+      → Led led next (all ++ said) (host_machine keys (kept records h (event ∷ [])) (after h event) later_came (at w).clock left awaits))
       → To stage here past records h came w → Then led next past records h later_came w (event ∷ [])
   event_run stage led here next past records h came later_came w event steps run =
       let got = enters.is_put (outs_all h (event ∷ [])) w in
       let are : AreTold (outs h event) got.told = subst (λ (l : List HostOut). AreTold l got.told) (append-nil (outs h event)) got.are in
       let stamped =
-      stamp_run start stage led (at w) here next keys records (kept records h (event ∷ [])) h (after h event) came later_came left past got.told run
+      stamp_run Led leads stage led (at w) here next keys records (kept records h (event ∷ [])) h (after h event) came later_came left past got.told run
       (λ awaits all numbered there. steps awaits all got.told are numbered there) in
-      subst (λ (t : Time3). CarefulRun start led next (past ++ told w h (event ∷ [])) (at_time keys (kept records h (event ∷ [])) (after h event) later_came left t)) (sym got.time)
-      (subst (λ (l : List Entry). CarefulRun start led next (past ++ l) (at_time keys (kept records h (event ∷ [])) (after h event) later_came left (time_of (has_entered (at w) got.told)))) (sym got.stamped) stamped)
+      subst (λ (t : Time3). Led led next (past ++ told w h (event ∷ [])) (at_time keys (kept records h (event ∷ [])) (after h event) later_came left t)) (sym got.time)
+      (subst (λ (l : List Entry). Led led next (past ++ l) (at_time keys (kept records h (event ∷ [])) (after h event) later_came left (time_of (has_entered (at w) got.told)))) (sym got.stamped) stamped)
 
   -- one that comes here
   pub does_run : (stage : Stage) (here next : Phase) (past : List Entry) (records : Option (List (List ℕ))) (h : HostState) (came : List LineUnit) (w : W) (event : HostEvent)
       → GoesBy here h event next → MayAll h (event ∷ []) → To stage here past records h came w → Then stage next past records h came w (event ∷ [])
   does_run stage here next past records h came w event goes may run =
       event_run stage stage here next past records h came came w event
-      (λ awaits all said are numbered there. stepped (Does event said) (goes, may, are, numbered) tt refl refl refl there) run
+      (λ awaits all said are numbered there. goes_on leads (Does event said) (goes, may, are, numbered) (tt, else_hears here (Does event said) tt) refl refl refl there) run
 
   -- those of a part, one after another
   part_run : (stage : Stage) (part : List HostEvent → Phase) → ((first : HostEvent) (more : List HostEvent) (g : HostState) → GoesBy (part (first ∷ more)) g first (part more))
@@ -161,11 +162,11 @@ module _ (W : Type 0) (at : W → OuterState) (put : W → List HostOut → List
   pub tick_run : (past : List Entry) (records : Option (List (List ℕ))) (h : HostState) (came : List LineUnit) (w : W) → MayAll h (tick_events h)
       → To Fresh Risen past records h came w → Then Fresh Open past records h came w (tick_events h)
   tick_run past records h came w may run =
-      turned refl tt refl (part_run Fresh Ticking (λ first more g. (refl, refl)) (tick_events h) past records h came w may (turned refl tt refl run))
+      turns_on leads refl tt refl (part_run Fresh Ticking (λ first more g. (refl, refl)) (tick_events h) past records h came w may (turns_on leads refl tt refl run))
 
   lets_run : (stage : Stage) (events : List HostEvent) (past : List Entry) (records : Option (List (List ℕ))) (h : HostState) (came : List LineUnit) (w : W) → AreFrames came → LetsSleep h events
       → MayAll h events → To stage Sleeping past records h came w → Then stage Submitting past records h came w events
-  lets_run stage [] past records h came w frames lets may run = turned (lets, refl, frames) tt refl (then_none stage Sleeping past records h came w run)
+  lets_run stage [] past records h came w frames lets may run = turns_on leads (lets, refl, frames) tt refl (then_none stage Sleeping past records h came w run)
   lets_run stage (event ∷ events) past records h came w frames (node, wants, is, more) may run =
       let one = does_run stage Sleeping Sleeping past records h came w event (node, wants, is, refl) (may.0, tt, may.2) run in
       then_both stage Submitting past records h came w (event ∷ []) events
@@ -173,7 +174,7 @@ module _ (W : Type 0) (at : W → OuterState) (put : W → List HostOut → List
 
   submits_run : (stage : Stage) (events : List HostEvent) (past : List Entry) (records : Option (List (List ℕ))) (h : HostState) (came : List LineUnit) (w : W) → Submits h events → MayAll h events
       → To stage Submitting past records h came w → Then stage Resting past records h came w events
-  submits_run stage [] past records h came w pumped may run = turned (pumped, refl) tt refl (then_none stage Submitting past records h came w run)
+  submits_run stage [] past records h came w pumped may run = turns_on leads (pumped, refl) tt refl (then_none stage Submitting past records h came w run)
   submits_run stage (event ∷ events) past records h came w (is, more) may run =
       let one = does_run stage Submitting Submitting past records h came w event (is, refl) (may.0, tt, may.2) run in
       then_both stage Resting past records h came w (event ∷ []) events
@@ -188,7 +189,7 @@ module _ (W : Type 0) (at : W → OuterState) (put : W → List HostOut → List
       subst (λ (l : List HostEvent). Then pumped Resting past records h [] w l) (sym are)
       (then_both pumped Resting past records h [] w first more
       (submits_run pumped more (past ++ told w h first) (kept records h first) (after_all h first) [] (later w h first) submits (may_rest h first more both)
-      (lets_run pumped first past records h [] w tt lets (may_first h first more both) (turned refl (may_pump stage [] refl, tt) refl run))))
+      (lets_run pumped first past records h [] w tt lets (may_first h first more both) (turns_on leads refl (may_pump stage [] refl, tt) refl run))))
 
   -- a tick, and the pump that follows
   pub tick_and_pump : (pumped : List HostEvent) (past : List Entry) (records : Option (List (List ℕ))) (h : HostState) (w : W) → Pumps (after_all h (tick_events h)) pumped
@@ -211,14 +212,14 @@ module _ (W : Type 0) (at : W → OuterState) (put : W → List HostOut → List
       let one =
       event_run stage (stage_judged stage) Open (Behind behind) past records h (good_units (item ∷ items) ++ rest) came w (Hears item)
       (λ awaits all said are numbered there.
-      stepped (Judges item came behind said)
+      goes_on leads (Judges item came behind said)
       (refl, record { takes = takes item items rest; may = first; followed = followed; told_so = are; numbered = numbered }, refl)
-      judging refl refl refl there)
+      (judging, tt) refl refl refl there)
       run in
       let all =
       part_run (stage_judged stage) Behind (λ first more g. (refl, refl)) behind (past ++ told w h (Hears item ∷ [])) (kept records h (Hears item ∷ [])) (after h (Hears item)) came
       (later w h (Hears item ∷ [])) (may_rest h (Hears item ∷ []) behind may) one in
-      turned refl tt refl (then_both (stage_judged stage) (Behind []) past records h came w (Hears item ∷ []) behind all)
+      turns_on leads refl tt refl (then_both (stage_judged stage) (Behind []) past records h came w (Hears item ∷ []) behind all)
 
   pub items_run : (stage : Stage) (items : List Item) (events : List HostEvent) (past : List Entry) (records : Option (List (List ℕ))) (h : HostState) (rest : List LineUnit) (w : W) → MayJudge stage
       → AreJudged h items events → MayAll h events → To stage Open past records h (good_units items ++ rest) w → Then (all_judged stage items) Open past records h rest w events

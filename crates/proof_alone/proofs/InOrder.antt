@@ -9,14 +9,14 @@ use Rattle.host_orders.specs.declared.refused.Refused.{Refused}
 use Rattle.host_orders.specs.declared.refused.Refused.TheVariants.{NotJoined}
 use Rattle.host_orders.specs.Refusals.{classes_of}
 use Rattle.proof_line.specs.host_model.State.{HostState, node_of}
-use Rattle.proof_line.specs.host_model.Events.{HostEvent, Accepts, Cancels, Joins, Queues_probe, Hears, Queues, Queues_interview, Requests_do}
+use Rattle.proof_line.specs.host_model.Events.{HostEvent, Accepts, Cancels, Joins, Queues_probe, Hears, Queues, Queues_interview, Requests_do, IsOwn}
 use Rattle.proof_line.specs.host_model.After.{after}
 use Rattle.proof_line.specs.host_model.May.{known_of}
 use Rattle.proof_line.specs.host_model.Asking.{places_refusal}
 use Rattle.proof_line.specs.host_model.Outs.{answers, outs}
 use Rattle.proof_line.specs.host_model.Taking.{AreJudged, IsFollowed}
 use Rattle.proof_line.specs.host_model.Ticking.{tick_events}
-use Rattle.proof_line.proofs.Own.{IsOwn, tick_own}
+use Rattle.proof_line.proofs.Own.{tick_own}
 use Rattle.proof_line.proofs.Submitted.{SleepersAre, SubmittedAre, next_is as submitted_is, no_more_is}
 use Rattle.proof_line.proofs.Silence.{judged_silent, tick_silent}
 use Rattle.proof_line.specs.Lines.{AsksNothing}

@@ -35,3 +35,4 @@ pub use Rattle.proof_line.proofs.CourseSteps
 pub use Rattle.proof_line.proofs.ArrivedFrames
 pub use Rattle.proof_line.proofs.Arrivals
 pub use Rattle.proof_line.proofs.Lists
+pub use Rattle.proof_line.proofs.Hosting as proof_line_Hosting

@@ -29,9 +29,8 @@ use Rattle.host_node.specs.TableState.{node_of, unknown_from, unknown_nodes, wit
 use Rattle.proof_line.specs.host_model.State.{HostState, first_classes, first_host, first_nodes}
 use Rattle.proof_line.specs.host_model.Holding.{listens_said}
 use Rattle.proof_line.specs.host_model.After.{after, finishing, giving, holding, is_full, is_held, node_for, offering}
-use Rattle.proof_line.specs.host_model.Events.{HostEvent, Accepts, Cancels, Joins, Interviews, Finishes, Gives, Spends, Spends_unread, Takes_nonce, Begins}
+use Rattle.proof_line.specs.host_model.Events.{HostEvent, Accepts, Cancels, Joins, Interviews, Finishes, Gives, Spends, Spends_unread, Takes_nonce, Begins, IsOwn}
 use Rattle.proof_line.specs.host_model.Outs.{answers, outs}
-use Rattle.proof_line.proofs.Own.{IsOwn}
 use Rattle.proof_line.specs.world_model.State.{with_texts}
 use Rattle.proof_line.specs.Restarts.{AreHeld, IsHeld}
 use Rattle.proof_line.proofs.HostOuts.{OwnIs, SharedAre, outs_are}

@@ -25,8 +25,8 @@ use Rattle.proof_line.specs.mesh_sim.Steps as mesh
 use Rattle.proof_line.specs.outside_model.State.{OuterState, Outside, outside, each, with_chip}
 use Rattle.proof_line.specs.outside_model.Chip.{chip_does, put_out}
 use Rattle.proof_line.specs.outside_model.Devices.{acts_at}
-use Rattle.proof_line.specs.outside_model.Events.{OuterEvent, Begins_line, Begins_tick, Host_writes, Host_takes, Host_notes, Chip_takes, Arrives, Gives, Device_ticks, Chip_ticks, Repeats, Shows, Joins, Discovers, Links, Loses, Loses_acks, Marks_loss, Marks_change, Clears_pipe, Collides_next, Stalls, Cuts, May, is_own, mesh_of, outcome, stamp, steps, ticked_entry, way_of}
-use Rattle.proof_line.proofs.Entered.{IsCleared, IsMark, all_cleared, told_by_marks}
+use Rattle.proof_line.specs.outside_model.Events.{OuterEvent, Begins_line, Begins_tick, Host_writes, Host_takes, Host_notes, Chip_takes, Arrives, Gives, Device_ticks, Chip_ticks, Repeats, Shows, Joins, Discovers, Links, Loses, Loses_acks, Marks_loss, Marks_change, Clears_pipe, Collides_next, Stalls, Cuts, May, is_own, mesh_of, outcome, stamp, steps, ticked_entry, way_of, IsCleared}
+use Rattle.proof_line.proofs.Entered.{IsMark, all_cleared, told_by_marks}
 use Rattle.proof_line.proofs.Lists.{each-anywhere}
 use Rattle.proof_line.specs.proof_serial.Chip.{HasFrames}
 use Rattle.proof_line.specs.proof_serial.Way.{written_all}
@@ -40,6 +40,7 @@ use Rattle.proof_line.proofs.Holding.{TellsNothing}
 use Rattle.proof_line.proofs.Tellings.{IsBeside, Tells, answers_all, tells_weaker}
 use Rattle.proof_line.proofs.ChipTelling.{IsArriving, arriving_tells, line_tells, takes_tell, tick_tells}
 use Rattle.proof_alone.specs.Steps.{AreFrames, IsOfOthers}
+use Rattle.proof_alone.specs.Careful.{IsNoDevice}
 
 -- ---- what may be entered there
 
@@ -92,15 +93,19 @@ air_aside (entry.Dev node by setting) of_air = tt
 air_aside (entry.Forget first second) of_air = tt
 air_aside e of_air = absurd of_air
 
+-- of others, and no device is shown
+abbrev pub IsAside : Entry → Type 0
+IsAside e = IsOfOthers e × IsNoDevice e
+
 -- what tells nothing of the pipes, and no session begins
-aside_of : (e : Entry) → TellsNothing e → IsOther e → IsOutside e → IsOfOthers e
-aside_of (entry.Air frame sender receiver repeaters payload) nothing other out = tt
-aside_of (entry.Heard frame) nothing other out = tt
-aside_of (entry.Lost frame) nothing other out = tt
-aside_of (entry.Unheard frame) nothing other out = tt
-aside_of (entry.Dev node by setting) nothing other out = tt
-aside_of (entry.Forget first second) nothing other out = tt
-aside_of entry.ChipFull nothing other out = tt
+aside_of : (e : Entry) → TellsNothing e → IsOther e → IsOutside e → IsAside e
+aside_of (entry.Air frame sender receiver repeaters payload) nothing other out = (tt, tt)
+aside_of (entry.Heard frame) nothing other out = (tt, tt)
+aside_of (entry.Lost frame) nothing other out = (tt, tt)
+aside_of (entry.Unheard frame) nothing other out = (tt, tt)
+aside_of (entry.Dev node by setting) nothing other out = (tt, tt)
+aside_of (entry.Forget first second) nothing other out = (tt, tt)
+aside_of entry.ChipFull nothing other out = (tt, tt)
 aside_of (entry.Written side unit) nothing other out = absurd nothing
 aside_of (entry.Dropped side) nothing other out = absurd nothing
 aside_of (entry.Garbled side unit) nothing other out = absurd nothing
@@ -110,12 +115,12 @@ aside_of (entry.Time tick) nothing other out = absurd nothing
 aside_of (entry.Begin node session command) nothing other out = absurd out
 aside_of e nothing other out = absurd other
 
-all_aside : (told : List Entry) → AllByRecursion TellsNothing told → AreOther told → AreOutside told → AllByRecursion IsOfOthers told
+all_aside : (told : List Entry) → AllByRecursion TellsNothing told → AreOther told → AreOutside told → AllByRecursion IsAside told
 all_aside [] nothing others outs = tt
 all_aside (e ∷ told) nothing others outs = (aside_of e nothing.0 others.0 outs.0, all_aside told nothing.1 others.1 outs.1)
 
 -- units, among such entries
-strictly : (way : WayState) (units : List LineUnit) (told_all : List Entry) → Tells TellsNothing by_chip way units told_all → AreOther told_all → AreOutside told_all → Tells IsOfOthers by_chip way units told_all
+strictly : (way : WayState) (units : List LineUnit) (told_all : List Entry) → Tells TellsNothing by_chip way units told_all → AreOther told_all → AreOutside told_all → Tells IsAside by_chip way units told_all
 strictly way [] told_all tells others outs = all_aside told_all tells others outs
 strictly way (unit ∷ units) told_all (before, rest, is, nothing, more) others outs =
     let o = subst AreOther is others in
@@ -239,16 +244,16 @@ own_other w event own = unstamped (outcome w event).outer (outcome w event).entr
 
 -- ---- what is told of an event
 
--- units of the chip among entries of others; they fit where all that the chip then has does
-pub record ToldOutside (w : Outside) (event : OuterEvent) : Type 0 where
+-- units of the chip among such entries; they fit where all that the chip then has does
+pub record ToldOutside (Such : Entry → Type 0) (w : Outside) (event : OuterEvent) : Type 0 where
   pub units : List LineUnit
-  pub told : Tells IsOfOthers by_chip w.outer.to_host units (outcome w event).entries
+  pub told : Tells Such by_chip w.outer.to_host units (outcome w event).entries
   pub to_host : (outcome w event).outer.to_host.bytes ≡ (written_all w.outer.to_host units).bytes
   pub fit : HasFrames (outcome w event).outer.chip.state.port → AllByRecursion IsUnit units
 
 -- all of them frames
 pub record ToldFrames (w : Outside) (event : OuterEvent) : Type 0 where
-  pub all : ToldOutside w event
+  pub all : ToldOutside IsAside w event
   pub framed : AreFrames all.units
 
 unanswering : (units : List LineUnit) → answers_all units ≡ 0 → AreFrames units
@@ -292,7 +297,7 @@ unfolding May
 judges w count rest ways may = may.judges
 
 pub takes_told : (w : Outside) (count : ℕ) (rest : Rest) (ways : List (Item × Option Route)) → HasFrames w.outer.chip.state.port → May w (Chip_takes count rest ways)
-    → ToldOutside w (Chip_takes count rest ways)
+    → ToldOutside IsAside w (Chip_takes count rest ways)
 takes_told w count rest ways has may =
     let event : OuterEvent = Chip_takes count rest ways in
     let got = takes_tell w count rest ways has (judges w count rest ways may) in

@@ -26,17 +26,17 @@ use Rattle.proof_line.proofs.Events.{event_after}
 use Rattle.proof_line.proofs.Outer.{entered_still}
 use Rattle.proof_line.proofs.Ways.{carries_all}
 use Rattle.proof_line.proofs.Times.{IsWithin, outcome_time}
-use Rattle.proof_line.proofs.Tellings.{Tells, tells_none}
+use Rattle.proof_line.proofs.Tellings.{Tells, tells_none, tells_weaker}
 use Rattle.proof_alone.specs.State.{HostMachine, host_machine}
 use Rattle.proof_alone.specs.Steps as step
 use Rattle.proof_alone.specs.Steps.{AreFrames, IsFramed, IsOfOthers}
 use Rattle.proof_alone.specs.Phases.{GoesBy, IsBetween, MayCome, Open, Phase, Resting, Risen}
 use Rattle.proof_alone.specs.Reading.{IsFine, Reads, ReadsWith, read_of}
 use Rattle.proof_alone.specs.Careful.{CarefulRun, Fresh, MayJudge, MayMeet, Stage}
-use Rattle.proof_alone.proofs.Carefully.{all_judged, stepped}
-use Rattle.proof_alone.proofs.Coming.{AllChange, asides_run, at_time, framed_items, good_both, stamp_run, tells_run}
+use Rattle.proof_alone.proofs.Carefully.{all_judged, careful_leads, stepped}
+use Rattle.proof_alone.proofs.Coming.{AllChange, MayTell, any_told, asides_run, at_time, framed_items, good_both, stamp_run, tells_run}
 use Rattle.proof_alone.proofs.Hosting.{does_run, items_run, outside_at, outside_enters, outside_next, outside_put}
-use Rattle.proof_alone.proofs.Others.{ToldFrames, ToldOutside}
+use Rattle.proof_alone.proofs.Others.{IsAside, ToldFrames, ToldOutside}
 use Rattle.proof_alone.proofs.Stamps.{Time3, outs_told, same_entered, same_stamp}
 
 -- the way to the host is as it was
@@ -57,6 +57,14 @@ any_come : (units : List LineUnit) → AllByRecursion (MayCome Open) units
 any_come [] = tt
 any_come (unit ∷ units) = (inr refl, any_come units)
 
+-- and entries of others wherever they may, but for those of a device that is shown
+aside_told : (here : Phase) (e : Entry) → IsAside e → MayTell here e
+aside_told Risen e aside = aside
+aside_told here e aside = (aside.0, tt)
+
+may_tell : (here : Phase) (way : WayState) (units : List LineUnit) (entries : List Entry) → Tells IsAside Chip way units entries → Tells (MayTell here) Chip way units entries
+may_tell here way units entries tells = tells_weaker IsAside (MayTell here) (aside_told here) Chip way units entries tells
+
 -- all that came was judged
 abbrev pub NoneCame : List LineUnit → Type 0
 NoneCame came = came ≡ []
@@ -70,21 +78,21 @@ module _ (start : HostMachine) (stage : Stage) where
   -- ---- outside the host
 
   -- what is known of its entries is enough to run on with them, where no number is to be entered
-  pub outer_reads : (Only Later : List LineUnit → Type 0) (here : Phase) (left : ℕ) (past : List Entry) (m : Machine) (event : OuterEvent) → IsBetween here → IsWithin event
-      → May m (Outside_does event) → IsFine m (Outside_does event) → (reads : ReadsWith Only start stage here left past m) (tells : ToldOutside m.outside event)
+  pub outer_reads : (Such : Entry → Type 0) (Only Later : List LineUnit → Type 0) (here : Phase) (left : ℕ) (past : List Entry) (m : Machine) (event : OuterEvent) → IsBetween here → IsWithin event
+      → May m (Outside_does event) → IsFine m (Outside_does event) → (reads : ReadsWith Only start stage here left past m) (tells : ToldOutside Such m.outside event)
       → ((came : List LineUnit) → Only came → Later (came ++ good_units (items_all m.outside.outer.to_host tells.units)))
       → ((all : List Entry) → CarefulRun start stage here all (host_machine m.keys m.records m.host.state (good_units reads.down) m.outside.outer.clock left false)
       → CarefulRun start stage here (all ++ (outcome m.outside event).entries)
       (host_machine m.keys m.records m.host.state (good_units reads.down ++ good_units (items_all m.outside.outer.to_host tells.units)) m.outside.outer.clock left false))
       → ReadsWith Later start stage here left (past ++ entries m (Outside_does event)) (happens m (Outside_does event))
   unfolding happens entries
-  outer_reads Only Later here left past m event between within may fine reads tells grows runs =
+  outer_reads Such Only Later here left past m event between within may fine reads tells grows runs =
       let after : LineAfter m (Outside_does event) reads.up reads.down = event_after m (Outside_does event) reads.up reads.down reads.carried reads.frames may fine.0 fine.1 in
       let still = entered_still x.outer said in
       let fit = tells.fit (subst (λ (c : ChipParts). HasFrames c.state.port) still.chip after.frames) in
       let bytes : (has_entered x.outer said).to_host.bytes ≡ (written_all o.to_host tells.units).bytes = ap (λ (y : WayState). y.bytes) still.to_host ∙ tells.to_host in
       let same = outcome_time m.outside event within in
-      let ran = stamp_run start stage stage o here here m.keys m.records m.records m.host.state m.host.state came (came ++ good_units more) left past said reads.run goes in
+      let ran = stamp_run (CarefulRun start) (careful_leads start) stage stage o here here m.keys m.records m.records m.host.state m.host.state came (came ++ good_units more) left past said reads.run goes in
       record {
         up = after.up_after;
         down = reads.down ++ more;
@@ -119,7 +127,7 @@ module _ (start : HostMachine) (stage : Stage) where
       none : (all : List Entry) → said ≡ [] → CarefulRun start stage here all (host_machine m.keys m.records m.host.state came o.clock left true)
           → CarefulRun start stage here (all ++ said) (host_machine m.keys m.records m.host.state (came ++ good_units more) o.clock left true)
       none all is run =
-          let no_units : tells.units ≡ [] = tells_none IsOfOthers Chip o.to_host tells.units (subst (λ (l : List Entry). Tells IsOfOthers Chip o.to_host tells.units l) is tells.told) in
+          let no_units : tells.units ≡ [] = tells_none Such Chip o.to_host tells.units (subst (λ (l : List Entry). Tells Such Chip o.to_host tells.units l) is tells.told) in
           let no_more : came ++ good_units more ≡ came = ap (λ (l : List LineUnit). came ++ good_units (items_all o.to_host l)) no_units ∙ append-nil came in
           subst (λ (l : List LineUnit). CarefulRun start stage here (all ++ said) (host_machine m.keys m.records m.host.state l o.clock left true)) (sym no_more)
           (subst (λ (l : List Entry). CarefulRun start stage here l (host_machine m.keys m.records m.host.state came o.clock left true)) (sym (ap (λ (l : List Entry). all ++ l) is ∙ append-nil all)) run)
@@ -134,33 +142,35 @@ module _ (start : HostMachine) (stage : Stage) where
       → AllChange m.outside.outer.to_host.marks.garbles → ToldFrames m.outside event → Reads start stage here left past m
       → Reads start stage here left (past ++ entries m (Outside_does event)) (happens m (Outside_does event))
   told_reads meets here left past m event between within may fine changes tells reads =
-      outer_reads AreFrames AreFrames here left past m event between within may fine reads tells.all
+      outer_reads IsAside AreFrames AreFrames here left past m event between within may fine reads tells.all
       (λ came all. all-append IsFramed came (good_units (items_all m.outside.outer.to_host tells.all.units)) all (framed_items m.outside.outer.to_host tells.all.units tells.framed))
       (λ all run.
-      tells_run start stage m.keys m.records m.host.state left here between m.outside.outer.clock meets tells.all.units (outcome m.outside event).entries all (good_units reads.down) m.outside.outer.to_host
-      (all-weaker IsFramed (MayCome here) (λ unit framed. inl framed) tells.all.units tells.framed) changes tells.all.told run)
+      tells_run (CarefulRun start) (careful_leads start) stage m.keys m.records m.host.state left here between m.outside.outer.clock meets tells.all.units (outcome m.outside event).entries all (good_units reads.down) m.outside.outer.to_host
+      (all-weaker IsFramed (MayCome here) (λ unit framed. inl framed) tells.all.units tells.framed) changes
+      (may_tell here m.outside.outer.to_host tells.all.units (outcome m.outside event).entries tells.all.told) run)
 
   -- any units of it, where they may be judged
   pub answered_reads : MayMeet stage → (Later : List LineUnit → Type 0) (left : ℕ) (past : List Entry) (m : Machine) (event : OuterEvent) → IsWithin event → May m (Outside_does event) → IsFine m (Outside_does event)
-      → AllChange m.outside.outer.to_host.marks.garbles → ToldOutside m.outside event → ((came : List LineUnit) → Later came) → Reads start stage Open left past m
+      → AllChange m.outside.outer.to_host.marks.garbles → ToldOutside IsAside m.outside event → ((came : List LineUnit) → Later came) → Reads start stage Open left past m
       → ReadsWith Later start stage Open left (past ++ entries m (Outside_does event)) (happens m (Outside_does event))
   answered_reads meets Later left past m event within may fine changes tells later reads =
-      outer_reads AreFrames Later Open left past m event tt within may fine reads tells (λ came all. later (came ++ good_units (items_all m.outside.outer.to_host tells.units)))
+      outer_reads IsAside AreFrames Later Open left past m event tt within may fine reads tells (λ came all. later (came ++ good_units (items_all m.outside.outer.to_host tells.units)))
       (λ all run.
-      tells_run start stage m.keys m.records m.host.state left Open tt m.outside.outer.clock meets tells.units (outcome m.outside event).entries all (good_units reads.down) m.outside.outer.to_host (any_come tells.units) changes
-      tells.told run)
+      tells_run (CarefulRun start) (careful_leads start) stage m.keys m.records m.host.state left Open tt m.outside.outer.clock meets tells.units (outcome m.outside event).entries all (good_units reads.down) m.outside.outer.to_host (any_come tells.units) changes
+      (may_tell Open m.outside.outer.to_host tells.units (outcome m.outside event).entries tells.told) run)
 
-  -- entries of others alone
-  pub quiet_reads : (here : Phase) (left : ℕ) (past : List Entry) (m : Machine) (event : OuterEvent) → IsBetween here → IsWithin event → May m (Outside_does event) → IsFine m (Outside_does event)
-      → AllByRecursion IsOfOthers (outcome m.outside event).entries → (outcome m.outside event).outer.to_host.bytes ≡ m.outside.outer.to_host.bytes → Reads start stage here left past m
-      → Reads start stage here left (past ++ entries m (Outside_does event)) (happens m (Outside_does event))
-  quiet_reads here left past m event between within may fine asides bytes reads =
-      outer_reads AreFrames AreFrames here left past m event between within may fine reads (record { units = []; told = asides; to_host = bytes; fit = λ has. tt })
+  -- entries of others alone, any where items are judged
+  pub quiet_reads : (left : ℕ) (past : List Entry) (m : Machine) (event : OuterEvent) → IsWithin event → May m (Outside_does event) → IsFine m (Outside_does event)
+      → AllByRecursion IsOfOthers (outcome m.outside event).entries → (outcome m.outside event).outer.to_host.bytes ≡ m.outside.outer.to_host.bytes → Reads start stage Open left past m
+      → Reads start stage Open left (past ++ entries m (Outside_does event)) (happens m (Outside_does event))
+  quiet_reads left past m event within may fine asides bytes reads =
+      outer_reads IsOfOthers AreFrames AreFrames Open left past m event tt within may fine reads (record { units = []; told = asides; to_host = bytes; fit = λ has. tt })
       (λ came all. subst AreFrames (sym (append-nil came)) all)
       (λ all run.
-      subst (λ (l : List LineUnit). CarefulRun start stage here (all ++ (outcome m.outside event).entries) (host_machine m.keys m.records m.host.state l m.outside.outer.clock left false))
+      subst (λ (l : List LineUnit). CarefulRun start stage Open (all ++ (outcome m.outside event).entries) (host_machine m.keys m.records m.host.state l m.outside.outer.clock left false))
       (sym (append-nil (good_units reads.down)))
-      (asides_run start stage m.keys m.records m.host.state left here between m.outside.outer.clock (outcome m.outside event).entries all (good_units reads.down) asides run))
+      (asides_run (CarefulRun start) (careful_leads start) stage m.keys m.records m.host.state left Open tt m.outside.outer.clock (outcome m.outside event).entries all (good_units reads.down)
+      (any_told (outcome m.outside event).entries asides) run))
 
   -- a tick begins
   pub tick_reads : (left : ℕ) (past : List Entry) (m : Machine) → May m (Outside_does Begins_tick) → IsFine m (Outside_does Begins_tick) → Reads start stage Resting (suc left) past m
@@ -175,7 +185,7 @@ module _ (start : HostMachine) (stage : Stage) where
         frames = after.frames;
         rests = reads.rests;
         only = reads.only;
-        run = stepped (step.Begins_tick left) (refl, refl, refl) tt refl refl refl reads.run;
+        run = stepped (step.Begins_tick left) (refl, refl, refl) (tt, tt) refl refl refl reads.run;
       }
 
   -- ---- the host
@@ -197,7 +207,7 @@ module _ (start : HostMachine) (stage : Stage) where
       let after : LineAfter m (Host_does event) reads.up reads.down = event_after m (Host_does event) reads.up reads.down reads.carried reads.frames may fine.0 fine.1 in
       let same = silent_happens m event none in
       let n : Machine = happens m (Host_does event) in
-      let ran = does_run Outside outside_at outside_put outside_next outside_enters start m.keys left stage here next past m.records m.host.state (good_units reads.down) m.outside event goes (may_one m event may) reads.run in
+      let ran = does_run Outside outside_at outside_put outside_next outside_enters (CarefulRun start) (careful_leads start) m.keys left stage here next past m.records m.host.state (good_units reads.down) m.outside event goes (may_one m event may) reads.run in
       record {
         up = after.up_after;
         down = reads.down;
@@ -231,7 +241,7 @@ module _ (start : HostMachine) (stage : Stage) where
         frames = after.frames;
         rests = all.rest;
         only = ap good_units (none_left items after.down_after (all.all ∙ after.down_is));
-        run = items_run Outside outside_at outside_put outside_next outside_enters start m.keys left stage items events past m.records m.host.state (good_units after.down_after)
+        run = items_run Outside outside_at outside_put outside_next outside_enters (CarefulRun start) (careful_leads start) m.keys left stage items events past m.records m.host.state (good_units after.down_after)
             (fed m count rest).outside judging may.judged may.may
             (subst (λ (l : List LineUnit). CarefulRun start stage Open past (read_of left m l)) came reads.run);
       }

@@ -21,7 +21,7 @@ use Rattle.air_frames.specs.declared.ages.Refusal.{Refusal as RepeatRefusal}
 use Rattle.air_frames.specs.declared.ages.Refusal.TheVariants.{NeverSent, Forgotten, Stale}
 use Rattle.law_host.specs.device_sim.State.{State}
 use Rattle.law_host.specs.device_sim.Event.{DeviceEvent, Sets, Wakes}
-use Rattle.device_stack.specs.Showing.{shown_of}
+use Rattle.law_host.specs.device_stack.Showing.{shown_of}
 use Rattle.proof_line.specs.mesh_sim.Fates.{place_of}
 use Rattle.proof_line.specs.mesh_sim.Steps as mesh
 use Rattle.s0_crypto.specs.declared.key_pair.Keys.{Keys}
@@ -38,7 +38,7 @@ use Rattle.proof_line.specs.host_model.May.{known_of}
 use Rattle.proof_line.specs.host_model.Outs.{answers}
 use Rattle.proof_line.specs.outside_model.State.{OuterState, Outside, Outcome, tells}
 use Rattle.proof_line.specs.outside_model.Devices.{acts_at, acts_by_hand, shown_entries}
-use Rattle.proof_line.specs.outside_model.Events.{OuterEvent, Clears_pipe, Collides_next, Cuts, Discovers, Joins, Links, Loses, Loses_acks, Marks_change, Marks_loss, Repeats, Sets_device, Shows, Stalls, Wakes_device, MayRepeat, cleared_entries, devices_after, has_entered, outcome, repeats, stamp}
+use Rattle.proof_line.specs.outside_model.Events.{OuterEvent, Clears_pipe, Collides_next, Cuts, Discovers, Joins, Links, Loses, Loses_acks, Marks_change, Marks_loss, Repeats, Sets_device, Shows, Stalls, Wakes_device, MayRepeat, cleared_entries, devices_after, has_entered, outcome, repeats, stamp, IsCleared}
 use Rattle.proof_line.specs.outside_model.Events.{May as MayOutside}
 use Rattle.proof_line.specs.outside_model.Events as outer
 use Rattle.proof_line.specs.outside_model.Results.{device_at}
@@ -46,7 +46,7 @@ use Rattle.proof_line.specs.world_model.State.{Machine}
 use Rattle.proof_line.specs.world_model.Refusals.{IsRefused}
 use Rattle.proof_line.specs.world_model.Events.{Event, Host_does, Outside_does, Refuses, Restarts, Shows_values, May, entries, happens, shown_values}
 use Rattle.proof_line.specs.world_model.Lines.{Asks, IsDone, IsEffect, restart_events}
-use Rattle.proof_line.proofs.Entered.{IsCleared, all_cleared}
+use Rattle.proof_line.proofs.Entered.{all_cleared}
 use Rattle.proof_line.specs.proof_serial.Line.{LineAfter}
 use Rattle.proof_line.specs.proof_serial.Units.{good_units}
 use Rattle.proof_line.proofs.Events.{event_after}
@@ -60,8 +60,8 @@ use Rattle.proof_alone.specs.Phases.{Asked, Open}
 use Rattle.proof_alone.specs.Reading.{EffectReads, IsByHand, IsFine, IsSilent, LeavesHost, Reads, ReadsCleared, read_of}
 use Rattle.proof_alone.specs.Reading.EffectReads.{Asks_host, Refuses_line, Shows_node, Starts_again, Does_silently, Does_by_hand, Begins_discovery, Goes_on_asking, Clears_both, Clears_one, Is_done}
 use Rattle.proof_alone.specs.Careful.{CarefulRun, Fresh}
-use Rattle.proof_alone.proofs.Carefully.{stepped, turned}
-use Rattle.proof_alone.proofs.Coming.{AllChange, asides_run, at_time, stamp_run}
+use Rattle.proof_alone.proofs.Carefully.{careful_leads, stepped, turned}
+use Rattle.proof_alone.proofs.Coming.{AllChange, any_told, asides_run, at_time, stamp_run}
 use Rattle.proof_alone.proofs.Hosting.{kept}
 use Rattle.proof_alone.proofs.InOrder.{is_asked}
 use Rattle.proof_alone.proofs.Others.{acts_aside, repeats_told}
@@ -198,7 +198,7 @@ module _ (start : HostMachine) where
   silent_reads : (past : List Entry) (m : Machine) (event : OuterEvent) → IsSilent event → May m (Outside_does event) → IsFine m (Outside_does event) → Reads start Fresh Open 0 past m
       → Reads start Fresh Open 0 (past ++ entries m (Outside_does event)) (happens m (Outside_does event))
   silent_reads past m event silent may fine reads =
-      quiet_reads start Fresh Open 0 past m event tt (silent_within event silent) may fine (silent_entries m.outside event silent) (silent_bytes m.outside event silent) reads
+      quiet_reads start Fresh 0 past m event (silent_within event silent) may fine (silent_entries m.outside event silent) (silent_bytes m.outside event silent) reads
 
   -- the same while the host is still to be asked
   discovery_reads : (past : List Entry) (m : Machine) → May m (Outside_does Discovers) → IsFine m (Outside_does Discovers) → Reads start Fresh (Asked lines.Discover) 0 past m
@@ -224,9 +224,9 @@ module _ (start : HostMachine) where
       → CarefulRun start Fresh Open (past ++ stamp m.outside.outer (answers m.host.state event))
       (at_time m.keys (kept m.records m.host.state (event ∷ [])) (after m.host.state event) came 0 (time_of (has_entered m.outside.outer (answers m.host.state event))))
   asked_run line past m event asked may came run =
-      stamp_run start Fresh Fresh m.outside.outer (Asked line) Open m.keys m.records (kept m.records m.host.state (event ∷ [])) m.host.state (after m.host.state event) came came 0 past
+      stamp_run (CarefulRun start) (careful_leads start) Fresh Fresh m.outside.outer (Asked line) Open m.keys m.records (kept m.records m.host.state (event ∷ [])) m.host.state (after m.host.state event) came came 0 past
       (answers m.host.state event) run
-      (λ awaits all numbered there. stepped (step.Asks event) (line, refl, asked, may, numbered, refl) tt refl refl refl there)
+      (λ awaits all numbered there. stepped (step.Asks event) (line, refl, asked, may, numbered, refl) (tt, tt) refl refl refl there)
 
   asked_reads : (line : Line) (past : List Entry) (m : Machine) (event : HostEvent) → IsAskedBy line m.host.state event → May m (Host_does event) → IsFine m (Host_does event)
       → Reads start Fresh (Asked line) 0 past m → Reads start Fresh Open 0 (past ++ entries m (Host_does event)) (happens m (Host_does event))
@@ -260,7 +260,7 @@ module _ (start : HostMachine) where
       → CarefulRun start Fresh (Asked line) past (at_time m.keys m.records m.host.state came 0 (time_of o))
       → CarefulRun start Fresh Open (past ++ stamp o (one ∷ [])) (at_time m.keys m.records m.host.state came 0 (time_of (has_entered o (one ∷ []))))
   told_run line past o m came one goes run =
-      stamp_run start Fresh Fresh o (Asked line) Open m.keys m.records m.records m.host.state m.host.state came came 0 past (one ∷ []) run by
+      stamp_run (CarefulRun start) (careful_leads start) Fresh Fresh o (Asked line) Open m.keys m.records m.records m.host.state m.host.state came came 0 past (one ∷ []) run by
     where
       by : (awaits : Bool) (all : List Entry) → (awaits ≡ true → one ∷ [] ≡ []) → CarefulRun start Fresh (Asked line) all (host_machine m.keys m.records m.host.state came o.clock 0 awaits)
           → CarefulRun start Fresh Open (all ++ one ∷ []) (host_machine m.keys m.records m.host.state came o.clock 0 awaits)
@@ -283,7 +283,7 @@ module _ (start : HostMachine) where
         rests = reads.rests;
         only = reads.only;
         run = told_run line past m.outside.outer m came (entry.Refused refused)
-            (λ all there. stepped (step.Refuses refused) (line, refl, inl (same_refused m line refused came m.outside.outer.clock 0 false may), refl, refl) tt refl refl refl there) reads.run;
+            (λ all there. stepped (step.Refuses refused) (line, refl, inl (same_refused m line refused came m.outside.outer.clock 0 false may), refl, refl) (tt, tt) refl refl refl there) reads.run;
       }
 
   -- the stored values of a node are shown
@@ -301,7 +301,7 @@ module _ (start : HostMachine) where
         rests = reads.rests;
         only = reads.only;
         run = told_run (lines.Store node) past m.outside.outer m (good_units reads.down) (shown_values m.host.state node)
-            (λ all there. stepped (step.Shows node) (refl, refl, refl) tt refl refl refl there) reads.run;
+            (λ all there. stepped (step.Shows node) (refl, refl, refl) (tt, tt) refl refl refl there) reads.run;
       }
 
   -- ---- a restart
@@ -318,7 +318,7 @@ module _ (start : HostMachine) where
         carried = after_it.carried;
         frames = after_it.frames;
         rests = after_it.at_host ∙ reads.rests;
-        run = stepped (step.Restarts state) (refl, may, refl) tt refl refl refl reads.run;
+        run = stepped (step.Restarts state) (refl, may, refl) (tt, tt) refl refl refl reads.run;
       }
 
   cleared_aside : (side : Side) (count : ℕ) → AllByRecursion IsOfOthers (cleared_entries side count)
@@ -333,14 +333,14 @@ module _ (start : HostMachine) where
       → CarefulRun start Fresh Open past (at_time m.keys m.records m.host.state [] 0 (time_of m.outside.outer))
       → CarefulRun start Fresh Open (past ++ stamp o told) (at_time m.keys m.records m.host.state [] 0 (time_of (has_entered o told)))
   clear_run past m o told asides same run =
-      stamp_run start Fresh Fresh o Open Open m.keys m.records m.records m.host.state m.host.state [] [] 0 past told
+      stamp_run (CarefulRun start) (careful_leads start) Fresh Fresh o Open Open m.keys m.records m.records m.host.state m.host.state [] [] 0 past told
       (subst (λ (t : Time3). CarefulRun start Fresh Open past (at_time m.keys m.records m.host.state [] 0 t)) (sym same) run) by
     where
       by : (awaits : Bool) (all : List Entry) → (awaits ≡ true → told ≡ []) → CarefulRun start Fresh Open all (host_machine m.keys m.records m.host.state [] o.clock 0 awaits)
           → CarefulRun start Fresh Open (all ++ told) (host_machine m.keys m.records m.host.state [] o.clock 0 awaits)
       by true all numbered there =
           subst (λ (l : List Entry). CarefulRun start Fresh Open l (host_machine m.keys m.records m.host.state [] o.clock 0 true)) (sym (ap (λ (l : List Entry). all ++ l) (numbered refl) ∙ append-nil all)) there
-      by false all numbered there = asides_run start Fresh m.keys m.records m.host.state 0 Open tt o.clock told all [] asides there
+      by false all numbered there = asides_run (CarefulRun start) (careful_leads start) Fresh m.keys m.records m.host.state 0 Open tt o.clock told all [] (any_told told asides) there
 
   clears_up : (past : List Entry) (m : Machine) → May m (Outside_does (Clears_pipe Host)) → IsFine m (Outside_does (Clears_pipe Host)) → ReadsCleared start past m
       → ReadsCleared start (past ++ entries m (Outside_does (Clears_pipe Host))) (happens m (Outside_does (Clears_pipe Host)))
@@ -388,7 +388,7 @@ module _ (start : HostMachine) where
       let after_it : LineAfter m (Outside_does event) reads.up reads.down = event_after m (Outside_does event) reads.up reads.down reads.carried reads.frames may fine.0 fine.1 in
       let came : List LineUnit = good_units reads.down in
       let ran =
-      told_run line past m.outside.outer m came (entry.Refused refused) (λ all there. stepped (step.Refuses refused) (line, refl, inr others, refl, refl) tt refl refl refl there) reads.run in
+      told_run line past m.outside.outer m came (entry.Refused refused) (λ all there. stepped (step.Refuses refused) (line, refl, inr others, refl, refl) (tt, tt) refl refl refl there) reads.run in
       record {
         up = after_it.up_after;
         down = reads.down;
@@ -416,7 +416,7 @@ module _ (start : HostMachine) where
     device_reads event does route None within is may fine = turned_away line past m event refusal.NoDevice others is may fine reads
     device_reads event does route (Some place) within is may fine =
         let found : Option State = slice_get m.outside.devices place in
-        quiet_reads start Fresh Open 0 past m event tt within may fine (subst (λ (y : Outcome). AllByRecursion IsOfOthers y.entries) (sym is) (acts_aside m.outside.outer found does route))
+        quiet_reads start Fresh 0 past m event within may fine (subst (λ (y : Outcome). AllByRecursion IsOfOthers y.entries) (sym is) (acts_aside m.outside.outer found does route))
         (ap (λ (y : Outcome). y.outer.to_host.bytes) is ∙ acts_bytes m.outside.outer found does route) opened
 
     settings_aside : (node : ℕ) (settings : List Setting) → AllByRecursion IsOfOthers (map (λ (setting : Setting). entry.Device node setting) settings)
@@ -426,7 +426,7 @@ module _ (start : HostMachine) where
     shown_reads : (node : ℕ) (device : Option State) → outcome m.outside (Shows node) ≡ tells m.outside.outer (shown_entries node device) → Goes (Shows node)
     shown_reads node None is may fine = turned_away line past m (Shows node) refusal.NoDevice others is may fine reads
     shown_reads node (Some device) is may fine =
-        quiet_reads start Fresh Open 0 past m (Shows node) tt tt may fine (subst (λ (y : Outcome). AllByRecursion IsOfOthers y.entries) (sym is) (settings_aside node (shown_of device)))
+        quiet_reads start Fresh 0 past m (Shows node) tt may fine (subst (λ (y : Outcome). AllByRecursion IsOfOthers y.entries) (sym is) (settings_aside node (shown_of device)))
         (ap (λ (y : Outcome). y.outer.to_host.bytes) is) opened
 
     heard_again : (number : ℕ) (drawn : List ℕ) (route : Option Route) (refused : Option RepeatRefusal) → AllChange m.outside.outer.to_host.marks.garbles

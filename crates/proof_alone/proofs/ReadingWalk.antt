@@ -136,7 +136,7 @@ module _ (start : HostMachine) where
     frames = reads.frames;
     rests = reads.rests;
     only = reads.only;
-    run = stepped (step.Says words line) (refl, refl, read, refl) tt refl refl refl reads.run;
+    run = stepped (step.Says words line) (refl, refl, read, refl) (tt, tt) refl refl refl reads.run;
   }
 
   begins_reads : (line : Line) (past : List Entry) (m : Machine) → Reads start Fresh (alone.Asked line) (ticks_of line) past (begun m) → Keeps (Begun line) past m (Outside_does Begins_line)

@@ -59,7 +59,7 @@ note_untimed e note = tt
 line_untimed : AreOfLine IsUntimed
 line_untimed = record { written = λ side text. tt; dropped = λ side. tt; garbled = λ side text. tt; overrun = λ side. tt }
 
-told_untimed : (h : HostState) (event : HostEvent) (told : List Entry) → AreTold (outs h event) told → AreUntimed told
+pub told_untimed : (h : HostState) (event : HostEvent) (told : List Entry) → AreTold (outs h event) told → AreUntimed told
 told_untimed h event told are = told_are IsUntimed line_untimed note_untimed (outs h event) told (event_notes h event) are
 
 answers_untimed : (h : HostState) (event : HostEvent) → AreUntimed (answers h event)

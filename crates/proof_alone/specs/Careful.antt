@@ -1,11 +1,13 @@
 -- Runs of a host alone that judge what has come as programs do (this project's own rule): after each line and tick the host pumps before it judges; what comes in one read it judges whole
--- before it pumps; and else it judges all that has come before it pumps again, and nothing comes meanwhile.
-use Rattle.std.specs.Prelude.{◌≡◌, List, []}
+-- before it pumps; and else it judges all that has come before it pumps again, and nothing comes meanwhile. In a tick before the host's part nothing comes but frames, and no device is shown.
+use Rattle.std.specs.Prelude.{◌≡◌, true, List, [], ◌∷◌}
 use Rattle.serial_frame.specs.declared.unit.Unit.{Unit as LineUnit}
 use Rattle.zw_text.specs.declared.entry.Entry.{Entry}
+use Rattle.zw_text.specs.declared.entry.Entry.TheVariants as entry
+use Rattle.law_host.specs.law_time.Judged.{is_data}
 use Rattle.proof_alone.specs.State.{HostMachine}
-use Rattle.proof_alone.specs.Steps.{AreFrames, Step, Comes, Misses, Says, Says_nothing, Begins_tick, Judges}
-use Rattle.proof_alone.specs.Phases.{Phase, Open}
+use Rattle.proof_alone.specs.Steps.{AreFrames, Step, Tells, Comes, Misses, Says, Says_nothing, Begins_tick, Judges}
+use Rattle.proof_alone.specs.Phases.{Phase, Open, Risen}
 use Rattle.proof_alone.specs.Runs.{Knowledge, Run}
 use Rattle.proof_alone.specs.Runs.Run.{Begins, Turned, Stepped}
 
@@ -66,11 +68,29 @@ abbrev pub MayPump : Stage → List LineUnit → Type 0
 MayPump Judging came = came ≡ []
 MayPump stage came = Unit {0}
 
-abbrev pub StepsWell : Stage → Step → Type 0
-StepsWell stage (Judges item rest behind told) = MayJudge stage
-StepsWell stage (Comes unit) = MayMeet stage
-StepsWell stage (Misses text marks) = MayMeet stage
-StepsWell stage step = Unit {0}
+abbrev pub MayStep : Stage → Step → Type 0
+MayStep stage (Judges item rest behind told) = MayJudge stage
+MayStep stage (Comes unit) = MayMeet stage
+MayStep stage (Misses text marks) = MayMeet stage
+MayStep stage step = Unit {0}
+
+abbrev pub IsNoDevice : Entry → Type 0
+IsNoDevice (entry.Device node setting) = ⊥
+IsNoDevice e = Unit {0}
+
+-- what a frame was changed into begins as one
+abbrev pub StaysFrame : List Entry → Type 0
+StaysFrame (entry.Garbled side unit ∷ more) = is_data unit ≡ true
+StaysFrame marks = Unit {0}
+
+-- in a tick before the host's part
+abbrev pub MayHear : Phase → Step → Type 0
+MayHear Risen (Tells e) = IsNoDevice e
+MayHear Risen (Misses text marks) = (is_data text ≡ true) × StaysFrame marks
+MayHear here step = Unit {0}
+
+abbrev pub StepsWell : Stage → Phase → Step → Type 0
+StepsWell stage here step = MayStep stage step × MayHear here step
 
 -- a pump begins only where no answer is left to be judged
 abbrev pub TurnsWell : Stage → Phase → HostMachine → Type 0
@@ -80,7 +100,7 @@ TurnsWell stage here m = Unit {0}
 abbrev pub Careful : {start : HostMachine} {here : Phase} {told : List Entry} {m : HostMachine} → Run start here told m → Type 0
 Careful Begins = Unit {0}
 Careful (Turned {here = here} {m = m} turns run) = Careful run × TurnsWell (stage_of run) here m
-Careful (Stepped step may all_is later_is run) = Careful run × StepsWell (stage_of run) step
+Careful (Stepped {here = here} step may all_is later_is run) = Careful run × StepsWell (stage_of run) here step
 
 -- a run to here that is careful; some such run has these entries
 abbrev pub RunCarefully : HostMachine → Knowledge

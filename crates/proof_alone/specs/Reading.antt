@@ -13,10 +13,10 @@ use Rattle.zw_text.specs.declared.entry.Entry.{Entry}
 use Rattle.law_host.specs.law_transcript.Restarts.{ticks_of}
 use Rattle.law_host.specs.Heard.{is_of_others}
 use Rattle.host_requests.specs.declared.task.Task.TheVariants.{Members}
+use Rattle.proof_line.specs.host_model.Outs.{Silent}
 use Rattle.proof_line.specs.host_model.State.{HostState}
 use Rattle.proof_line.specs.host_model.Events.{HostEvent, Queues}
 use Rattle.proof_line.specs.host_model.Asking.{places_refusal}
-use Rattle.host_model.proofs.Silence.{Silent}
 use Rattle.proof_line.specs.outside_model.State.{is_stalled}
 use Rattle.proof_line.specs.outside_model.Events.{OuterEvent, Clears_pipe, Collides_next, Cuts, Discovers, Joins, Links, Loses, Loses_acks, Marks_change, Marks_loss, Repeats, Sets_device, Shows, Stalls, Wakes_device}
 use Rattle.proof_line.specs.world_model.State.{Machine}

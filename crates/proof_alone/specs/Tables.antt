@@ -3,9 +3,9 @@
 use Rattle.std.specs.Prelude.{ℕ, List, [], Option, IsSome}
 use Rattle.std.specs.List.{AllByRecursion}
 use Rattle.zw_text.specs.declared.entry.Entry.{Entry}
+use Rattle.proof_line.specs.host_model.Outs.{Silent}
 use Rattle.proof_line.specs.host_model.State.{HostState}
 use Rattle.proof_line.specs.host_model.Events.{HostEvent, Interviews, Finishes, Gives, Spends, Spends_unread, Takes_nonce}
-use Rattle.host_model.proofs.Silence.{Silent}
 use Rattle.proof_line.specs.proof_host.Facts.{Facts}
 use Rattle.proof_line.specs.Asking.{HostAsks}
 use Rattle.proof_line.specs.Restarts.{IsHeld}

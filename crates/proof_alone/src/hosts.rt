@@ -18,13 +18,12 @@ ghost use Rattle.proof_alone.specs.Reading.{Anything, HostKnows, IsFine, ReadsMa
 ghost use Rattle.proof_alone.specs.Runs.{Run, Told, ToldWhole};
 ghost use Rattle.proof_alone.specs.Careful.{RunCarefully, ToldCarefully};
 
-use proof_line::marks_go_on;
-use proof_line::serial::{hosts_write_well, units_are_judged_whole};
-use proof_line::world::lines_keep_and_ask_well;
+use proof_line::{hosts_write_well, lines_keep_and_ask_well, marks_go_on, units_are_judged_whole};
 
 /// Over any lines from the first on, the last of which an allocation failure may have cut short, over a keeper that tells its records and has none at first,
 /// the transcript is that of a run of a host alone; where all were run whole, of one that ends at rest, with
-/// what the keeper tells in the end, and no tick of its last line to come. These runs are careful: they judge what has come as the program does.
+/// what the keeper tells in the end, and no tick of its last line to come. These runs are careful: they judge what has come as the program does, and in a
+/// tick before the host's part nothing comes but frames.
 pub fn lines_are_a_hosts()
     ensures told { (keys : Keys) (devices : List State) (lines : List Spoken) →
         AreDone (first_machine keys (Some []) devices) lines →

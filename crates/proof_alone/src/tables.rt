@@ -19,10 +19,10 @@ ghost use Rattle.proof_alone.specs.Runs.{Run, Told, Walk};
 ghost use Rattle.proof_alone.specs.Tables.{KnowsTables};
 
 use crate::hosts::{lines_are_a_hosts, what_is_heard_is_a_hosts};
-use proof_line::host::{
-    asides_keep_facts, events_keep_facts, first_facts_hold, laws_follow, restarts_keep_facts,
+use proof_line::{
+    asides_keep_facts, events_keep_facts, first_facts_hold, laws_follow, restarts_go_on,
+    restarts_keep_facts,
 };
-use proof_line::world::restarts_go_on;
 
 /// The facts of a host and its transcript go on along each run of a host alone, also where it starts again, over a keeper that tells its records and has
 /// none at first.

@@ -1,17 +1,13 @@
 -- A host at whose events no attempt ends without a report leaves each series at its first attempt; and so it is at what the chip tells, where payloads are heard.
-use Rattle.std.proofs.Common.{◌≡◌, ◌≢◌, ℕ, ◌+◌, ◌-◌, ◌==◌, ◌&&◌, ◌||◌, not, nat_lt, Bool, true, false, if◌then◌else◌, List, [], ◌∷◌, ◌++◌, refl, sym, ap, ◌∙◌, subst}
+use Rattle.std.proofs.Common.{◌≡◌, ◌≢◌, ℕ, ◌-◌, ◌==◌, ◌&&◌, ◌||◌, not, nat_lt, Bool, true, false, if◌then◌else◌, List, [], ◌∷◌, ◌++◌, refl, sym, ap, ◌∙◌, subst}
 use Rattle.std.proofs.lemmas.Bool.{eq-eqb, eqb-true}
 use Rattle.std.specs.Prelude.{Option, Some, None}
 use Rattle.std.specs.List.{AllByRecursion}
-use Rattle.zw_base.proofs.Each.{all-right}
 use Rattle.supervision.specs.Host.{told_of}
 use Rattle.supervision.specs.declared.host_node.Told.{Told}
 use Rattle.supervision.specs.declared.host_node.Told.TheVariants.{Final, Working, Old}
 use Rattle.serial_frame.specs.Frame.{FrameParts}
-use Rattle.serial_frame.specs.declared.item.Item.TheVariants.{Good}
 use Rattle.serial_frame.specs.declared.unit.Unit.{Unit as LineUnit}
-use Rattle.serial_frame.specs.declared.unit.Unit.TheVariants.{Ack, Nak, Can, Framed}
-use Rattle.serial_link.specs.declared.turn.Turn.{Turn}
 use Rattle.serial_link.specs.declared.turn.Turn.TheVariants.{Idle as no_turn}
 use Rattle.chip_functions.specs.Response.{response_function}
 use Rattle.chip_functions.specs.declared.function.TheConstants.{SEND_DATA}
@@ -19,6 +15,7 @@ use Rattle.chip_functions.specs.declared.notice.Notice.TheVariants.{SendData}
 use Rattle.chip_functions.specs.declared.notice.TransmitStatus.{TransmitStatus}
 use Rattle.chip_functions.specs.declared.notice.TransmitStatus.TheVariants.{CompleteOk}
 use Rattle.chip_functions.specs.declared.notice.Update.{Update}
+use Rattle.chip_functions.specs.declared.response.Response.{Response}
 use Rattle.chip_functions.specs.declared.response.Response.TheVariants.{SendData as SendDataAnswer}
 use Rattle.chip_sim.specs.Answers.{notice_frame}
 use Rattle.chip_sim.specs.State.{ChipState}
@@ -47,21 +44,21 @@ use Rattle.host_node.specs.declared.attempt.Moment.{Moment}
 use Rattle.host_node.specs.declared.attempt.Moment.TheVariants.{BetweenTicks}
 use Rattle.host_node.specs.declared.attempt.Plan.TheVariants.{Whole, Segments, Sealed}
 use Rattle.host_node.specs.declared.series.Series.TheVariants as series
-use Rattle.host_model.specs.After.{after, is_busy, requests_do}
+use Rattle.host_model.specs.After.{after, requests_do}
 use Rattle.host_model.specs.Did.{after_all}
 use Rattle.host_model.specs.Ends.{PartEnd, Good as well, part_end, after_end, after_end_if, after_part}
-use Rattle.host_model.specs.Events.{HostEvent, Hears, Requests_do, Line_ticks, Node_ticks, Starts, Begins, Begin_unkept, Cancels, Interviews}
+use Rattle.host_model.specs.Events.{HostEvent, Requests_do, Line_ticks, Node_ticks, Starts, Begins, Begin_unkept, Cancels, Interviews}
 use Rattle.host_model.specs.May.{May}
 use Rattle.host_model.specs.State.{HostState, node_of, with_node}
-use Rattle.host_model.specs.Taking.{AreJudged, IsJudged, told_if, told_requests}
+use Rattle.host_model.specs.Taking.{AreJudged, told_requests}
 use Rattle.proof_serial.proofs.HostFits.{all-set, all_at}
 use Rattle.proof_calm.specs.Calls.{FrameFollows, IsSending}
 use Rattle.proof_calm.specs.Passes.{IsPlain, frames_in}
-use Rattle.proof_calm.specs.Tied.{Answers, Brings, Informs, IsCalled, IsFresh, IsOf, LeavesIt, LeaveIt, Nowhere, On_way, At_chip, Called, Tied}
-use Rattle.proof_calm.proofs.Ending.{EndsNoInterview, IsToldOf, Nothing, Something, answers_are, calls_are, handler_payload, none_under_way, send_under_way, update_told}
+use Rattle.proof_calm.specs.Tied.{IsFresh}
+use Rattle.proof_calm.proofs.Ending.{calls_are}
 use Rattle.proof_calm.proofs.Followed.{FollowersAre, payload_all}
 use Rattle.proof_calm.proofs.Following.{kept}
-use Rattle.proof_calm.proofs.Judging.{TieBy, ends_by, one_more, unit_tied}
+use Rattle.proof_calm.proofs.Judging.{Follow, MayTell, TieBy, units_are}
 use Rattle.proof_calm.proofs.Reading.{goods}
 use Rattle.proof_answered.specs.FirstAttempts.{AllFirst, IsFirst}
 use Rattle.proof_answered.specs.Heard.{AllSayHeard, SaysHeard}
@@ -337,73 +334,27 @@ mild_followers n = record {
   no_room = λ property. tt;
 }
 
-told_last : (h : HostState) (event : RequestsEvent) (events : List HostEvent) → events ≡ told_requests event → EndsWell (end_at h.requests event) → LastAll h events
-told_last h event events are so = subst (LastAll h) (sym are) (so, tt)
+told_last : (h : HostState) (event : RequestsEvent) → MayTell SaysHeard event → LastAll h (told_requests event)
+told_last h IsSent may = (sent_well h.requests, tt)
+told_last h (Responds response) may = (subst (λ (r : Response). EndsWell (end_at h.requests (Responds r))) (sym may) (answered_well h.requests), tt)
+told_last h (update_told_of update) may = (updated_well h.requests update, tt)
+told_last h (CallsBack id status) may = (called_well h.requests id status (may id status refl), tt)
+told_last h event may = absurd may
 
-of_update : (h : HostState) (events : List HostEvent) → IsToldOf events → LastAll h events
-of_update h events (Nothing are) = subst (LastAll h) (sym are) tt
-of_update h events (Something update are) = told_last h (update_told_of update) events are (updated_well h.requests update)
-
-leaves_last : (joined : List Bool) (h : HostState) (frame : FrameParts) (events : List HostEvent) → LeavesIt joined frame → EndsNoInterview h → FrameFollows h frame events → LastAll h events
-leaves_last joined h frame events (Answers is) none follows =
-    told_last h (Responds (SendDataAnswer 1)) events (answers_are h events (subst (λ (f : FrameParts). FrameFollows h f events) is follows)) (answered_well h.requests)
-leaves_last joined h frame events (Brings n payload member some is) none follows =
-    all_mild h events
-    (payload_all IsMild n (mild_followers n) h payload (heard_at payload) events (λ tells. tt)
-    (handler_payload h n payload events member.is_node some (subst (λ (f : FrameParts). FrameFollows h f events) is follows)))
-leaves_last joined h frame events (Informs update is) none follows = of_update h events (update_told h update events none (subst (λ (f : FrameParts). FrameFollows h f events) is follows))
+follow_last : (joined : List Bool) → Follow LastAll SaysHeard joined
+follow_last joined = record {
+  none = λ h. tt;
+  both = last-append;
+  hears = λ h item rest all. (tt, all);
+  told = told_last;
+  brings = λ h n payload events member says is. all_mild h events (payload_all IsMild n (mild_followers n) h payload (heard_at payload) events (λ tells. tt) is);
+}
 
 -- ---- all that is on its way to the host
 
-module _ (counted : Bool) (s : ChipState) (asking : List FrameParts) where
-  frame_last : (h : HostState) (frame : FrameParts) (rest : List FrameParts) (events : List HostEvent) → FrameFollows h frame events → TieBy counted (kept h) s (frame ∷ rest) asking → SaysHeard frame → LastAll h events
-  frame_last h frame rest events follows tie heard = by tie.tied
-    where
-      sends : (u : UnderWay) → IsOf u (ends_by (kept h) s) → EndsNoInterview h
-      sends u of = send_under_way h u (record { under_way = of.under_way; sends = of.sends })
-
-      called : (u : UnderWay) → IsOf u (ends_by (kept h) s) → (is : IsCalled (ends_by (kept h) s) (frame ∷ rest) asking) → (before : List FrameParts)
-          → frame ∷ rest ≡ before ++ notice_frame (SendData h.requests.last_id is.status) ∷ is.behind → LeaveIt s.joined before → LastAll h events
-      called u of is [] are leave =
-          let first : frame ≡ notice_frame (SendData h.requests.last_id is.status) = cc in
-          told_last h (CallsBack h.requests.last_id is.status) events (calls_are h h.requests.last_id is.status events (subst (λ (f : FrameParts). FrameFollows h f events) first follows))
-          (called_well h.requests h.requests.last_id is.status (heard h.requests.last_id is.status first))
-      called u of is (one ∷ before) are leave =
-          let first : frame ≡ one = cc in
-          leaves_last s.joined h frame events (subst (LeavesIt s.joined) (sym first) leave.0) (sends u of) follows
-
-      by : Tied counted (ends_by (kept h) s) (frame ∷ rest) asking → LastAll h events
-      by (Nowhere is) = leaves_last s.joined h frame events is.leave.0 (none_under_way h is.none) follows
-      by (On_way u of fresh is) = leaves_last s.joined h frame events is.leave.0 (sends u of) follows
-      by (At_chip u of fresh is) = leaves_last s.joined h frame events is.leave.0 (sends u of) follows
-      by (Called u of fresh is) = called u of is is.before is.are is.before_leave
-
-  ack_last : (h : HostState) (turn : Turn) (events : List HostEvent) → events ≡ told_if (is_busy turn) IsSent → LastAll h events
-  ack_last h turn events are = subst (LastAll h) (sym are) (by (is_busy turn))
-    where
-      by : (b : Bool) → LastAll h (told_if b IsSent)
-      by true = (sent_well h.requests, tt)
-      by false = tt
-
-  unit_last : (h : HostState) (unit : LineUnit) (rest : List FrameParts) (events : List HostEvent) → IsPlain unit → IsJudged h (Good unit) events → TieBy counted (kept h) s (frames_in (unit ∷ []) ++ rest) asking
-      → AllSayHeard (frames_in (unit ∷ []) ++ rest) → LastAll h events
-  unit_last h Ack rest events plain (more, are, followed) tie heard = subst (LastAll h) (sym are) (tt, ack_last (after h (Hears (Good Ack))) h.side.turn more followed)
-  unit_last h Nak rest events plain judged_it tie heard = absurd plain
-  unit_last h Can rest events plain judged_it tie heard = absurd plain
-  unit_last h (Framed f) rest events plain (more, are, followed) tie heard =
-      subst (LastAll h) (sym are) (tt, frame_last (after h (Hears (Good (Framed f)))) f rest more followed tie heard.0)
-
-  pub units_last : (h : HostState) (units : List LineUnit) (rest : List FrameParts) (events : List HostEvent) → AllByRecursion IsPlain units → AreJudged h (goods units) events
-      → TieBy counted (kept h) s (frames_in units ++ rest) asking → AllSayHeard (frames_in units ++ rest) → LastAll h events
-  units_last h [] rest events plain judged_all tie heard = subst (LastAll h) (sym judged_all) tt
-  units_last h (unit ∷ units) rest events plain (first, later, are, one, others) tie heard =
-      let same = one_more counted s asking unit units rest in
-      let parts = subst (λ (fs : List FrameParts). TieBy counted (kept h) s fs asking) same tie in
-      let heard_parts = subst AllSayHeard same heard in
-      let here = unit_last h unit (frames_in units ++ rest) first plain.0 one parts heard_parts in
-      let then_tied = unit_tied counted s asking h unit (frames_in units ++ rest) first plain.0 one parts in
-      let behind = all-right SaysHeard (frames_in (unit ∷ [])) (frames_in units ++ rest) heard_parts in
-      subst (LastAll h) (sym are) (last-append h first later here (units_last (after_all h first) units rest later plain.1 others then_tied behind))
+pub units_last : (counted : Bool) (s : ChipState) (asking : List FrameParts) (h : HostState) (units : List LineUnit) (rest : List FrameParts) (events : List HostEvent) → AllByRecursion IsPlain units → AreJudged h (goods units) events
+    → TieBy counted (kept h) s (frames_in units ++ rest) asking → AllSayHeard (frames_in units ++ rest) → LastAll h events
+units_last counted s asking h units rest events plain judged tie heard = units_are LastAll SaysHeard counted s asking (follow_last s.joined) h units rest events plain judged tie heard
 
 -- ---- the call of a request of an attempt
 

@@ -199,29 +199,36 @@ asks_to these s frame way marked = item_to these s (Good (Framed frame)) way (by
 
 -- ---- frames more
 
--- after these, each of them for or of a node of these
-pub record Adds (these : List Bool) (log : List Mark) (flights : List Flown) (frames : FramesState) : Type 0 where
+-- after these, and each of them is so
+pub record Adds (Is : Flown → Type 0) (log : List Mark) (flights : List Flown) (frames : FramesState) : Type 0 where
   pub more : List Mark
   pub added : List Flown
   pub fly : Fly (log ++ more) (flights ++ added) frames
-  pub are_for : AllByRecursion (IsOf these) added
+  pub are_so : AllByRecursion Is added
 
-pub adds_none : (these : List Bool) (log : List Mark) (flights : List Flown) (frames : FramesState) → Fly log flights frames → Adds these log flights frames
-adds_none these log flights frames fly = record {
+pub adds_none : (Is : Flown → Type 0) (log : List Mark) (flights : List Flown) (frames : FramesState) → Fly log flights frames → Adds Is log flights frames
+adds_none Is log flights frames fly = record {
   more = [];
   added = [];
   fly = subst (λ (l : List Mark). Fly l (flights ++ []) frames) (sym (append-nil log)) (subst (λ (fs : List Flown). Fly log fs frames) (sym (append-nil flights)) fly);
-  are_for = tt;
+  are_so = tt;
 }
 
-pub adds_both : (these : List Bool) (log : List Mark) (flights : List Flown) (a b : FramesState) (first : Adds these log flights a) → Adds these (log ++ first.more) (flights ++ first.added) b → Adds these log flights b
-adds_both these log flights a b first later = record {
+pub adds_both : (Is : Flown → Type 0) (log : List Mark) (flights : List Flown) (a b : FramesState) (first : Adds Is log flights a) → Adds Is (log ++ first.more) (flights ++ first.added) b → Adds Is log flights b
+adds_both Is log flights a b first later = record {
   more = first.more ++ later.more;
   added = first.added ++ later.added;
   fly = subst (λ (l : List Mark). Fly l (flights ++ (first.added ++ later.added)) b) (append_assoc log first.more later.more)
       (subst (λ (fs : List Flown). Fly ((log ++ first.more) ++ later.more) fs b) (append_assoc flights first.added later.added) later.fly);
-  are_for = all-append (IsOf these) first.added later.added first.are_for later.are_for;
+  are_so = all-append Is first.added later.added first.are_so later.are_so;
 }
+
+pub adds_weaker : (A B : Flown → Type 0) → ((frame : Flown) → A frame → B frame) → (log : List Mark) (flights : List Flown) (frames : FramesState) → Adds A log flights frames → Adds B log flights frames
+adds_weaker A B weaker log flights frames adds = record { more = adds.more; added = adds.added; fly = adds.fly; are_so = all-weaker A B weaker adds.added adds.are_so }
+
+-- the chip's are for nodes of these
+abbrev pub IsSentFor : List Bool → Flown → Type 0
+IsSentFor these frame = IsOf these frame × (frame.heading ≡ Outward)
 
 pub marked_within : (marks : List Bool) (n : ℕ) → is_marked marks n ≡ true → n < length marks
 marked_within [] n marked = absurd cc
@@ -229,35 +236,35 @@ marked_within (mark ∷ marks) zero marked = omega arith
 marked_within (mark ∷ marks) (suc n) marked = let less = marked_within marks n marked in omega (arith, less)
 
 module _ (airs : Airs) (these : List Bool) (many : length these ≡ 233) where
-  put_adds : (log : List Mark) (flights : List Flown) (o : OuterState) (out : ChipOut) → GoesTo these out → Fly log flights o.air.frames → Adds these log flights (put_out o out).outer.air.frames
-  put_adds log flights o (Write unit) goes fly = adds_none these log flights o.air.frames fly
+  put_adds : (log : List Mark) (flights : List Flown) (o : OuterState) (out : ChipOut) → GoesTo these out → Fly log flights o.air.frames → Adds (IsSentFor these) log flights (put_out o out).outer.air.frames
+  put_adds log flights o (Write unit) goes fly = adds_none (IsSentFor these) log flights o.air.frames fly
   put_adds log flights o (OnAir to route payload) goes fly =
       let d : Departure = record { node = to; heading = Outward; route = unwrap_or (Some route) no_route; lost = nat_lt 0 o.air.losing || is_none (Some route); payload = payload } in
       let less = marked_within these to goes in
-      record { more = goes_mark d ∷ []; added = flown_now log d ∷ []; fly = airs.goes log flights o.air.frames d (omega (arith, less, many)) fly; are_for = (goes, tt) }
-  put_adds log flights o NoRoute goes fly = adds_none these log flights o.air.frames fly
-  put_adds log flights o (AskInfo node) goes fly = adds_none these log flights o.air.frames fly
-  put_adds log flights o Full goes fly = adds_none these log flights o.air.frames fly
+      record { more = goes_mark d ∷ []; added = flown_now log d ∷ []; fly = airs.goes log flights o.air.frames d (omega (arith, less, many)) fly; are_so = ((goes, refl), tt) }
+  put_adds log flights o NoRoute goes fly = adds_none (IsSentFor these) log flights o.air.frames fly
+  put_adds log flights o (AskInfo node) goes fly = adds_none (IsSentFor these) log flights o.air.frames fly
+  put_adds log flights o Full goes fly = adds_none (IsSentFor these) log flights o.air.frames fly
 
-  all_add : (log : List Mark) (flights : List Flown) (o : OuterState) (puts : List ChipOut) → AllGoTo these puts → Fly log flights o.air.frames → Adds these log flights (each put_out o puts).outer.air.frames
-  all_add log flights o [] goes fly = adds_none these log flights o.air.frames fly
+  all_add : (log : List Mark) (flights : List Flown) (o : OuterState) (puts : List ChipOut) → AllGoTo these puts → Fly log flights o.air.frames → Adds (IsSentFor these) log flights (each put_out o puts).outer.air.frames
+  all_add log flights o [] goes fly = adds_none (IsSentFor these) log flights o.air.frames fly
   all_add log flights o (out ∷ puts) goes fly =
       let p : OuterState = (put_out o out).outer in
       let one = put_adds log flights o out goes.0 fly in
-      adds_both these log flights p.air.frames (each put_out p puts).outer.air.frames one (all_add (log ++ one.more) (flights ++ one.added) p puts goes.1 one.fly)
+      adds_both (IsSentFor these) log flights p.air.frames (each put_out p puts).outer.air.frames one (all_add (log ++ one.more) (flights ++ one.added) p puts goes.1 one.fly)
 
-  does_add : (log : List Mark) (flights : List Flown) (o : OuterState) (event : ChipEvent) → AllGoTo these (outs o.chip.state event) → Fly log flights o.air.frames → Adds these log flights (chip_does o event).outer.air.frames
+  does_add : (log : List Mark) (flights : List Flown) (o : OuterState) (event : ChipEvent) → AllGoTo these (outs o.chip.state event) → Fly log flights o.air.frames → Adds (IsSentFor these) log flights (chip_does o event).outer.air.frames
   unfolding chip_does
   does_add log flights o event goes fly = all_add log flights (with_chip o (after o.chip.state event)) (outs o.chip.state event) goes fly
 
   pub judges_add : (log : List Mark) (flights : List Flown) (o : OuterState) (ways : List (Item × Option Route)) → EachGoesTo these o.chip.state ways → Fly log flights o.air.frames
-      → Adds these log flights (each chip_does o (judged_all ways)).outer.air.frames
-  judges_add log flights o [] goes fly = adds_none these log flights o.air.frames fly
+      → Adds (IsSentFor these) log flights (each chip_does o (judged_all ways)).outer.air.frames
+  judges_add log flights o [] goes fly = adds_none (IsSentFor these) log flights o.air.frames fly
   judges_add log flights o (way ∷ ways) goes fly =
       let p : OuterState = (chip_does o (Judged way.0 way.1)).outer in
       let one = does_add log flights o (Judged way.0 way.1) goes.0 fly in
       let later : EachGoesTo these p.chip.state ways = subst (λ (s : ChipState). EachGoesTo these s ways) (sym (does_chip o (Judged way.0 way.1))) goes.1 in
-      adds_both these log flights p.air.frames (each chip_does p (judged_all ways)).outer.air.frames one (judges_add (log ++ one.more) (flights ++ one.added) p ways later one.fly)
+      adds_both (IsSentFor these) log flights p.air.frames (each chip_does p (judged_all ways)).outer.air.frames one (judges_add (log ++ one.more) (flights ++ one.added) p ways later one.fly)
 
 -- the chip takes payloads for joined nodes alone
 each_to : (s : ChipState) (ways : List (Item × Option Route)) → EachGoesTo s.joined s ways
@@ -340,7 +347,7 @@ module _ (these : List Bool) where
         let p : OuterState = (each chip_does (fed_chip o count rest) (judged_all ways)).outer in
         let adds = judges_add airs these many is.log (on_air o.air.frames) (fed_chip o count rest) ways sent fly in
         subst (AllByRecursion (IsFor these)) (flights_are (is.log ++ adds.more) (on_air o.air.frames ++ adds.added) p.air.frames adds.fly)
-        (all-append (IsFor these) (on_air o.air.frames) adds.added all (all-weaker (IsOf these) (IsFor these) (λ frame marked out. marked) adds.added adds.are_for))
+        (all-append (IsFor these) (on_air o.air.frames) adds.added all (all-weaker (IsSentFor these) (IsFor these) (λ frame sent out. sent.0) adds.added adds.are_so))
 
     outside_for : (event : OuterEvent) → IsQuietEvent event → May m (Outside_does event) → IsSentTo these m (Outside_does event) → AreFor (happens_outside m.outside event).outer
     unfolding outcome May MayOutside MayHappen

@@ -1,5 +1,5 @@
 -- Where lines and the host are for some nodes alone, these alone speak on the air.
-use Rattle.std.proofs.Common.{◌≡◌, ◌≤◌, ◌<◌, ℕ, ◌-◌, ◌==◌, ◌&&◌, nat_le, nat_lt, Bool, true, false, if◌then◌else◌, inl, inr, List, [], ◌∷◌, ◌++◌, length, refl, sym, ap, ◌∙◌, subst, arith}
+use Rattle.std.proofs.Common.{◌≡◌, ◌≤◌, ◌<◌, ℕ, nat_lt, Bool, true, false, if◌then◌else◌, inl, inr, List, [], ◌∷◌, ◌++◌, drop, length, refl, sym, ap, ◌∙◌, subst, arith}
 use Rattle.std.specs.Prelude.{◌⊎◌, ◌||◌, Option, Some, None, option_map, slice_get, slice_index}
 use Rattle.std.specs.Option.{is_none, unwrap_or}
 use Rattle.std.specs.List.{AllByRecursion}
@@ -15,10 +15,8 @@ use Rattle.chip_functions.specs.declared.notice.TransmitStatus.{TransmitStatus}
 use Rattle.chip_functions.specs.declared.notice.Update.{Update}
 use Rattle.chip_sim.specs.Answers.{notice_frame}
 use Rattle.chip_sim.specs.Did.{judged_all}
-use Rattle.chip_sim.specs.Events.{ChipEvent, Done, Heard as chip_hears, Informed, after, ended, update_of}
 use Rattle.chip_sim.specs.Nodes.{is_marked}
 use Rattle.chip_sim.specs.Requests.{callback_frame}
-use Rattle.chip_sim.specs.State.{ChipState}
 use Rattle.chip_sim.specs.declared.out.Sending.{Sending}
 use Rattle.air_frames.specs.Flown.{Flown}
 use Rattle.air_frames.specs.Frames.{FramesState, landing, next_of}
@@ -31,17 +29,13 @@ use Rattle.device_sim.specs.State.{State}
 use Rattle.mesh_sim.specs.Air.{AirState, departing, is_joined, no_route}
 use Rattle.mesh_sim.specs.Fates.{Mesh, dead_hop_of, fate_by, fate_of, listener_of, place_of}
 use Rattle.mesh_sim.specs.Routes.{backwards}
-use Rattle.mesh_sim.specs.Steps.{acknowledged, answered, answered_if, arriving, arriving_as, heard_at, landed, mesh_after, mesh_outs, MayArriveIf, MayHappen}
+use Rattle.mesh_sim.specs.Steps.{acknowledged, answered, answered_if, arriving, arriving_as, heard_at, landed, mesh_after, MayArriveIf, MayHappen}
 use Rattle.mesh_sim.specs.Steps as mesh
-use Rattle.mesh_sim.specs.declared.event.AirEvent.{AirEvent}
-use Rattle.mesh_sim.specs.declared.event.AirEvent.TheVariants as air_event
 use Rattle.mesh_sim.specs.declared.fate.Fate.{Fate}
 use Rattle.mesh_sim.specs.declared.fate.Fate.TheVariants.{Lost, Dead, Missed, AtChip, AtDevice}
-use Rattle.outside_model.specs.Air.{deals, to_chip}
 use Rattle.outside_model.specs.Chip.{chip_does}
 use Rattle.outside_model.specs.Devices.{acts_at, acts_by_hand, device_set, set_by_hand}
-use Rattle.outside_model.specs.Results.{frame_ends}
-use Rattle.outside_model.specs.State.{OuterState, Outside, Outcome, each, silent}
+use Rattle.outside_model.specs.State.{OuterState, Outside, Outcome, each}
 use Rattle.outside_model.specs.Events.{OuterEvent, Begins_line, Begins_tick, Host_writes, Host_takes, Host_notes, Host_begins, Arrives, Gives, Device_ticks, Chip_ticks, Chip_takes, Wakes_device, Shows, Cuts, devices_after, has_entered, mesh_of, outcome, happens as happens_outside, May as MayOutside}
 use Rattle.world_model.specs.Events.{Event, Outside_does, Host_does, Host_takes as Host_takes_all, Decoder_ticks, Refuses as refuses_line, Restarts, Shows_values, happens, May}
 use Rattle.world_model.specs.State.{Machine}
@@ -51,26 +45,22 @@ use Rattle.proof_serial.proofs.HostFits.{all-set}
 use Rattle.proof_calm.specs.proof_work.proof_walk.Outside.{CoversOuter}
 use Rattle.proof_calm.specs.proof_traffic.Flights.{Fly, flown_now}
 use Rattle.proof_calm.specs.proof_traffic.OnAir.{fed_chip, on_air}
-use Rattle.proof_calm.specs.Awaited.{Awaits}
+use Rattle.proof_calm.specs.proof_work.proof_walk.Phases.{Goes, Phase}
+use Rattle.proof_calm.specs.Awaited.{Awaits, AwaitsAt}
 use Rattle.proof_calm.specs.Calls.{answer_taken}
-use Rattle.proof_calm.specs.Homeward.{SpeaksHome}
-use Rattle.proof_calm.specs.Known.{IsMember}
 use Rattle.proof_calm.specs.Marks.{IsQuietEvent}
-use Rattle.proof_calm.specs.Resting.{IsGiven}
-use Rattle.proof_calm.specs.Tied.{unheard}
+use Rattle.proof_calm.specs.Resting.{LineAt}
+use Rattle.proof_calm.specs.Routed.{IsRouted}
+use Rattle.proof_calm.specs.Tied.{RoomAt, TieAt, unheard}
 use Rattle.proof_calm.proofs.Calm.{Calm, does_calm, enters_calm, takes_calm}
 use Rattle.proof_calm.proofs.ChipNotices.{arrived_air, entered_leaves, given_first}
 use Rattle.proof_calm.proofs.Flights.{flights_are}
-use Rattle.proof_calm.proofs.Homing.{arrival_of, next_of_member}
-use Rattle.proof_calm.proofs.Pending.{IsFromOf, line_of}
-use Rattle.proof_calm.proofs.Results.{Calls, IsResult, end_goes}
-use Rattle.proof_calm.proofs.Times.{does_chip}
 use Rattle.proof_calm.proofs.proof_traffic_Parts.{Airs}
-use Rattle.proof_answered.specs.Outward.{EachGoesTo, IsOf, IsSentTo}
-use Rattle.proof_answered.specs.Workers.{AllFrom, IsAway, IsCalledFor, IsFrom, IsLineFor}
+use Rattle.proof_answered.specs.Outward.{EachGoesTo, IsOfSaying, IsSentTo}
+use Rattle.proof_answered.specs.Workers.{IsAway, IsCalledFor, IsFromSaying, IsLineFor}
 use Rattle.proof_answered.proofs.Flying.{chip_counts}
-use Rattle.proof_answered.proofs.Outwards.{Adds, adds_both, adds_none, judges_add, marked_within, next_flight}
-use Rattle.proof_answered.proofs.Unheard.{all_piled, chip_is, given_says, of_port, on_port}
+use Rattle.proof_answered.proofs.Outwards.{Adds, IsSentFor, adds_both, adds_none, adds_weaker, judges_add, marked_within, next_flight}
+use Rattle.proof_answered.proofs.Unheard.{all_behind, all_piled, arrives_says, event_says}
 use Rattle.proof_answered.proofs.Works.{ticks_say, ticks_work}
 
 -- ---- a device of another node
@@ -183,223 +173,215 @@ module _ (same : Same) (these : List Bool) where
 
 -- ---- frames on the air
 
-module _ (airs : Airs) (these : List Bool) (many : length these ≡ 233) where
+-- what the first device of each of these says where it hears or is woken is so, and what a device of these says in a tick
+pub record SpeakSo (these : List Bool) (Says : List ℕ → Type 0) (devices : List State) : Type 0 where
+  pub heard : (node place : ℕ) (device : State) (payload drawn : List ℕ) → is_marked these node ≡ true → place_of node devices ≡ Some place → slice_get devices place ≡ Some device → AllByRecursion Says (device_replies device (Hears payload drawn))
+  pub woken : (node place : ℕ) (device : State) → is_marked these node ≡ true → place_of node devices ≡ Some place → slice_get devices place ≡ Some device → AllByRecursion Says (device_replies device Wakes)
+  pub ticked : (place : ℕ) (device : State) (drawn : List ℕ) → is_marked these device.node ≡ true → slice_get devices place ≡ Some device → AllByRecursion Says (device_replies device (Ticks drawn))
+
+-- where nothing is asked of that
+abbrev pub AnyText : List ℕ → Type 0
+AnyText payload = Unit {0}
+
+any_texts : (payloads : List (List ℕ)) → AllByRecursion AnyText payloads
+any_texts [] = tt
+any_texts (payload ∷ payloads) = (tt, any_texts payloads)
+
+pub speak_any : (these : List Bool) (devices : List State) → SpeakSo these AnyText devices
+speak_any these devices = record {
+  heard = λ node place device payload drawn marked first there. any_texts (device_replies device (Hears payload drawn));
+  woken = λ node place device marked first there. any_texts (device_replies device Wakes);
+  ticked = λ place device drawn marked there. any_texts (device_replies device (Ticks drawn));
+}
+
+sent_saying : (these : List Bool) (Says : List ℕ → Type 0) (frame : Flown) → IsSentFor these frame → IsOfSaying these Says frame
+sent_saying these Says frame sent = (sent.0, λ home. absurd (let wrong : Outward ≡ Homeward = sym sent.1 ∙ home in cc))
+
+module _ (airs : Airs) (these : List Bool) (Says : List ℕ → Type 0) (many : length these ≡ 233) where
+  abbrev Is : Flown → Type 0
+  Is = IsOfSaying these Says
+
   within : (node : ℕ) → is_marked these node ≡ true → node < 233
   within node marked = let less = marked_within these node marked in omega (arith, less, many)
 
-  answers_add : (log : List Mark) (flights : List Flown) (a : AirState) (node : ℕ) (way : Option Route) (replies : List (List ℕ)) → is_marked these node ≡ true → Fly log flights a.frames → Adds these log flights (answered a node way replies).frames
-  answers_add log flights a node way [] marked fly = adds_none these log flights a.frames fly
-  answers_add log flights a node way (reply ∷ replies) marked fly =
+  answers_add : (log : List Mark) (flights : List Flown) (a : AirState) (node : ℕ) (way : Option Route) (replies : List (List ℕ)) → is_marked these node ≡ true → AllByRecursion Says replies → Fly log flights a.frames
+      → Adds Is log flights (answered a node way replies).frames
+  answers_add log flights a node way [] marked says fly = adds_none Is log flights a.frames fly
+  answers_add log flights a node way (reply ∷ replies) marked says fly =
       let d : Departure = record { node = node; heading = Homeward; route = unwrap_or way no_route; lost = nat_lt 0 a.losing || is_none way; payload = reply } in
       let next : AirState = departing a node Homeward way reply in
-      let one : Adds these log flights next.frames =
-      record { more = goes_mark d ∷ []; added = flown_now log d ∷ []; fly = airs.goes log flights a.frames d (within node marked) fly; are_for = (marked, tt) } in
-      adds_both these log flights next.frames (answered next node way replies).frames one (answers_add (log ++ one.more) (flights ++ one.added) next node way replies marked one.fly)
+      let one : Adds Is log flights next.frames =
+      record { more = goes_mark d ∷ []; added = flown_now log d ∷ []; fly = airs.goes log flights a.frames d (within node marked) fly; are_so = ((marked, λ home. says.0), tt) } in
+      adds_both Is log flights next.frames (answered next node way replies).frames one (answers_add (log ++ one.more) (flights ++ one.added) next node way replies marked says.1 one.fly)
 
-  -- one of these answers, or none does
-  answers_add_if : (joined : Bool) (log : List Mark) (flights : List Flown) (a : AirState) (node : ℕ) (way : Option Route) (replies : List (List ℕ)) → (is_marked these node ≡ true) ⊎ (replies ≡ []) → Fly log flights a.frames
-      → Adds these log flights (answered_if joined a node way replies).frames
-  answers_add_if true log flights a node way replies (inl marked) fly = answers_add log flights a node way replies marked fly
-  answers_add_if true log flights a node way replies (inr none) fly = subst (λ (l : List (List ℕ)). Adds these log flights (answered a node way l).frames) (sym none) (adds_none these log flights a.frames fly)
-  answers_add_if false log flights a node way replies either fly = adds_none these log flights a.frames fly
+  -- one of these answers so, or none does
+  abbrev AnswersSo : ℕ → List (List ℕ) → Type 0
+  AnswersSo node replies = ((is_marked these node ≡ true) × AllByRecursion Says replies) ⊎ (replies ≡ [])
+
+  answers_add_if : (joined : Bool) (log : List Mark) (flights : List Flown) (a : AirState) (node : ℕ) (way : Option Route) (replies : List (List ℕ)) → AnswersSo node replies → Fly log flights a.frames
+      → Adds Is log flights (answered_if joined a node way replies).frames
+  answers_add_if true log flights a node way replies (inl (marked, says)) fly = answers_add log flights a node way replies marked says fly
+  answers_add_if true log flights a node way replies (inr none) fly = subst (λ (l : List (List ℕ)). Adds Is log flights (answered a node way l).frames) (sym none) (adds_none Is log flights a.frames fly)
+  answers_add_if false log flights a node way replies either fly = adds_none Is log flights a.frames fly
 
   module _ (log : List Mark) (flight : Flown) (later : List Flown) (m : Mesh) (marked : is_marked these flight.node ≡ true) (fly : Fly log (flight ∷ later) m.air.frames) where
-    lands_add : (a : AirState) → a.frames ≡ landing m.air.frames → Adds these log later a.frames
-    lands_add a is = adds_none these log later a.frames (subst (λ (fs : FramesState). Fly log later fs) (sym is) (airs.lands log flight later m.air.frames fly))
+    lands_add : (a : AirState) → a.frames ≡ landing m.air.frames → Adds Is log later a.frames
+    lands_add a is = adds_none Is log later a.frames (subst (λ (fs : FramesState). Fly log later fs) (sym is) (airs.lands log flight later m.air.frames fly))
 
-    hears_add : (place : ℕ) (found : Option State) (event : DeviceEvent) (route : Option Route) → Adds these log later (heard_at (record { air = landed (acknowledged m.air); devices = m.devices }) place found flight.node route event).air.frames
-    hears_add place None event route = lands_add (landed (acknowledged m.air)) refl
-    hears_add place (Some device) event route =
+    hears_add : (place : ℕ) (found : Option State) (event : DeviceEvent) (route : Option Route) → ((device : State) → found ≡ Some device → AllByRecursion Says (device_replies device event))
+        → Adds Is log later (heard_at (record { air = landed (acknowledged m.air); devices = m.devices }) place found flight.node route event).air.frames
+    hears_add place None event route says = lands_add (landed (acknowledged m.air)) refl
+    hears_add place (Some device) event route says =
         let before : AirState = landed (acknowledged m.air) in
-        answers_add_if (is_joined before flight.node) log later before flight.node (option_map backwards route) (device_replies device event) (inl marked) (airs.lands log flight later m.air.frames fly)
+        answers_add_if (is_joined before flight.node) log later before flight.node (option_map backwards route) (device_replies device event) (inl (marked, says device refl)) (airs.lands log flight later m.air.frames fly)
 
-    fate_adds : (x : Fate) (drawn : List ℕ) (route : Option Route) → Adds these log later (arriving_as m flight x drawn route).air.frames
-    fate_adds Lost drawn route = lands_add (landed m.air) refl
-    fate_adds (Dead from to) drawn route = lands_add (landed m.air) refl
-    fate_adds Missed drawn route = lands_add (landed m.air) refl
-    fate_adds AtChip drawn route = lands_add (landed m.air) refl
-    fate_adds (AtDevice place) drawn route = hears_add place (slice_get m.devices place) (Hears flight.payload drawn) route
+    fate_adds : (x : Fate) (drawn : List ℕ) (route : Option Route) → fate_of m.air.network m.devices flight ≡ x → SpeakSo these Says m.devices → Adds Is log later (arriving_as m flight x drawn route).air.frames
+    fate_adds Lost drawn route is speak = lands_add (landed m.air) refl
+    fate_adds (Dead from to) drawn route is speak = lands_add (landed m.air) refl
+    fate_adds Missed drawn route is speak = lands_add (landed m.air) refl
+    fate_adds AtChip drawn route is speak = lands_add (landed m.air) refl
+    fate_adds (AtDevice place) drawn route is speak =
+        hears_add place (slice_get m.devices place) (Hears flight.payload drawn) route
+        (λ device there. speak.heard flight.node place device flight.payload drawn marked (hears_at m.air.network m.devices flight place is) there)
 
-    arrives_add : (drawn : List ℕ) (route : Option Route) → Adds these log later (mesh_after m (mesh.Arrives drawn route)).air.frames
+    arrives_add : (drawn : List ℕ) (route : Option Route) → SpeakSo these Says m.devices → Adds Is log later (mesh_after m (mesh.Arrives drawn route)).air.frames
     unfolding mesh_after
-    arrives_add drawn route = rw (airs.next log flight later m.air.frames fly) (fate_adds (fate_of m.air.network m.devices flight) drawn route)
+    arrives_add drawn route speak = rw (airs.next log flight later m.air.frames fly) (fate_adds (fate_of m.air.network m.devices flight) drawn route refl speak)
 
   -- ---- each event
 
   abbrev AreOf : OuterState → Type 0
-  AreOf o = AllByRecursion (IsOf these) (on_air o.air.frames)
+  AreOf o = AllByRecursion Is (on_air o.air.frames)
 
   same_of : (o p : OuterState) → p.air ≡ o.air → AreOf o → AreOf p
-  same_of o p air all = subst (λ (a : AirState). AllByRecursion (IsOf these) (on_air a.frames)) (sym air) all
+  same_of o p air all = subst (λ (a : AirState). AllByRecursion Is (on_air a.frames)) (sym air) all
 
   calm_of : (o p : OuterState) → Calm o p → AreOf o → AreOf p
-  calm_of o p calm all = subst (AllByRecursion (IsOf these)) (sym calm.on) all
+  calm_of o p calm all = subst (AllByRecursion Is) (sym calm.on) all
 
   entered_of : (x : Outcome) → AreOf x.outer → (told : List Entry) → AreOf (has_entered x.outer told)
   entered_of x are told = same_of x.outer (has_entered x.outer told) (entered_leaves x.outer told).air are
 
-  adds_of : (log : List Mark) (flights : List Flown) (frames : FramesState) → AllByRecursion (IsOf these) flights → Adds these log flights frames → AllByRecursion (IsOf these) (on_air frames)
+  adds_of : (log : List Mark) (flights : List Flown) (frames : FramesState) → AllByRecursion Is flights → Adds Is log flights frames → AllByRecursion Is (on_air frames)
   adds_of log flights frames all adds =
-      subst (AllByRecursion (IsOf these)) (flights_are (log ++ adds.more) (flights ++ adds.added) frames adds.fly) (all-append (IsOf these) flights adds.added all adds.are_for)
+      subst (AllByRecursion Is) (flights_are (log ++ adds.more) (flights ++ adds.added) frames adds.fly) (all-append Is flights adds.added all adds.are_so)
 
   module _ (m : Machine) (is : Awaits m) (all : AreOf m.outside.outer) where
     fly : Fly is.log (on_air m.outside.outer.air.frames) m.outside.outer.air.frames
     fly = is.follows.fly
 
     -- the next one is
-    pub next_marked : (frame : Flown) → next_of m.outside.outer.air.frames ≡ Some frame → is_marked these frame.node ≡ true
-    next_marked frame next =
-        let first = next_flight airs is.log (on_air m.outside.outer.air.frames) m.outside.outer.air.frames frame fly next in (subst (AllByRecursion (IsOf these)) first.1 all).0
+    pub next_is_so : (frame : Flown) → next_of m.outside.outer.air.frames ≡ Some frame → Is frame
+    next_is_so frame next =
+        let first = next_flight airs is.log (on_air m.outside.outer.air.frames) m.outside.outer.air.frames frame fly next in (subst (AllByRecursion Is) first.1 all).0
 
-    arrives_of : (drawn : List ℕ) (route : Option Route) (frame : Flown) → next_of m.outside.outer.air.frames ≡ Some frame → AreOf (happens_outside m.outside (Arrives drawn route)).outer
-    arrives_of drawn route frame next =
+    arrives_of : (drawn : List ℕ) (route : Option Route) (frame : Flown) → next_of m.outside.outer.air.frames ≡ Some frame → SpeakSo these Says m.outside.devices → AreOf (happens_outside m.outside (Arrives drawn route)).outer
+    arrives_of drawn route frame next speak =
         let first = next_flight airs is.log (on_air m.outside.outer.air.frames) m.outside.outer.air.frames frame fly next in
         let there : Fly is.log (frame ∷ first.0) m.outside.outer.air.frames = subst (λ (fs : List Flown). Fly is.log fs m.outside.outer.air.frames) first.1 fly in
-        let adds = arrives_add is.log frame first.0 (mesh_of m.outside) (next_marked frame next) there drawn route in
+        let adds = arrives_add is.log frame first.0 (mesh_of m.outside) (next_is_so frame next).0 there drawn route speak in
         let v : Outside = happens_outside m.outside (Arrives drawn route) in
-        adds_of is.log first.0 v.outer.air.frames (subst (AllByRecursion (IsOf these)) first.1 all).1 (subst (λ (a : AirState). Adds these is.log first.0 a.frames) (sym (arrived_air m.outside drawn route)) adds)
+        adds_of is.log first.0 v.outer.air.frames (subst (AllByRecursion Is) first.1 all).1 (subst (λ (a : AirState). Adds Is is.log first.0 a.frames) (sym (arrived_air m.outside drawn route)) adds)
 
-    acts_of : (found : Option State) (event : DeviceEvent) (route : Option Route) → ((device : State) → found ≡ Some device → (is_marked these device.node ≡ true) ⊎ (device_replies device event ≡ [])) → AreOf (acts_at m.outside.outer found event route).outer
-    acts_of None event route quiet = all
-    acts_of (Some device) event route quiet =
+    acts_of : (found : Option State) (event : DeviceEvent) (route : Option Route) → ((device : State) → found ≡ Some device → AnswersSo device.node (device_replies device event)) → AreOf (acts_at m.outside.outer found event route).outer
+    acts_of None event route says = all
+    acts_of (Some device) event route says =
         let o : OuterState = m.outside.outer in
         adds_of is.log (on_air o.air.frames) (acts_at o (Some device) event route).outer.air.frames all
-        (answers_add_if (is_joined o.air device.node) is.log (on_air o.air.frames) o.air device.node (option_map backwards route) (device_replies device event) (quiet device refl) fly)
+        (answers_add_if (is_joined o.air device.node) is.log (on_air o.air.frames) o.air device.node (option_map backwards route) (device_replies device event) (says device refl) fly)
 
-    wakes_of : (node : ℕ) (place : Option ℕ) (route : Option Route) → place_of node m.outside.devices ≡ place → is_marked these node ≡ true → AreOf (acts_by_hand m.outside.outer m.outside.devices place Wakes route).outer
-    wakes_of node None route first marked = all
-    wakes_of node (Some place) route first marked =
-        acts_of (slice_get m.outside.devices place) Wakes route (λ device there. inl (subst (λ (n : ℕ). is_marked these n ≡ true) (sym (place_is node m.outside.devices place device first there)) marked))
+    wakes_of : (node : ℕ) (place : Option ℕ) (route : Option Route) → place_of node m.outside.devices ≡ place → is_marked these node ≡ true → SpeakSo these Says m.outside.devices
+        → AreOf (acts_by_hand m.outside.outer m.outside.devices place Wakes route).outer
+    wakes_of node None route first marked speak = all
+    wakes_of node (Some place) route first marked speak =
+        acts_of (slice_get m.outside.devices place) Wakes route
+        (λ device there.
+        inl (subst (λ (n : ℕ). is_marked these n ≡ true) (sym (place_is node m.outside.devices place device first there)) marked, speak.woken node place device marked first there))
 
     takes_of : (count : ℕ) (rest : Rest) (ways : List (Item × Option Route)) → EachGoesTo these m.outside.outer.chip.state ways → AreOf (outcome m.outside (Chip_takes count rest ways)).outer
     unfolding outcome
     takes_of count rest ways sent =
         let o : OuterState = m.outside.outer in
         let p : OuterState = (each chip_does (fed_chip o count rest) (judged_all ways)).outer in
-        adds_of is.log (on_air o.air.frames) p.air.frames all (judges_add airs these many is.log (on_air o.air.frames) (fed_chip o count rest) ways sent fly)
+        adds_of is.log (on_air o.air.frames) p.air.frames all
+        (adds_weaker (IsSentFor these) Is (sent_saying these Says) is.log (on_air o.air.frames) p.air.frames (judges_add airs these many is.log (on_air o.air.frames) (fed_chip o count rest) ways sent fly))
+
+    -- a device of these says so in its tick; another says nothing
+    ticks_of : (same : Same) (place : ℕ) (device : State) (drawn : List ℕ) → slice_get m.outside.devices place ≡ Some device → AllByRecursion (IsAway these) m.outside.devices → SpeakSo these Says m.outside.devices
+        → AnswersSo device.node (device_replies device (Ticks drawn))
+    ticks_of same place device drawn there away speak = by (ticks_quiet same these device drawn (all-get (IsAway these) m.outside.devices place device away there))
+      where
+        by : (is_marked these device.node ≡ true) ⊎ (device_replies device (Ticks drawn) ≡ []) → AnswersSo device.node (device_replies device (Ticks drawn))
+        by (inl marked) = inl (marked, speak.ticked place device drawn marked there)
+        by (inr none) = inr none
 
     outside_of : (same : Same) (event : OuterEvent) → IsQuietEvent event → May m (Outside_does event) → IsSentTo these m (Outside_does event) → IsCalledFor these event → AllByRecursion (IsAway these) m.outside.devices
-        → AreOf (happens_outside m.outside event).outer
+        → SpeakSo these Says m.outside.devices → AreOf (happens_outside m.outside event).outer
     unfolding outcome May MayOutside MayHappen
-    outside_of same Begins_line quiet may sent called away = all
-    outside_of same Begins_tick quiet may sent called away = all
-    outside_of same (Chip_takes count rest ways) quiet may sent called away =
+    outside_of same Begins_line quiet may sent called away speak = all
+    outside_of same Begins_tick quiet may sent called away speak = all
+    outside_of same (Chip_takes count rest ways) quiet may sent called away speak =
         entered_of (outcome m.outside (Chip_takes count rest ways)) (takes_of count rest ways sent) (outcome m.outside (Chip_takes count rest ways)).entries
-    outside_of same (Arrives drawn route) quiet may sent called away = by (next_of m.outside.outer.air.frames) refl may.1.0
+    outside_of same (Arrives drawn route) quiet may sent called away speak = by (next_of m.outside.outer.air.frames) refl may.1.0
       where
         by : (frame : Option Flown) → next_of m.outside.outer.air.frames ≡ frame → MayArriveIf (mesh_of m.outside) frame route → AreOf (happens_outside m.outside (Arrives drawn route)).outer
         by None next may_arrive = absurd may_arrive
-        by (Some frame) next may_arrive = arrives_of drawn route frame next
-    outside_of same (Gives route) quiet may sent called away = same_of m.outside.outer (happens_outside m.outside (Gives route)).outer (given_first m.outside route).air all
-    outside_of same (Device_ticks place drawn route) quiet may sent called away =
+        by (Some frame) next may_arrive = arrives_of drawn route frame next speak
+    outside_of same (Gives route) quiet may sent called away speak = same_of m.outside.outer (happens_outside m.outside (Gives route)).outer (given_first m.outside route).air all
+    outside_of same (Device_ticks place drawn route) quiet may sent called away speak =
         entered_of (acts_at m.outside.outer (slice_get m.outside.devices place) (Ticks drawn) route)
-        (acts_of (slice_get m.outside.devices place) (Ticks drawn) route (λ device there. ticks_quiet same these device drawn (all-get (IsAway these) m.outside.devices place device away there)))
-        (outcome m.outside (Device_ticks place drawn route)).entries
-    outside_of same Chip_ticks quiet may sent called away = same_of m.outside.outer (happens_outside m.outside Chip_ticks).outer (chip_counts m.outside).0 all
-    outside_of same (Wakes_device node route) quiet may sent called away =
-        entered_of (acts_by_hand m.outside.outer m.outside.devices (place_of node m.outside.devices) Wakes route) (wakes_of node (place_of node m.outside.devices) route refl called)
+        (acts_of (slice_get m.outside.devices place) (Ticks drawn) route (λ device there. ticks_of same place device drawn there away speak)) (outcome m.outside (Device_ticks place drawn route)).entries
+    outside_of same Chip_ticks quiet may sent called away speak = same_of m.outside.outer (happens_outside m.outside Chip_ticks).outer (chip_counts m.outside).0 all
+    outside_of same (Wakes_device node route) quiet may sent called away speak =
+        entered_of (acts_by_hand m.outside.outer m.outside.devices (place_of node m.outside.devices) Wakes route) (wakes_of node (place_of node m.outside.devices) route refl called speak)
         (outcome m.outside (Wakes_device node route)).entries
-    outside_of same (Shows node) quiet may sent called away = entered_of (outcome m.outside (Shows node)) all (outcome m.outside (Shows node)).entries
-    outside_of same (Cuts size) quiet may sent called away = all
-    outside_of same (Host_writes unit) quiet may sent called away = absurd (let no : false ≡ true = may.0 in cc)
-    outside_of same (Host_takes count) quiet may sent called away = absurd (let no : false ≡ true = may.0 in cc)
-    outside_of same (Host_notes note) quiet may sent called away = absurd (let no : false ≡ true = may.0 in cc)
-    outside_of same (Host_begins node sessions) quiet may sent called away = absurd (let no : false ≡ true = may.0 in cc)
-    outside_of same event quiet may sent called away = absurd quiet
+    outside_of same (Shows node) quiet may sent called away speak = entered_of (outcome m.outside (Shows node)) all (outcome m.outside (Shows node)).entries
+    outside_of same (Cuts size) quiet may sent called away speak = all
+    outside_of same (Host_writes unit) quiet may sent called away speak = absurd (let no : false ≡ true = may.0 in cc)
+    outside_of same (Host_takes count) quiet may sent called away speak = absurd (let no : false ≡ true = may.0 in cc)
+    outside_of same (Host_notes note) quiet may sent called away speak = absurd (let no : false ≡ true = may.0 in cc)
+    outside_of same (Host_begins node sessions) quiet may sent called away speak = absurd (let no : false ≡ true = may.0 in cc)
+    outside_of same event quiet may sent called away speak = absurd quiet
 
-    pub event_of : (same : Same) (event : Event) → CoversOuter IsQuietEvent event → May m event → IsSentTo these m event → IsLineFor these event → AllByRecursion (IsAway these) m.outside.devices → AreOf (happens m event).outside.outer
+    pub event_of : (same : Same) (event : Event) → CoversOuter IsQuietEvent event → May m event → IsSentTo these m event → IsLineFor these event → AllByRecursion (IsAway these) m.outside.devices
+        → SpeakSo these Says m.outside.devices → AreOf (happens m event).outside.outer
     unfolding happens
-    event_of same (Outside_does event) covers may sent called away = outside_of same event covers may sent called away
-    event_of same (Host_does event) covers may sent called away = calm_of m.outside.outer (happens m (Host_does event)).outside.outer (does_calm airs m event) all
-    event_of same (Host_takes_all count rest items events) covers may sent called away =
+    event_of same (Outside_does event) covers may sent called away speak = outside_of same event covers may sent called away speak
+    event_of same (Host_does event) covers may sent called away speak = calm_of m.outside.outer (happens m (Host_does event)).outside.outer (does_calm airs m event) all
+    event_of same (Host_takes_all count rest items events) covers may sent called away speak =
         calm_of m.outside.outer (happens m (Host_takes_all count rest items events)).outside.outer (takes_calm airs m count rest items events) all
-    event_of same Decoder_ticks covers may sent called away = all
-    event_of same (refuses_line line refusal) covers may sent called away = calm_of m.outside.outer (happens m (refuses_line line refusal)).outside.outer (enters_calm airs m _) all
-    event_of same (Shows_values node) covers may sent called away = calm_of m.outside.outer (happens m (Shows_values node)).outside.outer (enters_calm airs m _) all
-    event_of same (Restarts state) covers may sent called away = all
+    event_of same Decoder_ticks covers may sent called away speak = all
+    event_of same (refuses_line line refusal) covers may sent called away speak = calm_of m.outside.outer (happens m (refuses_line line refusal)).outside.outer (enters_calm airs m _) all
+    event_of same (Shows_values node) covers may sent called away speak = calm_of m.outside.outer (happens m (Shows_values node)).outside.outer (enters_calm airs m _) all
+    event_of same (Restarts state) covers may sent called away speak = all
 
 -- ---- payloads that come to the chip
 
-module _ (these : List Bool) where
-  pub answer_from : IsFrom these answer_taken
+module _ (these : List Bool) (Says : List ℕ → Type 0) where
+  abbrev Comes : FrameParts → Type 0
+  Comes = IsFromSaying these Says
+
+  answer_from : Comes answer_taken
   answer_from n payload e = let no = ap (λ (f : FrameParts). f.kind) e in absurd cc
 
-  update_from : (update : Update) → IsFrom these (notice_frame (ApplicationUpdate update))
+  update_from : (update : Update) → Comes (notice_frame (ApplicationUpdate update))
   update_from update n payload e = let no = ap (λ (f : FrameParts). f.func) e in absurd cc
 
-  call_from : (sent : Sending) (status : TransmitStatus) → IsFrom these (callback_frame sent status)
+  call_from : (sent : Sending) (status : TransmitStatus) → Comes (callback_frame sent status)
   call_from sent status n payload e = let no = ap (λ (f : FrameParts). f.func) e in absurd cc
 
-  payload_from : (from : ℕ) (payload : List ℕ) → is_marked these from ≡ true → IsFrom these (notice_frame (ApplicationCommandHandler 0 from payload))
-  payload_from from payload marked n other e = let same : from ≡ n = ap (λ (f : FrameParts). slice_index f.body 1) e in subst (λ (k : ℕ). is_marked these k ≡ true) same marked
+  payload_from : (from : ℕ) (payload : List ℕ) → is_marked these from ≡ true → Says payload → Comes (notice_frame (ApplicationCommandHandler 0 from payload))
+  payload_from from payload marked says n other e =
+      let same : from ≡ n = ap (λ (f : FrameParts). slice_index f.body 1) e in
+      let text : payload ≡ other = ap (λ (f : FrameParts). drop 3 f.body) e in
+      (subst (λ (k : ℕ). is_marked these k ≡ true) same marked, subst Says text says)
 
-  abbrev PortFrom : ChipState → Type 0
-  PortFrom s = AllFrom these (line_of s.port)
-
-  ended_from : (s : ChipState) (sending : Option Sending) (status : TransmitStatus) → PortFrom s → PortFrom (ended sending s status)
-  ended_from s None status all = all
-  ended_from s (Some sent) status all = given_says (IsFrom these) (AllFrom these) (all_piled (IsFrom these)) s (callback_frame sent status) all (call_from sent status)
-
-  result_from : (s : ChipState) (event : ChipEvent) → IsResult event → PortFrom s → PortFrom (after s event)
-  result_from s (Informed n profile) result all = given_says (IsFrom these) (AllFrom these) (all_piled (IsFrom these)) s _ all (update_from (update_of n profile))
-  result_from s (Done status) result all = by (s.aborted == 0)
-    where
-      by : (b : Bool) → PortFrom (if b then ended s.sending s status else record s { aborted = s.aborted - 1 })
-      by true = ended_from s s.sending status all
-      by false = all
-  result_from s event result all = absurd result
-
-  abbrev Leaves : OuterState → Outcome → Type 0
-  Leaves o x = PortFrom o.chip.state → PortFrom x.outer.chip.state
-
-  calls : Calls Leaves
-  calls = record {
-    still = λ o p is all. subst PortFrom (sym is.chip) all;
-    both = λ o first next one later all. later first.outer (one all);
-    later = λ o p x is goes all. goes (subst PortFrom (sym is.chip) all);
-    result = λ o event is all. subst PortFrom (sym (does_chip o event)) (result_from o.chip.state event is all);
-  }
-
-  ends_from : (o : OuterState) (status : ℕ) (dead : Option (ℕ × ℕ)) → Leaves o (frame_ends o status dead)
-  ends_from = end_goes Leaves calls (λ o a b all. all)
-
-  comes_from : (o : OuterState) (from : ℕ) (payload : List ℕ) → is_marked these from ≡ true → Leaves o (to_chip o from payload)
-  comes_from o from payload marked all = by (nat_le 1 (length payload) && nat_le (length payload) 46)
-    where
-      by : (b : Bool) → PortFrom (if b then chip_does o (chip_hears from payload) else silent o).outer.chip.state
-      by true =
-          subst PortFrom (sym (does_chip o (chip_hears from payload)))
-          (given_says (IsFrom these) (AllFrom these) (all_piled (IsFrom these)) o.chip.state (notice_frame (ApplicationCommandHandler 0 from payload)) all (payload_from from payload marked))
-      by false = all
-
-  deals_from : (devices : List State) (o : OuterState) (event : AirEvent) → IsFromOf these event → Leaves o (deals devices o event)
-  deals_from devices o (air_event.ToChip frame from payload) member = comes_from o from payload member.is_joined
-  deals_from devices o (air_event.Done frame status dead) member = ends_from o status dead
-  deals_from devices o (air_event.Heard frame) member = λ all. all
-  deals_from devices o (air_event.Lost frame) member = λ all. all
-  deals_from devices o (air_event.Unheard frame) member = λ all. all
-  deals_from devices o (air_event.Sent frame from to route payload) member = λ all. all
-  deals_from devices o (air_event.Changed node at) member = λ all. all
-
-  all_from : (devices : List State) (o : OuterState) (events : List AirEvent) → AllByRecursion (IsFromOf these) events → PortFrom o.chip.state → PortFrom (each (deals devices) o events).outer.chip.state
-  all_from devices o [] members all = all
-  all_from devices o (event ∷ events) members all = all_from devices (deals devices o event).outer events members.1 (deals_from devices o event members.0 all)
-
-  arrival_says : (w : Outside) (drawn : List ℕ) (route : Option Route) → AllByRecursion (IsFromOf these) (mesh_outs (mesh_of w) (mesh.Arrives drawn route)) → PortFrom w.outer.chip.state → PortFrom (outcome w (Arrives drawn route)).outer.chip.state
-  unfolding outcome
-  arrival_says w drawn route members all =
-      all_from (mesh_after (mesh_of w) (mesh.Arrives drawn route)).devices (record w.outer { air = (mesh_after (mesh_of w) (mesh.Arrives drawn route)).air }) (mesh_outs (mesh_of w) (mesh.Arrives drawn route)) members all
-
-  -- a frame arrives, of a joined node that is one of these
-  pub arrives_from : (m : Machine) (drawn : List ℕ) (route : Option Route) → ((frame : Flown) → next_of m.outside.outer.air.frames ≡ Some frame → is_marked these frame.node ≡ true)
-      → SpeaksHome m.outside.outer.chip.state.joined m.outside.outer → IsGiven 0 m → IsGiven 0 (happens m (Outside_does (Arrives drawn route))) → AllFrom these (unheard m.outside.outer)
-      → AllFrom these (unheard (happens m (Outside_does (Arrives drawn route))).outside.outer)
-  arrives_from m drawn route marked speaks given later all =
-      of_port (IsFrom these) (AllFrom these) (all_piled (IsFrom these)) 0 (happens m (Outside_does (Arrives drawn route))).outside.outer later.has
-      (subst PortFrom (sym (chip_is (IsFrom these) (AllFrom these) (all_piled (IsFrom these)) m (Arrives drawn route)))
-      (arrival_says m.outside drawn route
-      (arrival_of these m.outside drawn route
-      (λ frame next home.
-      let member : IsMember m.outside.outer.chip.state.joined frame.node = next_of_member m.outside.outer.chip.state.joined m.outside.outer.air.frames speaks.frames frame next home in
-      record { is_node = member.is_node; is_joined = marked frame next }))
-      (on_port (IsFrom these) (AllFrom these) (all_piled (IsFrom these)) 0 m.outside.outer given.has all)))
+  -- at each event: a frame that arrives is of one of these, and says so
+  pub pending_from : (airs : Airs) (here next : Phase) (m : Machine) (event : Event) → Goes here m event next → May m event → LineAt here m × RoomAt here m × IsRouted m.outside.outer × TieAt here m → AwaitsAt here m → LineAt next (happens m event)
+      → ((frame : Flown) → next_of m.outside.outer.air.frames ≡ Some frame → IsOfSaying these Says frame) → AllByRecursion (IsFromSaying these Says) (unheard m.outside.outer)
+      → AllByRecursion (IsFromSaying these Says) (unheard (happens m event).outside.outer)
+  pending_from airs here next m event goes may at awaits later next_is all =
+      event_says Comes (AllByRecursion Comes) (all_piled Comes) airs answer_from (all_behind Comes) here next m event goes may at
+      (λ drawn route arrives given then_given.
+      arrives_says Comes (AllByRecursion Comes) (all_piled Comes) update_from call_from m drawn route given then_given
+      (λ frame is home. payload_from frame.node frame.payload (next_is frame is).0 ((next_is frame is).1 home)) all) awaits all later

@@ -11,6 +11,7 @@ use Rattle.zw_text.specs.Transcript.{line_of, lines_run}
 use Rattle.zw_text.proofs.Views.{shown-append}
 use Rattle.law_transcript.proofs.Deciding.{not_true}
 use Rattle.law_time.specs.Stretches.{is_quiet_line}
+use Rattle.zw_base.proofs.Each.{all-weaker}
 use Rattle.zw_base.specs.declared.order.Order.{Order}
 use Rattle.host_orders.specs.declared.carriage.Carriage.{Carriage}
 use Rattle.host_model.specs.Events.{HostEvent, Accepts}
@@ -26,6 +27,7 @@ use Rattle.proof_calm.specs.proof_work.proof_walk.Phases.{Phase, Between, Said_l
 use Rattle.proof_calm.specs.proof_work.proof_walk.Outside.{CoversOuter}
 use Rattle.proof_calm.specs.proof_work.proof_walk.Walk.{Walk, WalkWhere}
 use Rattle.proof_calm.proofs.proof_traffic_Parts.{Airs}
+use Rattle.proof_calm.specs.proof_traffic.OnAir.{on_air}
 use Rattle.proof_calm.specs.Awaited.{Awaits}
 use Rattle.proof_calm.specs.Marks.{IsQuietEvent}
 use Rattle.proof_calm.specs.Resting.{LineAt}
@@ -34,12 +36,11 @@ use Rattle.proof_calm.proofs.Peopled.{covers_of}
 use Rattle.proof_calm.proofs.Quiet.{all_both}
 use Rattle.proof_calm.proofs.Unmarked.{nothing_asked}
 use Rattle.world_model.proofs.Hosting.{devices_host-all}
-use Rattle.proof_answered.specs.Outward.{IsSentTo}
-use Rattle.proof_answered.specs.Workers.{AllFrom, IsAway, IsFrom, IsLineFor, IsOrderFor, IsWorkedFor, IsWorkFor, KnowStaff, KnowWorkers, LinesAt, OnlySpeak, Staffed, is_accepted_for, is_line_for}
+use Rattle.proof_answered.specs.Outward.{IsOf, IsOfSaying, IsSentTo}
+use Rattle.proof_answered.specs.Workers.{AllFrom, IsAway, IsFrom, IsFromSaying, IsLineFor, IsOrderFor, IsWorkedFor, IsWorkFor, KnowStaff, KnowWorkers, LinesAt, OnlySpeak, Staffed, is_accepted_for, is_line_for}
 use Rattle.proof_answered.proofs.Outwards.{awaits_of}
-use Rattle.proof_answered.proofs.Speaking.{Same, answer_from, arrives_from, event_of, next_marked, outside_away}
+use Rattle.proof_answered.proofs.Speaking.{AnyText, Same, event_of, next_is_so, outside_away, pending_from, speak_any}
 use Rattle.proof_answered.proofs.Staffing.{sent_on}
-use Rattle.proof_answered.proofs.Unheard.{all_behind, all_piled, event_says}
 use Rattle.proof_answered.proofs.Walking.{stretched_before, takes_still}
 
 -- ---- lines that were said
@@ -95,7 +96,7 @@ effect_for these line m events quiet is_for is = absurd (not_true quiet)
 line_as : (these : List Bool) (event is : Event) → event ≡ is → IsLineFor these is → IsLineFor these event
 line_as these event is same is_for = subst (IsLineFor these) (sym same) is_for
 
-line_on : (these : List Bool) (here next : Phase) (m : Machine) (event : Event) → Goes here m event next → LinesAt these here → IsLineFor these event
+pub line_on : (these : List Bool) (here next : Phase) (m : Machine) (event : Event) → Goes here m event next → LinesAt these here → IsLineFor these event
 line_on these (Said_line line) next m event (is, to) at = line_as these event _ is tt
 line_on these (Doing line (first ∷ left)) next m event (is, to) at = line_as these event first is at.0
 line_on these (To_tick (suc ticks)) next m event (is, to) at = line_as these event _ is tt
@@ -185,15 +186,19 @@ module _ (airs : Airs) (same : Same) (these : List Bool) (many : length these �
         let awaits : Awaits m = awaits_of here m tied.1 in
         let covers = covers_of here next m event goes tied.0 in
         let sent : IsSentTo these m event = sent_on these here next m event goes may tied.0 tied.6 (at.0.1 before.stretched) in
-        let marked = next_marked airs these many m awaits speak.frames in (
+        let frames = all-weaker (IsOf these) (IsOfSaying these AnyText) (λ frame of. (of, λ home. tt)) (on_air m.outside.outer.air.frames) speak.frames in
+        let pending = all-weaker (IsFrom these) (IsFromSaying these AnyText) (λ frame from n payload is. (from n payload is, tt)) (unheard m.outside.outer) speak.pending in
+        let next_is = next_is_so airs these AnyText many m awaits frames in
+        let devices = speak_any these m.outside.devices in (
           later,
           record {
             lines = lines_next these here next m event goes at.1.lines;
             speak = record {
-              frames = event_of airs these many m awaits speak.frames same event covers may sent is_for speak.devices;
-              devices = event_away m event covers is_for marked speak.devices;
-              pending = event_says (IsFrom these) (AllFrom these) (all_piled (IsFrom these)) airs (answer_from these) (all_behind (IsFrom these)) here next m event goes may (tied.0, tied.2, tied.3, tied.6)
-                  (λ drawn route arrives given then_given. arrives_from these m drawn route marked tied.7.speaks given then_given speak.pending) tied.1 speak.pending next_tied.0;
+              frames = all-weaker (IsOfSaying these AnyText) (IsOf these) (λ frame of. of.0) (on_air (happens m event).outside.outer.air.frames)
+                  (event_of airs these AnyText many m awaits frames same event covers may sent is_for speak.devices devices);
+              devices = event_away m event covers is_for (λ frame next. (next_is frame next).0) speak.devices;
+              pending = all-weaker (IsFromSaying these AnyText) (IsFrom these) (λ frame from n payload is. (from n payload is).0) (unheard (happens m event).outside.outer)
+                  (pending_from these AnyText airs here next m event goes may (tied.0, tied.2, tied.3, tied.6) tied.1 next_tied.0 next_is pending);
             };
           },
         )

@@ -79,7 +79,7 @@ none_wants true true c d e f g none wants = absurd (let no : true ≡ false = no
 none_wants true false c d e f g none wants = absurd (let no : false ≡ true = wants in cc)
 none_wants false b c d e f g none wants = absurd (let no : false ≡ true = wants in cc)
 
-still_wants : (n : NodeState) → IsStill n → wants_no_more n ≡ true → ⊥
+pub still_wants : (n : NodeState) → IsStill n → wants_no_more n ≡ true → ⊥
 still_wants n still wants = none_wants n.awake (is_false n.listens) (is_some n.classes) (is_unasked n.no_more) (is_false (has_waiting n)) (is_idle n.series) (n.hold == 0) still.rests wants
 
 pub still_rests : Resting IsStill

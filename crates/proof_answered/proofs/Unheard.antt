@@ -1,5 +1,5 @@
 -- What is so of the frames that the chip has for the host, from phase to phase of quiet lines and ticks: where it stays so as one is given more in a tick, or its answer.
-use Rattle.std.proofs.Common.{◌≡◌, ◌≤◌, ℕ, suc, ◌+◌, Bool, true, false, if◌then◌else◌, inl, inr, List, [], ◌∷◌, ◌++◌, length, refl, sym, ap, ◌∙◌, subst, arith}
+use Rattle.std.proofs.Common.{◌≡◌, ◌≤◌, ℕ, suc, ◌+◌, ◌-◌, ◌==◌, ◌&&◌, nat_le, Bool, true, false, if◌then◌else◌, inl, inr, List, [], ◌∷◌, ◌++◌, length, refl, sym, ap, ◌∙◌, subst, arith}
 use Rattle.std.specs.Prelude.{◌⊎◌, Option, Some, None, slice_get}
 use Rattle.std.specs.List.{AllByRecursion}
 use Rattle.zw_base.proofs.Each.{all-append}
@@ -12,7 +12,16 @@ use Rattle.serial_link.specs.declared.turn.Turn.{Turn}
 use Rattle.serial_link.specs.declared.turn.Turn.TheVariants.{Idle, Copied, Paused}
 use Rattle.serial_pipes.specs.State.{WayState}
 use Rattle.route_table.specs.declared.route.Route.{Route}
-use Rattle.chip_sim.specs.Events.{Ticked as chip_ticked}
+use Rattle.chip_functions.specs.declared.notice.Notice.TheVariants.{ApplicationCommandHandler, ApplicationUpdate}
+use Rattle.chip_functions.specs.declared.notice.TransmitStatus.{TransmitStatus}
+use Rattle.chip_functions.specs.declared.notice.Update.{Update}
+use Rattle.chip_sim.specs.Answers.{notice_frame}
+use Rattle.chip_sim.specs.Events.{ChipEvent, Done, Heard as chip_hears, Informed, Ticked as chip_ticked, after as after_chip_event, ended, update_of}
+use Rattle.chip_sim.specs.Requests.{callback_frame}
+use Rattle.chip_sim.specs.declared.out.Sending.{Sending}
+use Rattle.air_frames.specs.Flown.{Flown}
+use Rattle.air_frames.specs.Frames.{next_of}
+use Rattle.air_frames.specs.declared.frame.Heading.TheVariants.{Homeward}
 use Rattle.chip_sim.specs.Did.{after_all as after_chip, judged_all}
 use Rattle.chip_sim.specs.State.{ChipParts, ChipState}
 use Rattle.chip_sim.specs.Waiting.{PortState, is_full, queued, queued_at}
@@ -22,9 +31,16 @@ use Rattle.host_model.specs.Events.{HostEvent, Accepts}
 use Rattle.host_model.specs.Pumping.{no_more_event}
 use Rattle.host_model.specs.Ticking.{tick_events}
 use Rattle.mesh_sim.specs.Fates.{place_of}
-use Rattle.outside_model.specs.State.{OuterState, Outcome}
+use Rattle.mesh_sim.specs.Steps.{mesh_after, mesh_outs}
+use Rattle.mesh_sim.specs.Steps as mesh
+use Rattle.mesh_sim.specs.declared.event.AirEvent.{AirEvent}
+use Rattle.mesh_sim.specs.declared.event.AirEvent.TheVariants as air_event
+use Rattle.outside_model.specs.Air.{deals, to_chip}
+use Rattle.outside_model.specs.Chip.{chip_does}
+use Rattle.outside_model.specs.Results.{frame_ends}
+use Rattle.outside_model.specs.State.{OuterState, Outcome, Outside, each, silent}
 use Rattle.outside_model.specs.Devices.{acts_at, acts_by_hand}
-use Rattle.outside_model.specs.Events.{OuterEvent, Begins_line, Begins_tick, Arrives, Device_ticks, Chip_ticks, Chip_takes, Wakes_device, Shows, Cuts, has_entered, outcome}
+use Rattle.outside_model.specs.Events.{OuterEvent, Begins_line, Begins_tick, Arrives, Device_ticks, Chip_ticks, Chip_takes, Wakes_device, Shows, Cuts, has_entered, mesh_of, outcome}
 use Rattle.world_model.specs.State.{Machine}
 use Rattle.world_model.specs.Events.{Event, Outside_does, Host_does, Host_takes, Decoder_ticks, Refuses, Shows_values, happens, May}
 use Rattle.proof_calm.specs.proof_work.proof_walk.Phases.{Phase, Said_line, Begun, Doing, To_tick, Ticked, Arriving, Giving, Ticking_devices, Ticking_chip, Ticking_decoder, Ticking_host, Sleeping, Submitting, Moving, Moved, Goes}
@@ -41,7 +57,9 @@ use Rattle.proof_calm.specs.Tied.{HasRoom, RoomAt, TieAt, TieOf, on_line, unhear
 use Rattle.proof_calm.proofs.ChipPart.{entered_state}
 use Rattle.proof_calm.proofs.HostTurns.{host_turns}
 use Rattle.proof_calm.proofs.Idle.{host_idles}
-use Rattle.proof_calm.proofs.Pending.{counted_line, has_unheard, line_of}
+use Rattle.proof_calm.proofs.Homing.{arrival_of}
+use Rattle.proof_calm.proofs.Pending.{IsFromAs, counted_line, has_unheard, line_of}
+use Rattle.proof_calm.proofs.Results.{Calls, IsResult, end_goes}
 use Rattle.proof_calm.proofs.Following.{kept}
 use Rattle.proof_calm.proofs.Requested.{Judges, moved_frames, taken_state}
 use Rattle.proof_calm.proofs.Submitting.{written}
@@ -164,6 +182,72 @@ module _ (Says : FrameParts → Type 0) (On : List FrameParts → Type 0) (piled
     where
       at : OuterState
       at = record m.outside.outer { chip = record { decoder = after_tick m.outside.outer.chip.decoder; state = m.outside.outer.chip.state } }
+
+  -- ---- a frame arrives
+
+  -- the chip is given updates, calls, and what the frame brings
+  module _ (update : (told : Update) → Says (notice_frame (ApplicationUpdate told))) (call : (sent : Sending) (status : TransmitStatus) → Says (callback_frame sent status)) where
+    ended_says : (s : ChipState) (sending : Option Sending) (status : TransmitStatus) → PortSays s → PortSays (ended sending s status)
+    ended_says s None status all = all
+    ended_says s (Some sent) status all = given_says s (callback_frame sent status) all (call sent status)
+
+    result_says : (s : ChipState) (event : ChipEvent) → IsResult event → PortSays s → PortSays (after_chip_event s event)
+    result_says s (Informed n profile) result all = given_says s _ all (update (update_of n profile))
+    result_says s (Done status) result all = by (s.aborted == 0)
+      where
+        by : (b : Bool) → PortSays (if b then ended s.sending s status else record s { aborted = s.aborted - 1 })
+        by true = ended_says s s.sending status all
+        by false = all
+    result_says s event result all = absurd result
+
+    abbrev Leaves : OuterState → Outcome → Type 0
+    Leaves o x = PortSays o.chip.state → PortSays x.outer.chip.state
+
+    calls : Calls Leaves
+    calls = record {
+      still = λ o p is all. subst PortSays (sym is.chip) all;
+      both = λ o first next one later all. later first.outer (one all);
+      later = λ o p x is goes all. goes (subst PortSays (sym is.chip) all);
+      result = λ o event is all. subst PortSays (sym (does_chip o event)) (result_says o.chip.state event is all);
+    }
+
+    ends_say : (o : OuterState) (status : ℕ) (dead : Option (ℕ × ℕ)) → Leaves o (frame_ends o status dead)
+    ends_say = end_goes Leaves calls (λ o a b all. all)
+
+    comes_say : (o : OuterState) (from : ℕ) (payload : List ℕ) → Says (notice_frame (ApplicationCommandHandler 0 from payload)) → Leaves o (to_chip o from payload)
+    comes_say o from payload says all = by (nat_le 1 (length payload) && nat_le (length payload) 46)
+      where
+        by : (b : Bool) → PortSays (if b then chip_does o (chip_hears from payload) else silent o).outer.chip.state
+        by true = subst PortSays (sym (does_chip o (chip_hears from payload))) (given_says o.chip.state (notice_frame (ApplicationCommandHandler 0 from payload)) all says)
+        by false = all
+
+    abbrev Brings : ℕ → List ℕ → Type 0
+    Brings from payload = Says (notice_frame (ApplicationCommandHandler 0 from payload))
+
+    deals_say : (devices : List State) (o : OuterState) (event : AirEvent) → IsFromAs Brings event → Leaves o (deals devices o event)
+    deals_say devices o (air_event.ToChip frame from payload) says = comes_say o from payload says
+    deals_say devices o (air_event.Done frame status dead) says = ends_say o status dead
+    deals_say devices o (air_event.Heard frame) says = λ all. all
+    deals_say devices o (air_event.Lost frame) says = λ all. all
+    deals_say devices o (air_event.Unheard frame) says = λ all. all
+    deals_say devices o (air_event.Sent frame from to route payload) says = λ all. all
+    deals_say devices o (air_event.Changed node at) says = λ all. all
+
+    all_say : (devices : List State) (o : OuterState) (events : List AirEvent) → AllByRecursion (IsFromAs Brings) events → PortSays o.chip.state → PortSays (each (deals devices) o events).outer.chip.state
+    all_say devices o [] says all = all
+    all_say devices o (event ∷ events) says all = all_say devices (deals devices o event).outer events says.1 (deals_say devices o event says.0 all)
+
+    arrival_says : (w : Outside) (drawn : List ℕ) (route : Option Route) → AllByRecursion (IsFromAs Brings) (mesh_outs (mesh_of w) (mesh.Arrives drawn route)) → PortSays w.outer.chip.state → PortSays (outcome w (Arrives drawn route)).outer.chip.state
+    unfolding outcome
+    arrival_says w drawn route says all =
+        all_say (mesh_after (mesh_of w) (mesh.Arrives drawn route)).devices (record w.outer { air = (mesh_after (mesh_of w) (mesh.Arrives drawn route)).air }) (mesh_outs (mesh_of w) (mesh.Arrives drawn route)) says all
+
+    pub arrives_says : (m : Machine) (drawn : List ℕ) (route : Option Route) → IsGiven 0 m → IsGiven 0 (happens m (Outside_does (Arrives drawn route)))
+        → ((frame : Flown) → next_of m.outside.outer.air.frames ≡ Some frame → frame.heading ≡ Homeward → Brings frame.node frame.payload) → AllSay (unheard m.outside.outer)
+        → AllSay (unheard (happens m (Outside_does (Arrives drawn route))).outside.outer)
+    arrives_says m drawn route given later brings all =
+        of_port 0 (happens m (Outside_does (Arrives drawn route))).outside.outer later.has
+        (subst PortSays (sym (chip_is m (Arrives drawn route))) (arrival_says m.outside drawn route (arrival_of Brings m.outside drawn route brings) (on_port 0 m.outside.outer given.has all)))
 
   -- ---- a pass
 

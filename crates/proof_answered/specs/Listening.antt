@@ -1,15 +1,10 @@
 -- Devices that listen (this project's own kinds): they are awake at all times, so each frame for one is heard.
-use Rattle.std.specs.Prelude.{◌≡◌, ℕ, true, List, Some, slice_get}
-use Rattle.device_kinds.specs.Kind.{listens}
+use Rattle.std.specs.Prelude.{◌≡◌, ℕ, List, Some, slice_get}
+pub use Rattle.law_time.specs.law_wire.Listening.{IsUp}
 use Rattle.device_sim.specs.State.{State}
 use Rattle.mesh_sim.specs.Fates.{place_of}
 
--- a device is of a kind that listens, and awake
-pub record IsUp (device : State) : Type 0 where
-  pub is_listening : listens device.kind ≡ true
-  pub awake : device.awake ≡ true
-
--- so is the first one of a node
+-- the first device of a node is of a kind that listens, and awake
 pub record HasListener (node : ℕ) (devices : List State) : Type 0 where
   pub place : ℕ
   pub device : State

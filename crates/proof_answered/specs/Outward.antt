@@ -3,7 +3,7 @@ use Rattle.std.specs.Prelude.{◌≡◌, ℕ, true, Bool, List, [], ◌∷◌, O
 use Rattle.std.specs.List.{AllByRecursion}
 use Rattle.zw_text.specs.declared.entry.Entry.{Entry}
 use Rattle.air_frames.specs.Flown.{Flown}
-use Rattle.air_frames.specs.declared.frame.Heading.TheVariants.{Outward}
+use Rattle.air_frames.specs.declared.frame.Heading.TheVariants.{Homeward, Outward}
 use Rattle.serial_frame.specs.declared.item.Item.{Item}
 use Rattle.route_table.specs.declared.route.Route.{Route}
 use Rattle.chip_sim.specs.Events.{Judged, after, outs}
@@ -28,6 +28,10 @@ IsFor these frame = frame.heading ≡ Outward → is_marked these frame.node ≡
 -- any is for or of one of these
 abbrev pub IsOf : List Bool → Flown → Type 0
 IsOf these frame = is_marked these frame.node ≡ true
+
+-- and what one of a device says is so
+abbrev pub IsOfSaying : List Bool → (List ℕ → Type 0) → Flown → Type 0
+IsOfSaying these Says frame = IsOf these frame × (frame.heading ≡ Homeward → Says frame.payload)
 
 -- each that is on the air is for one of these, and the device of each of them listens
 pub record AllListen (these : List Bool) (m : Machine) : Type 0 where

@@ -41,6 +41,10 @@ KnowsWorkers these h = KnowsThese IsStill these h
 abbrev pub IsFrom : List Bool → FrameParts → Type 0
 IsFrom these frame = (n : ℕ) (payload : List ℕ) → frame ≡ notice_frame (ApplicationCommandHandler 0 n payload) → is_marked these n ≡ true
 
+-- and what it says is so
+abbrev pub IsFromSaying : List Bool → (List ℕ → Type 0) → FrameParts → Type 0
+IsFromSaying these Says frame = (n : ℕ) (payload : List ℕ) → frame ≡ notice_frame (ApplicationCommandHandler 0 n payload) → (is_marked these n ≡ true) × Says payload
+
 abbrev pub AllFrom : List Bool → List FrameParts → Type 0
 AllFrom these frames = AllByRecursion (IsFrom these) frames
 

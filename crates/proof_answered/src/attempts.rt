@@ -27,7 +27,7 @@ ghost use Rattle.proof_answered.specs.Outward.{AllListen, IsSentTo, KnowListenin
 ghost use Rattle.proof_answered.specs.Workers.{IsWorkedFor, KnowStaff, KnowsWorkers, OnlySpeak};
 
 use crate::{networks_hear, nodes_hear, payloads_are_heard, workers_alone_speak};
-use proof_calm::waking::traffic::frames_fly_in_order;
+use proof_calm::frames_fly_in_order;
 
 /// A request of an attempt that is called back as heard is a sign of its node, and the attempt goes on. So where each payload of the host is heard and the
 /// wait of no attempt runs out, each series that is due or runs is at its first attempt, at each phase of quiet lines and ticks. Which frames are heard is

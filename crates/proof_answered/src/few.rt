@@ -13,8 +13,7 @@ ghost use Rattle.proof_calm.specs.Tied.{IsTied};
 ghost use Rattle.proof_answered.specs.Few.{AreFew, AreIdle, IsStretched, KnowFew, woken_in};
 
 use device_sim::when_changes_come;
-use proof_calm::requests_stay_tied;
-use proof_calm::waking::traffic::frames_fly_in_order;
+use proof_calm::{frames_fly_in_order, requests_stay_tied};
 
 /// While at most 16 of the quiet lines wake a device, few frames are on the air: those that calls are to come for, three of devices, and one of each that
 /// was woken. So it is at each phase, from each machine where no device is at work, and few frames are on the air. The request of the host stays tied then.

@@ -15,7 +15,7 @@ ghost use Rattle.proof_answered.specs.Few.{AreFew, IsStretched};
 ghost use Rattle.proof_answered.specs.Heard.{AllSayHeard, IsHeardThen, KnowHeard};
 
 use crate::few_frames_fly;
-use proof_calm::waking::traffic::frames_fly_in_order;
+use proof_calm::frames_fly_in_order;
 
 /// Where each frame of the host that arrives is heard by a device, the call for each payload says that it was heard. So at each phase of quiet lines and
 /// ticks the call that the host has not judged says so, with which its request ends well.

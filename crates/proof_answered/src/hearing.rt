@@ -14,7 +14,7 @@ ghost use Rattle.proof_answered.specs.Heard.{AllSayHeard};
 ghost use Rattle.proof_answered.specs.Outward.{AllListen, IsSentTo, KnowListening, KnowNetwork};
 
 use crate::payloads_are_heard;
-use proof_calm::waking::traffic::frames_fly_in_order;
+use proof_calm::frames_fly_in_order;
 use proof_device::{devices_go_on, devices_stay_the_same};
 
 /// Where what the chip takes is for nodes of these, the device of each of them listens, and each frame of the host on the air is for one of them, that stays so

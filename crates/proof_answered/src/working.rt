@@ -19,7 +19,7 @@ ghost use Rattle.proof_answered.specs.Workers.{IsWorkFor, IsWorkedFor, KnowStaff
 
 use crate::nodes_hear;
 use host_model::attempts_have_what_they_give;
-use proof_calm::waking::traffic::frames_fly_in_order;
+use proof_calm::frames_fly_in_order;
 use proof_device::devices_stay_the_same;
 
 /// Where orders are for some nodes, and what comes to the host is of these, it has to do with these alone: of the others no series is due or runs, no command

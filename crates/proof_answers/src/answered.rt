@@ -9,16 +9,14 @@ ghost use Rattle.world_lines.specs.Done.{AreDone};
 ghost use Rattle.world_lines.specs.Whole.{AreWhole};
 ghost use Rattle.proof_answers.specs.Answered.{AnswersByLink};
 
-use proof_chip::line::traffic::{
-    frames_fly_in_order, hosts_make_requests, hosts_obey_the_line, outsides_make_requests,
-    requests_keep_facts,
+use proof_chip::{
+    calls_go_on, frames_fly_in_order, hosts_make_requests, hosts_obey_the_line,
+    lines_keep_and_ask_well, nodes_go_on, outsides_make_requests, requests_keep_facts,
 };
-use proof_chip::line::world::lines_keep_and_ask_well;
-use proof_chip::{calls_go_on, nodes_go_on};
-use proof_devices::air::walk::time_goes_on;
-use proof_devices::air::{history_goes_on, landings_go_on};
-use proof_devices::routes::{frames_go_on, networks_go_on};
-use proof_devices::{acks_go_on, devices_are_as_shown, devices_live_on};
+use proof_devices::{
+    acks_go_on, devices_are_as_shown, devices_live_on, frames_go_on, history_goes_on,
+    landings_go_on, networks_go_on, time_goes_on,
+};
 use proof_serial::hosts_write_well;
 
 /// Over any lines from the first on, the last of which an allocation failure may have cut short, over a keeper that tells its records and has none at first,

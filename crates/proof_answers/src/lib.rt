@@ -9,5 +9,11 @@
 mod answered;
 
 pub use answered::chips_answer_in_order;
-pub use proof_chip as chip;
-pub use proof_devices as devices;
+pub use proof_chip::{
+    lines_keep_and_ask_well, restarts_go_on, runs_take_once, the_machine_keeps_facts,
+};
+pub use proof_devices::{
+    dead_hops_are_forgotten, dead_hops_are_forgotten_in_the_end, devices_did, frames_go_by_route,
+    lines_are_done_by_devices, lines_bring_what_was_heard, lines_land_in_time,
+    lines_meet_what_is_due, lines_repeat_what_is_asked,
+};

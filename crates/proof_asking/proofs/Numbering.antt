@@ -4,14 +4,12 @@ use Rattle.std.specs.Prelude.{Option, Some, None, is_none, nat_le, slice_index}
 use Rattle.std.specs.List.{AllByRecursion, flat_map, list_all, list_any}
 use Rattle.std.proofs.lemmas.Bool.{and_from, both_ways, eq-eqb, le-leb, or_right}
 use Rattle.std.proofs.lemmas.Grind.{flat_map-append}
-use Rattle.zw_base.proofs.Each.{all-append, all-right, all-weaker}
+use Rattle.zw_base.proofs.Each.{all-weaker}
 use Rattle.serial_frame.specs.Frame.{FrameParts}
 use Rattle.serial_frame.specs.Items.{unit_text}
 use Rattle.serial_frame.specs.declared.item.Item.{Item}
-use Rattle.serial_frame.specs.declared.item.Item.TheVariants.{Good, Refused as refused_item}
-use Rattle.serial_frame.specs.declared.item.Refusal.TheVariants.{Stray, BadLength, BadSum, BadKind, Aborted}
 use Rattle.serial_frame.specs.declared.unit.Unit.{Unit as LineUnit}
-use Rattle.serial_frame.specs.declared.unit.Unit.TheVariants.{Ack, Nak, Can, Framed}
+use Rattle.serial_frame.specs.declared.unit.Unit.TheVariants.{Ack, Nak, Framed}
 use Rattle.serial_link.specs.State.{pause_after, turn_ticked}
 use Rattle.serial_link.specs.declared.turn.Turn.{Turn}
 use Rattle.serial_link.specs.declared.turn.Turn.TheVariants.{Idle, Copied, Paused}
@@ -54,18 +52,19 @@ use Rattle.host_model.specs.May.{IsFree}
 use Rattle.host_model.specs.Outs.{answer_to, answers, outs}
 use Rattle.host_model.specs.Pumping.{IsNext, IsPumped}
 use Rattle.host_model.specs.declared.out.HostOut.{HostOut}
-use Rattle.host_model.specs.declared.out.HostOut.TheVariants.{Note, Write}
+use Rattle.host_model.specs.declared.out.HostOut.TheVariants.{Write}
 use Rattle.proof_known.proofs.AttemptStarts.{IsNoBegin, after_free, follows_last}
 use Rattle.proof_known.proofs.ServedNodes.{begun_so, due_starts, not_pumped}
 use Rattle.proof_requests.specs.proof_alone.State.{HostMachine, done}
 use Rattle.proof_requests.specs.proof_alone.Steps.{AreFrames, AreTold, DidNotCome, IsOfOthers, IsOfUnit, Step, Tells, Comes, Misses, Says, Says_nothing, Asks, Refuses, Shows, Restarts, Begins_tick, Numbers, Judges, Does, entries, happens}
 use Rattle.proof_requests.specs.proof_alone.Phases.{Phase, Resting, Asked, Risen, Ticking, Open, Behind, Sleeping, Submitting, IsBetween, IsNumbered, May, Turns}
 use Rattle.proof_requests.specs.proof_alone.Runs.{WalkOver, both_know}
-use Rattle.proof_requests.specs.proof_waking.Judged.{IsOfRequest, KnowsJudged}
+use Rattle.proof_requests.specs.proof_waking.Judged.{KnowsJudged}
 use Rattle.proof_requests.proofs.proof_waking_Apart.{IsWordless, said_anew, said_in_vain, said_on, wordless_fresh, wordless_more}
-use Rattle.proof_requests.proofs.proof_waking_Followed.{MayFollow, frame_all}
-use Rattle.proof_requests.proofs.HostOuts.{OutsAre, OwnIs, SharedAre, outs_are}
-use Rattle.proof_requests.proofs.proof_waking_Parts.{IsNote}
+use Rattle.proof_requests.proofs.proof_waking_Followed.{MayFollow}
+use Rattle.proof_requests.proofs.HostOuts.{OwnIs, SharedAre, outs_are}
+use Rattle.proof_requests.proofs.proof_waking_Parts.{IsNote, notes_told, unit_told, item_told}
+use Rattle.proof_requests.proofs.proof_waking_Settling.{behind_follows}
 use Rattle.proof_requests.specs.Standing.{GoesOn as EntryGoesOn, standing_of}
 use Rattle.proof_requests.specs.Asking.{Doing, IsPaused, TieAsked, TieLine, doing_after, doing_from, doing_next, doing_of}
 use Rattle.proof_asking.specs.Numbers.{Awaits, CountsBefore, CountsIds, KnowsRequests, MaySend, Rests, ids_in}
@@ -78,7 +77,7 @@ use Rattle.proof_requests.proofs.Growing.{asked_anew, asked_copy, asked_in_vain,
 use Rattle.proof_requests.proofs.OnLine.{copies_now}
 use Rattle.proof_requests.proofs.Queued.{PayloadsBring}
 use Rattle.proof_requests.proofs.Queueing.{opened_asks}
-use Rattle.proof_requests.proofs.Stepping.{IsBeginning, Submits, asked_beside, behind_notes, asked_on as event_on, event_is_read, none_on, not_awaiting, submitted_is, time_told}
+use Rattle.proof_requests.proofs.Stepping.{IsBeginning, Submits, asked_beside, behind_notes, asked_on as event_on, event_is_read, first_same, node_notes, none_on, not_awaiting, submitted_is, time_told}
 use Rattle.proof_requests.proofs.Walking.{IsWritten, copy_line, is_fresh, is_old, line_does, line_notes, line_outs, noted_notes, turn_idle, written_told}
 
 -- ---- entries that ask for nothing
@@ -224,9 +223,6 @@ id_from d next (Some u) = by (next u)
 same_after : (d e : Doing) (next : UnderWay → Next) → e ≡ doing_after d next → e.id ≡ d.id
 same_after d e next is = ap (λ (x : Doing). x.id) is ∙ id_from d next d.under_way
 
-item_id : (h : HostState) (item : Item) → (after h (Hears item)).requests.last_id ≡ h.requests.last_id
-item_id h item = refl
-
 line_id : (h : HostState) → (after h Line_ticks).requests.last_id ≡ h.requests.last_id
 line_id h = ap (λ (x : Doing). x.id) (line_does h) ∙ by (gives_up h.side.turn (turn_ticked h.side.turn))
   where
@@ -264,11 +260,6 @@ note_id h event notes hears = ap (λ (d : Doing). d.id) (beside_same h event tt)
 
 -- ---- what is told
 
-notes_none : (puts : List HostOut) (told : List Entry) → AllByRecursion IsNote puts → OutsAre AsksNone puts → AreTold puts told → AllByRecursion AsksNone told
-notes_none [] told notes are is = subst (AllByRecursion AsksNone) (sym is) tt
-notes_none (Write unit ∷ puts) told notes are is = absurd notes.0
-notes_none (Note e ∷ puts) told notes are (rest, is, more) = subst (AllByRecursion AsksNone) (sym is) (are.0, notes_none puts rest notes.1 are.1 more)
-
 none_shared : SharedAre AsksNone
 none_shared = record {
   unanswered = λ command. tt;
@@ -292,7 +283,7 @@ own_none (Accepts order carriage) none = λ number. tt
 own_none event none = tt
 
 event_none : (h : HostState) (event : HostEvent) (told : List Entry) → BeginsNone event → AllByRecursion IsNote (outs h event) → AreTold (outs h event) told → AllByRecursion AsksNone told
-event_none h event told begins notes is = notes_none (outs h event) told notes (outs_are AsksNone none_shared h event (own_none event begins)) is
+event_none h event told begins notes is = notes_told AsksNone (outs h event) told notes (outs_are AsksNone none_shared h event (own_none event begins)) is
 
 mark_none : (e : Entry) → IsOfUnit e → AsksNone e
 mark_none (entry.Dropped Host) mark = tt
@@ -318,21 +309,11 @@ missed_none (entry.Garbled Chip unit ∷ entry.Overrun Chip ∷ []) did = (tt, (
 missed_none marks did = absurd did
 
 -- what answers an item is no frame
-answer_none : (puts : List HostOut) (told : List Entry) (unit : LineUnit) → puts ≡ Write unit ∷ [] → is_data (unit_text unit) ≡ false → AreTold puts told → AllByRecursion AsksNone told
-answer_none puts told unit puts_are none is =
-    let (marks, rest, are, all, more) : AreTold (Write unit ∷ []) told = subst (λ (l : List HostOut). AreTold l told) puts_are is in
-    subst (AllByRecursion AsksNone) (sym are) (none, all-append AsksNone marks rest (marks_none marks all) (subst (AllByRecursion AsksNone) (sym more) tt))
+answer_none : (unit : LineUnit) (told : List Entry) → is_data (unit_text unit) ≡ false → AreTold (Write unit ∷ []) told → AllByRecursion AsksNone told
+answer_none unit told none are = unit_told AsksNone mark_none unit told none are
 
 item_none : (item : Item) (told : List Entry) → AreTold (answer_to item) told → AllByRecursion AsksNone told
-item_none (Good (Framed f)) told is = answer_none _ told Ack refl refl is
-item_none (Good Ack) told is = subst (AllByRecursion AsksNone) (sym is) tt
-item_none (Good Nak) told is = subst (AllByRecursion AsksNone) (sym is) tt
-item_none (Good Can) told is = subst (AllByRecursion AsksNone) (sym is) tt
-item_none (refused_item (BadSum want got)) told is = answer_none _ told Nak refl refl is
-item_none (refused_item (BadKind x)) told is = answer_none _ told Nak refl refl is
-item_none (refused_item (Stray x)) told is = subst (AllByRecursion AsksNone) (sym is) tt
-item_none (refused_item (BadLength n)) told is = subst (AllByRecursion AsksNone) (sym is) tt
-item_none (refused_item Aborted) told is = subst (AllByRecursion AsksNone) (sym is) tt
+item_none item told are = item_told (AllByRecursion AsksNone) (λ l is. answer_none Ack l refl is) (λ l is. answer_none Nak l refl is) tt item told are
 
 -- ---- the last request is over
 
@@ -538,10 +519,6 @@ ticking_none : (event : HostEvent) → IsNodeTick event → BeginsNone event
 ticking_none (Node_ticks n) is = tt
 ticking_none event is = absurd is
 
-node_notes : (h : HostState) (event : HostEvent) → IsNodeTick event → AllByRecursion IsNote (outs h event)
-node_notes h (Node_ticks n) is = noted_notes _
-node_notes h event is = absurd is
-
 node_hears : (event : HostEvent) → IsNodeTick event → HearsChip event
 node_hears (Node_ticks n) is = tt
 node_hears event is = absurd is
@@ -551,9 +528,6 @@ notes_stand : (past told : List Entry) (h : HostState) (event : HostEvent) → B
     → Rests past → CountsIds past h.requests.last_id → Stands past told (after h event).requests.last_id
 notes_stand past told h event begins hears notes is rests counts =
     given_on past told h.requests.last_id (after h event).requests.last_id (note_id h event notes hears) (none_stands past told h.requests.last_id (event_none h event told begins notes is) rests counts)
-
-first_same : (first these : HostEvent) (left others : List HostEvent) → first ∷ left ≡ these ∷ others → first ≡ these
-first_same first these left others is = cc
 
 tick_does : (first : HostEvent) (left : List HostEvent) (past : List Entry) (m : HostMachine) (event : HostEvent) (told : List Entry) → event ≡ first → AreTold (outs m.state event) told
     → AreFrames m.came → KnowsTick (first ∷ left) past m → Rests past → CountsIds past m.state.requests.last_id → Stands past told (after m.state event).requests.last_id
@@ -574,15 +548,8 @@ follows_none : (unit : List ℕ) (event : HostEvent) → MayFollow unit event �
 follows_none unit (Begins n session command) may = may
 follows_none unit event may = tt
 
-request_none : (event : HostEvent) → IsOfRequest event → BeginsNone event
-request_none (Begins n session command) is = is
-request_none event is = tt
-
 behind_none : (first : HostEvent) (left : List HostEvent) (past : List Entry) (m : HostMachine) → KnowsJudged (Behind (first ∷ left)) past m → BeginsNone first
-behind_none first left past m (frames, inl behind) =
-    let follow = frame_all behind.frame.first behind.frame.frame (behind.frame.gone ++ (first ∷ left)) behind.frame.followed in
-    follows_none (unit_text (Framed behind.frame.frame)) first (all-right (MayFollow (unit_text (Framed behind.frame.frame))) behind.frame.gone (first ∷ left) follow).0
-behind_none first left past m (frames, inr (requests, settled)) = request_none first requests.0
+behind_none first left past m judged = let (unit, may) = behind_follows first left past m judged.1 in follows_none unit first may
 
 sleep_stands : (full : Bool) (past told : List Entry) (h : HostState) (n : ℕ) → AreTold (outs h (if full then Drops_no_more n else Queues_no_more n)) told → Rests past → CountsIds past h.requests.last_id
     → Stands past told (after h (if full then Drops_no_more n else Queues_no_more n)).requests.last_id

@@ -24,13 +24,13 @@ use Rattle.host_orders.specs.Refusals.{classes_of}
 use Rattle.host_requests.specs.State.{next_id}
 use Rattle.host_requests.specs.declared.task.Task.TheVariants.{Plain}
 use Rattle.host_model.specs.State.{HostState, node_of}
-use Rattle.host_model.specs.Events.{HostEvent, Hears, Queues}
+use Rattle.host_model.specs.Events.{HostEvent, Hears, Queues, IsOwn}
 use Rattle.host_model.specs.After.{after}
 use Rattle.host_model.specs.May.{known_of, May as MayHost}
 use Rattle.host_model.specs.Outs.{answers, outs}
 use Rattle.host_model.specs.declared.out.HostOut.{HostOut}
 use Rattle.host_model.specs.declared.out.HostOut.TheVariants.{Write, Note}
-use Rattle.host_model.proofs.Own.{IsOwn, sleepers_own, submitted_own}
+use Rattle.host_model.proofs.Own.{sleepers_own, submitted_own}
 use Rattle.host_model.proofs.Submitted.{next_is, no_more_is}
 use Rattle.world_model.specs.Events.{OpensFrom}
 use Rattle.proof_host.specs.Facts.{Facts}

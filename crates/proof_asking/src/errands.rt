@@ -21,8 +21,7 @@ ghost use Rattle.proof_requests.specs.Carrying.{is_errand};
 ghost use Rattle.proof_requests.specs.Ends.{TellsEnd};
 
 use crate::sends::hosts_send_what_is_due;
-use proof_requests::alone::{lines_are_a_hosts, what_is_heard_is_a_hosts};
-use proof_requests::hosts_tell_of_ends;
+use proof_requests::{hosts_tell_of_ends, lines_are_a_hosts, what_is_heard_is_a_hosts};
 use proof_sending::{lines_ask_for_what_is_queued, lines_send_what_is_due};
 
 /// Where each end of a request is told as the transcript has it, and each payload that was asked to be sent was due, how a Set or Get ended that a line asked

@@ -18,9 +18,18 @@ mod sends;
 
 pub use errands::{ends_say_how_done, errands_are_carried, hosts_say_how_done, lines_say_how_done};
 pub use numbers::{hosts_ask_one_by_one, lines_ask_one_by_one};
-pub use proof_known as known;
-pub use proof_known::transcript;
-pub use proof_requests as requests;
-pub use proof_sending as sending;
-pub use proof_sending::line;
+pub use proof_known::{
+    hosts_answer_lines, hosts_do_as_is_said, hosts_note_what_was_told, hosts_record_what_is_shown,
+    hosts_wake_as_told, lines_are_answered, lines_wake_as_told,
+};
+pub use proof_requests::{
+    hosts_answer_questions, hosts_end_interviews, hosts_keep_their_tables, hosts_listen_as_told,
+    hosts_obey_the_line, hosts_tell_time, lines_answer_questions, lines_are_a_hosts,
+    lines_end_interviews, what_is_heard_is_a_hosts,
+};
+pub use proof_sending::{
+    lines_clear_at_restarts, lines_clear_nowhere_else, lines_clear_the_line,
+    lines_collide_when_asked, lines_keep_links, lines_mark_units, lines_overrun_only_when_full,
+    lines_overrun_when_full, lines_send_what_is_due, ticks_are_told,
+};
 pub use sends::hosts_send_what_is_due;

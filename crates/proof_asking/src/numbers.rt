@@ -18,8 +18,7 @@ ghost use Rattle.proof_asking.specs.Numbers.{KnowsRequests, MaySend};
 ghost use Rattle.proof_requests.specs.Walking.{Ground, KnowsAsked};
 
 use host_model::attempts_have_what_they_give;
-use proof_requests::alone::{lines_are_a_hosts, what_is_heard_is_a_hosts};
-use proof_requests::hosts_ask_as_told;
+use proof_requests::{hosts_ask_as_told, lines_are_a_hosts, what_is_heard_is_a_hosts};
 
 /// In any run of a host alone, over a keeper that tells its records and has none at first: a request that is new is sent, and a session begins, only where the
 /// last request is over by its transcript; each message that it asks its chip to send has the callback id that follows that of the last one since it started,

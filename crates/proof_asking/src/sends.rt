@@ -14,10 +14,12 @@ ghost use Rattle.proof_known.specs.proof_alone.Runs.{Told};
 
 use host_requests::callback_ids;
 use proof_host::{events_keep_facts, laws_follow};
-use proof_known::alone::{lines_are_a_hosts, what_is_heard_is_a_hosts};
-use proof_known::{hosts_keep_what_is_said, hosts_know_what_nodes_list};
+use proof_known::{
+    hosts_keep_what_is_said, hosts_know_what_nodes_list, lines_are_a_hosts,
+    what_is_heard_is_a_hosts,
+};
 use proof_messages::hosts_leave_nonces;
-use proof_sending::spoken::{orders_are_carried_as_said, tables_keep_orders};
+use proof_sending::{orders_are_carried_as_said, tables_keep_orders};
 
 /// Whatever bytes came to a host alone, over a keeper that tells its records and has none at first, also where it starts again: each payload that it asks
 /// its chip to send is the message of the last session of its node, by the classes that the node had listed when the command was accepted (plain, a segment

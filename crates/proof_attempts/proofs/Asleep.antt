@@ -2,9 +2,8 @@
 use Rattle.std.proofs.Common.{◌≡◌, ◌⊎◌, ℕ, ◌+◌, ◌-◌, ◌==◌, ◌&&◌, ◌||◌, not, nat_lt, Bool, true, false, if◌then◌else◌, inl, inr, List, [], ◌∷◌, ◌++◌, filter, Option, Some, None, refl, sym, ap, ◌∙◌, ap₂, subst, append-nil, append_assoc, arith}
 use Rattle.std.specs.Prelude.{Result, Ok, Err}
 use Rattle.std.specs.List.{AllByRecursion, list_all, list_any}
-use Rattle.std.proofs.lemmas.Bool.{and_from, and_left, and_right, both_ways, eq-eqb, eqb-true, or_left, or_parts, or_right}
-use Rattle.zw_base.proofs.Each.{all-append, all-right, all-weaker}
-use Rattle.zw_base.specs.declared.property.Setting.{Setting}
+use Rattle.std.proofs.lemmas.Bool.{and_from, and_left, and_right, both_ways, eq-eqb, eqb-true, or_left, or_parts, or_right, or_from}
+use Rattle.zw_base.proofs.Each.{all-right, all-weaker}
 use Rattle.serial_frame.specs.Frame.{FrameParts}
 use Rattle.serial_frame.specs.Items.{unit_text}
 use Rattle.serial_frame.specs.declared.item.Item.{Item}
@@ -54,16 +53,15 @@ use Rattle.host_keep.specs.declared.final_status.FinalStatus.{FinalStatus}
 use Rattle.host_keep.specs.declared.final_status.FinalStatus.TheVariants as final
 use Rattle.host_node.specs.declared.attempt.Moment.TheVariants.{BeforeItsTick, BetweenTicks}
 use Rattle.host_node.specs.Steps.{tick_end}
-use Rattle.host_model.specs.State.{HostState, command_at, node_of}
-use Rattle.host_model.specs.Sessions.{open_command, settings_with}
-use Rattle.host_model.specs.Ends.{attempt_entries, end_entries_if}
-use Rattle.host_model.specs.After.{after, gives_up, is_full, is_held, line_ticked, requests_do}
-use Rattle.host_model.specs.Did.{after_all}
-use Rattle.host_model.specs.Events.{HostEvent, Accepts, Cancels, Queues, Hears, Requests_do, Interviews, Interview_unkept, Unreads, Is_unkept, Reports_old, Finishes, Offers, Gives, Spends_unread, Notifies, Resends, Hears_value, Has_no_room, Line_ticks, Node_ticks, Queues_no_more, Drops_no_more, Submits_abort, Submits_front, Starts, Gives_text, Gives_segment, Begins, Begin_unkept}
-use Rattle.host_model.specs.Outs.{answer_to, answers, copy_out, dropped_if, ended_of, failing_entries, held_entries, noted, outs, request_entries, stored_entries}
-use Rattle.host_model.specs.Taking.{InterviewEvents, told_requests}
-use Rattle.host_model.specs.declared.out.HostOut.{HostOut}
-use Rattle.host_model.proofs.Submitted.{next_is}
+use Rattle.proof_requests.specs.host_model.State.{HostState, node_of}
+use Rattle.proof_requests.specs.host_model.Sessions.{open_command}
+use Rattle.proof_requests.specs.host_model.Ends.{attempt_entries, end_entries_if}
+use Rattle.proof_requests.specs.host_model.After.{after, gives_up, is_full, line_ticked, requests_do}
+use Rattle.proof_requests.specs.host_model.Did.{after_all}
+use Rattle.proof_requests.specs.host_model.Events.{HostEvent, Accepts, Cancels, Queues, Hears, Requests_do, Interviews, Interview_unkept, Unreads, Is_unkept, Reports_old, Finishes, Offers, Gives, Spends_unread, Notifies, Resends, Hears_value, Has_no_room, Line_ticks, Node_ticks, Queues_no_more, Drops_no_more, Submits_abort, Submits_front, Starts, Gives_text, Gives_segment, Begins, Begin_unkept}
+use Rattle.proof_requests.specs.host_model.Outs.{answer_to, answers, copy_out, ended_of, failing_entries, noted, outs, request_entries}
+use Rattle.proof_requests.specs.host_model.Taking.{InterviewEvents, told_requests}
+use Rattle.proof_requests.proofs.Submitted.{next_is}
 use Rattle.proof_work.specs.world_model.Events.{shown_values}
 use Rattle.proof_work.specs.proof_host.Facts.{Facts}
 use Rattle.proof_requests.specs.proof_alone.State.{HostMachine}
@@ -71,7 +69,9 @@ use Rattle.proof_requests.specs.proof_alone.Steps.{AreFrames, AreTold, DidNotCom
 use Rattle.proof_requests.specs.proof_alone.Phases.{Phase, Resting, Asked, Risen, Ticking, Open, Behind, Sleeping, Submitting, IsBetween, IsJudgedNow, IsNumbered, May}
 use Rattle.proof_requests.specs.proof_alone.Runs.{WalkOver, both_know}
 use Rattle.proof_requests.specs.proof_waking.Judged.{IsOfRequest, KnowsJudged, TieFrames}
+use Rattle.proof_requests.proofs.HostOuts.{MayPut, outs_put}
 use Rattle.proof_requests.proofs.proof_waking_Followed.{MayFollow, frame_all}
+use Rattle.proof_requests.proofs.proof_waking_Parts.{NotesAlone, alone_writes, noted_told, notes_told, writes_nothing}
 use Rattle.proof_requests.specs.Asking.{Doing, TieAsked, TieUnderWay, doing_of}
 use Rattle.proof_requests.specs.Ends.{AreToldOf, EndsBy, EndsFrom, EndsHere, GivenUp, KnowsEnds, LineEnds, TellsNoEnd, next_at}
 use Rattle.proof_requests.specs.Standing.{failing_in, standing_of, wait_in}
@@ -90,10 +90,9 @@ use Rattle.proof_attempts.specs.Since.{IsElse}
 use Rattle.proof_attempts.specs.Slept.{KnowsTelling, SleepsIfTold, TieSlept}
 use Rattle.proof_attempts.specs.Waking.{CountsAwake, KnowsWork}
 use Rattle.proof_attempts.proofs.Counting.{told_wordless}
-use Rattle.proof_attempts.proofs.KeptAwake.{noted_told}
 use Rattle.proof_attempts.proofs.Lasting.{numbered_else, rest_of}
 use Rattle.proof_attempts.proofs.Late.{unended_at}
-use Rattle.proof_attempts.proofs.Owing.{ArePlain, Goes, either_false, IsPlain, IsStill, Law, calm_may, first_go, given_none, mark_still, marks_may, may_stand, nothing_go, one_rested, owes_by, plain_go, untold}
+use Rattle.proof_attempts.proofs.Owing.{ArePlain, Goes, IsPlain, IsStill, Law, calm_may, first_go, given_none, mark_still, marks_may, may_stand, nothing_go, one_rested, owes_by, plain_go, untold}
 use Rattle.proof_attempts.proofs.Requested.{Unsubmitted}
 use Rattle.proof_attempts.proofs.Sleeping.{Known, attempt_go, ended_so, purpose_go, tick_so}
 use Rattle.proof_attempts.proofs.Slept.{NoneSleeps, On, frame_tells, item_on, none_slept, on_frame, on_slept, purpose_told, tells_it, told_by}
@@ -103,26 +102,26 @@ use Rattle.proof_attempts.proofs.Wrote.Wrote.{Quietly, Again, Anew}
 -- ---- the ground
 
 module _ (here : Phase) (past : List Entry) (m : HostMachine) (ground : KnowsSleep here past m) where
-  telling : KnowsTelling here past m
+  pub telling : KnowsTelling here past m
   telling = ground.0.0.0
 
-  work_of : KnowsWork here past m
+  pub work_of : KnowsWork here past m
   work_of = telling.0.0.0.0
 
-  tables : Facts past m.state
+  pub tables : Facts past m.state
   tables = work_of.0.0.0.0.facts
 
-  requested : RequestsGround here past m
+  pub requested : RequestsGround here past m
   requested = telling.1.0
 
-  asks_of : KnowsAsked here past m
+  pub asks_of : KnowsAsked here past m
   asks_of = telling.1.1
 
   module _ (other : IsElse here) where
-    slept : TieSlept past m.state.requests
+    pub slept : TieSlept past m.state.requests
     slept = rest_of SleepsIfTold here past m other ground.0.0.1
 
-    well : UnderWayWell m.state.requests.under_way
+    pub well : UnderWayWell m.state.requests.under_way
     well = (rest_of CarriesOthers here past m other telling.0.1).asks.under_way
 
     known_of : Known past m.state
@@ -159,10 +158,10 @@ not_ending : (past : List Entry) → is_ending_here past ≡ false → is_ended_
 not_ending past none =
     let called = λ (code : ℕ). and_right (calls_back code (request_last past) (notices_here past)) (is_ending_here past) none in
     let refused = and_right (list_any refuses (judged_here past)) (is_answered_here past) (and_right (list_any (is_response_to (asked past).frame) (judged_here past)) (is_ending_here past) none) in
-    either_false (is_called_back 0 past || is_called_back_badly past) (is_refused_here past)
-    (either_false (is_called_back 0 past) (is_called_back_badly past) (called 0)
-    (either_false (is_called_back 1 past || is_called_back 2 past || is_called_back 3 past) (is_called_back 4 past)
-    (either_false (is_called_back 1 past || is_called_back 2 past) (is_called_back 3 past) (either_false (is_called_back 1 past) (is_called_back 2 past) (called 1) (called 2)) (called 3)) (called 4)))
+    or_from (is_called_back 0 past || is_called_back_badly past) (is_refused_here past)
+    (or_from (is_called_back 0 past) (is_called_back_badly past) (called 0)
+    (or_from (is_called_back 1 past || is_called_back 2 past || is_called_back 3 past) (is_called_back 4 past)
+    (or_from (is_called_back 1 past || is_called_back 2 past) (is_called_back 3 past) (or_from (is_called_back 1 past) (is_called_back 2 past) (called 1) (called 2)) (called 3)) (called 4)))
     refused
 
 untold_by : (past : List Entry) → (is_directly_after past ≡ true → is_ending_here past ≡ true → list_any (λ node. is_awake_sleeper node past) (nodes_told (asked past).frame) ≡ false)
@@ -274,9 +273,6 @@ between_elsewhere (Ticking left) between = absurd between
 between_elsewhere (Behind left) between = absurd between
 between_elsewhere Sleeping between = absurd between
 between_elsewhere Submitting between = absurd between
-
-quiet_at : (here is : Phase) (past : List Entry) (m : HostMachine) → here ≡ is → Elsewhere is → KnowsSleep here past m → OwesNone past → owes_sleep past ≡ false
-quiet_at here is past m same other ground none = quiet_else is past m other (subst (λ (p : Phase). KnowsSleep p past m) same ground) none
 
 -- where a line is asked its words stand last
 quiet_asked : (here : Phase) (line : Line) (past : List Entry) (m : HostMachine) → here ≡ Asked line → KnowsSleep here past m → OwesNone past → owes_sleep past ≡ false
@@ -403,83 +399,36 @@ judges_go past m (refused_item Aborted) rest behind told now ground none = nothi
 
 -- ---- what a host notes but of an end
 
--- nothing is written, no request ends, and no attempt
-abbrev TellsNoSleep : HostEvent → Type 0
-TellsNoSleep (Hears item) = ⊥
-TellsNoSleep (Requests_do event moment) = ⊥
-TellsNoSleep Line_ticks = ⊥
-TellsNoSleep (Node_ticks n) = ⊥
-TellsNoSleep Submits_abort = ⊥
-TellsNoSleep Submits_front = ⊥
-TellsNoSleep (Starts n plan more payload) = ⊥
-TellsNoSleep (Gives_text n payload) = ⊥
-TellsNoSleep (Gives_segment n more payload) = ⊥
-TellsNoSleep event = Unit {0}
-
-record Notes (h : HostState) (event : HostEvent) : Type 0 where
-  notes : List Entry
-  are : outs h event ≡ noted notes
-  plain : ArePlain notes
-
-one_plain : (h : HostState) (event : HostEvent) (e : Entry) → outs h event ≡ noted (e ∷ []) → IsPlain e → Notes h event
-one_plain h event e are plain = record { notes = e ∷ []; are = are; plain = (plain, tt) }
-
-dropped_plain : (full : Bool) (n : ℕ) → ArePlain (dropped_if full n)
-dropped_plain true n = ((tt, λ b. refl), tt)
-dropped_plain false n = tt
-
-held_plain : (n : ℕ) (held : Bool) → ArePlain (held_entries n held)
-held_plain n true = ((tt, λ b. refl), tt)
-held_plain n false = tt
-
-stored_plain : (n : ℕ) (settings : List Setting) → ArePlain (stored_entries n settings)
-stored_plain n [] = tt
-stored_plain n (setting ∷ settings) = ((tt, λ b. refl), stored_plain n settings)
-
 out_plain : (command : ℕ) (status : FinalStatus) → IsPlain (entry.Out command (ended_of status))
 out_plain command final.NoSupport = (tt, λ b. refl)
 out_plain command final.Fail = (tt, λ b. refl)
 out_plain command final.Success = (tt, λ b. refl)
 
-else_notes : (h : HostState) (event : HostEvent) → TellsNoSleep event → Notes h event
-else_notes h (Hears item) none = absurd none
-else_notes h (Requests_do event moment) none = absurd none
-else_notes h Line_ticks none = absurd none
-else_notes h (Node_ticks n) none = absurd none
-else_notes h Submits_abort none = absurd none
-else_notes h Submits_front none = absurd none
-else_notes h (Starts n plan more payload) none = absurd none
-else_notes h (Gives_text n payload) none = absurd none
-else_notes h (Gives_segment n more payload) none = absurd none
-else_notes h (Interviews n listens classes update) none = one_plain h _ (entry.Interviewed n) refl (tt, λ b. refl)
-else_notes h (Interview_unkept n update) none = one_plain h _ (entry.Unkept n) refl (tt, λ b. refl)
-else_notes h (Unreads n payload) none = one_plain h _ (entry.Unread n payload) refl (tt, λ b. refl)
-else_notes h (Is_unkept n) none = one_plain h _ (entry.Unkept n) refl (tt, λ b. refl)
-else_notes h (Reports_old n id) none = one_plain h _ (entry.Old n id) refl (tt, λ b. refl)
-else_notes h (Finishes n session id command status wake) none =
-    let stored : List Entry = stored_entries n (settings_with status (command_at h.commands command)) in
-    let held : List Entry = held_entries n (is_held h n wake) in
-    record {
-      notes = entry.Out command (ended_of status) ∷ (stored ++ held);
-      are = refl;
-      plain = (out_plain command status, all-append IsPlain stored held (stored_plain n (settings_with status (command_at h.commands command))) (held_plain n (is_held h n wake)));
-    }
-else_notes h (Offers n) none = record { notes = dropped_if (is_full h) n; are = refl; plain = dropped_plain (is_full h) n }
-else_notes h (Gives n drawn) none = record { notes = dropped_if (is_full h) n; are = refl; plain = dropped_plain (is_full h) n }
-else_notes h (Spends_unread n payload) none = one_plain h _ (entry.Unread n payload) refl (tt, λ b. refl)
-else_notes h (Notifies n) none = one_plain h _ (entry.Awake n) refl (tt, λ b. refl)
-else_notes h (Resends n payload) none = record { notes = dropped_if (is_full h) n; are = refl; plain = dropped_plain (is_full h) n }
-else_notes h (Hears_value n setting) none = one_plain h _ (entry.Report n setting) refl (tt, λ b. refl)
-else_notes h (Has_no_room n property) none = one_plain h _ (entry.Unstored n property) refl (tt, λ b. refl)
-else_notes h (Drops_no_more n) none = one_plain h _ (entry.QueueFull n) refl (tt, λ b. refl)
-else_notes h (Begins n session command) none = one_plain h _ (entry.Begin n session command) refl (tt, λ b. refl)
-else_notes h (Begin_unkept n) none = one_plain h _ (entry.Unkept n) refl (tt, λ b. refl)
-else_notes h event none = record { notes = []; are = refl; plain = tt }
+plain_put : (event : HostEvent) → NotesAlone event → MayPut IsPlain event
+plain_put (Requests_do event moment) alone = absurd alone
+plain_put Line_ticks alone = absurd alone
+plain_put (Node_ticks n) alone = absurd alone
+plain_put (Interviews n listens classes update) alone = (tt, λ b. refl)
+plain_put (Interview_unkept n update) alone = (tt, λ b. refl)
+plain_put (Unreads n payload) alone = (tt, λ b. refl)
+plain_put (Is_unkept n) alone = (tt, λ b. refl)
+plain_put (Reports_old n id) alone = (tt, λ b. refl)
+plain_put (Finishes n session id command status wake) alone = (out_plain command status, (λ setting. (tt, λ b. refl)), (tt, λ b. refl))
+plain_put (Offers n) alone = (tt, λ b. refl)
+plain_put (Gives n drawn) alone = (tt, λ b. refl)
+plain_put (Spends_unread n payload) alone = (tt, λ b. refl)
+plain_put (Notifies n) alone = (tt, λ b. refl)
+plain_put (Resends n payload) alone = (tt, λ b. refl)
+plain_put (Hears_value n setting) alone = (tt, λ b. refl)
+plain_put (Has_no_room n property) alone = (tt, λ b. refl)
+plain_put (Drops_no_more n) alone = (tt, λ b. refl)
+plain_put (Begins n session command) alone = (tt, λ b. refl)
+plain_put (Begin_unkept n) alone = (tt, λ b. refl)
+plain_put event alone = tt
 
-else_go : (past told : List Entry) (h : HostState) (event : HostEvent) → TellsNoSleep event → AreTold (outs h event) told → owes_sleep past ≡ false → OwesNone past → Goes past told
-else_go past told h event none are owes rest =
-    let it = else_notes h event none in
-    subst (Goes past) (sym (noted_told it.notes told (subst (λ (l : List HostOut). AreTold l told) it.are are))) (plain_go past it.notes it.plain owes rest)
+else_go : (past told : List Entry) (h : HostState) (event : HostEvent) → NotesAlone event → AreTold (outs h event) told → owes_sleep past ≡ false → OwesNone past → Goes past told
+else_go past told h event alone are owes rest =
+    plain_go past told (notes_told IsPlain (outs h event) told (writes_nothing h event (alone_writes event alone)) (outs_put IsPlain h event (plain_put event alone)) are) owes rest
 
 -- ---- a request ends
 
@@ -594,7 +543,7 @@ module _ (first : HostEvent) (left : List HostEvent) (past told : List Entry) (m
 
 -- an event that leaves the request, and at which no sleep is told
 abbrev IsQuietly : HostEvent → Type 0
-IsQuietly event = IsBeside event × TellsNoSleep event
+IsQuietly event = IsBeside event × NotesAlone event
 
 quietly_of : (unit : List ℕ) (event : HostEvent) → MayFollow unit event → TellsNoEnd event → IsQuietly event
 quietly_of unit (Hears item) follows none = absurd none
@@ -714,7 +663,7 @@ module _ (first : HostEvent) (left : List HostEvent) (past told : List Entry) (m
       (noted_told (request_entries m.state (Updates update)) told (told_at_first (Requests_do (Updates update) BetweenTicks) is))
 
   -- an interview ends
-  interview_go : (event : HostEvent) (update : Update) (capability : ℕ) → first ≡ event → TellsNoSleep event → interviewed_by m.state.requests update ≡ Some capability → Goes past told
+  interview_go : (event : HostEvent) (update : Update) (capability : ℕ) → first ≡ event → NotesAlone event → interviewed_by m.state.requests update ≡ Some capability → Goes past told
   interview_go event update capability is tells brought =
       else_go past told m.state event tells (told_at_first event is)
       (quiet_by past m.state.requests tie_behind none (λ u under.
@@ -761,11 +710,11 @@ module _ (first : HostEvent) (left : List HostEvent) (past told : List Entry) (m
 
 -- ---- in a pump
 
-sleeper_quiet : (full : Bool) (n : ℕ) → TellsNoSleep (if full then Drops_no_more n else Queues_no_more n)
+sleeper_quiet : (full : Bool) (n : ℕ) → NotesAlone (if full then Drops_no_more n else Queues_no_more n)
 sleeper_quiet true n = tt
 sleeper_quiet false n = tt
 
-begins_quiet : (event : HostEvent) → IsSubmission event → Unsubmitted event → TellsNoSleep event
+begins_quiet : (event : HostEvent) → IsSubmission event → Unsubmitted event → NotesAlone event
 begins_quiet (Begins n session command) sub un = tt
 begins_quiet (Begin_unkept n) sub un = tt
 begins_quiet Submits_abort sub un = absurd un
@@ -795,7 +744,7 @@ does_sleep (Behind (first ∷ left)) next past told m event may ground none =
     behind_go first left past told m ground none may.3 (subst (λ (e : HostEvent). AreTold (outs m.state e) told) may.0.0 may.2) ground.0.1
 does_sleep Sleeping next past told m event may ground none =
     let (node, wants, is, to_is) = may.0 in
-    else_go past told m.state event (subst TellsNoSleep (sym is) (sleeper_quiet (is_full m.state) node)) may.2 (quiet_else Sleeping past m tt ground none) none
+    else_go past told m.state event (subst NotesAlone (sym is) (sleeper_quiet (is_full m.state) node)) may.2 (quiet_else Sleeping past m tt ground none) none
 does_sleep Submitting next past told m event may ground none =
     submit_go past told m event (next_is IsSubmission submissions m.state event may.0.0) may.2 ground none
     (writes Submitting next past told m event may (requested Submitting past m ground) (asks_of Submitting past m ground))

@@ -1,7 +1,7 @@
 -- The attempts of a node go with it, and say what its session has to send next.
 use Rattle.std.proofs.Common.{◌≡◌, ◌⊎◌, ℕ, zero, suc, ◌+◌, ◌-◌, ◌≤◌, ◌==◌, ◌&&◌, ◌||◌, nat_le, nat_lt, not, Bool, true, false, if◌then◌else◌, List, [], ◌∷◌, refl, sym, ap, ◌∙◌, subst, inl, inr, arith}
 use Rattle.std.specs.List.{list_any}
-use Rattle.std.proofs.lemmas.Bool.{both_ways, cases_eq, eq-eqb, false_from_ne_true, le-leb, leb-true, lt-ltb, ne_eqb, or_left, or_right}
+use Rattle.std.proofs.lemmas.Bool.{both_ways, cases_eq, eq-eqb, false_from_ne_true, le-leb, leb-true, lt-ltb, ne_eqb, or_left, or_right, or_from, or_parts}
 use Rattle.proof_work.specs.law_transcript.Units.{is_frame, notice_in, sending_in}
 use Rattle.proof_work.specs.law_time.Attempts.{Attempts as AttemptsTold, anew, attempts_by_request, ends_badly, goes_on, is_bad, is_late}
 use Rattle.proof_work.specs.law_time.Choice.{first_part, further_parts, parts_by}
@@ -20,23 +20,19 @@ use Rattle.proof_attempts.specs.Attempts.{AreAttempts, GoesOn, IsSign, LastIs, b
 
 -- ---- whether the last one is over
 
-or_none : (a b : Bool) → a ≡ false → b ≡ false → (a || b) ≡ false
-or_none true b is none = is
-or_none false b is none = none
-
 -- a sign that may still be waited for
 sign_fresh : (sign : List ℕ) (now wait : ℕ) → IsSign sign now wait → list_any (λ tick. nat_le (tick + 100) now) sign ≡ false
 sign_fresh [] now wait is = refl
 sign_fresh (tick ∷ more) now wait is =
-    or_none (nat_le (tick + 100) now) (list_any (λ tick. nat_le (tick + 100) now) more)
+    or_from (nat_le (tick + 100) now) (list_any (λ tick. nat_le (tick + 100) now) more)
     (false_from_ne_true (nat_le (tick + 100) now) (λ over. absurd (let most = leb-true (tick + 100) now over in let some = is.1 in let sum = is.2 in omega (arith, most, some, sum))))
     (ap (λ (l : List ℕ). list_any (λ tick. nat_le (tick + 100) now) l) is.0)
 
 goes_not_late : (told : AttemptsTold) (wait now : ℕ) (badly : Bool) → GoesOn told wait now badly → is_late now told ≡ false
-goes_not_late told wait now badly goes = or_none told.over _ goes.not_over (sign_fresh told.sign now wait goes.sign)
+goes_not_late told wait now badly goes = or_from told.over _ goes.not_over (sign_fresh told.sign now wait goes.sign)
 
 pub goes_not_over : (told : AttemptsTold) (wait now : ℕ) (badly : Bool) → GoesOn told wait now badly → is_over_by now badly told ≡ false
-goes_not_over told wait now badly goes = or_none (is_late now told) (told.own && badly) (goes_not_late told wait now badly goes) goes.not_badly
+goes_not_over told wait now badly goes = or_from (is_late now told) (told.own && badly) (goes_not_late told wait now badly goes) goes.not_badly
 
 -- what is known of one that runs, and of one that is due
 pub running_goes : (told : AttemptsTold) (node : NodeState) (now : ℕ) (badly : Bool) → AreAttempts told node now badly → node.series ≡ Running → GoesOn told node.attempt_wait now badly
@@ -49,10 +45,6 @@ pub running_not_over : (told : AttemptsTold) (node : NodeState) (now : ℕ) (bad
 running_not_over told node now badly are is = goes_not_over told node.attempt_wait now badly (running_goes told node now badly are is)
 
 -- a request that has not ended has not ended badly
-or_parts_false : (a b : Bool) → (a || b) ≡ false → (a ≡ false) × (b ≡ false)
-or_parts_false true b is = absurd (let bad : true ≡ false = is in cc)
-or_parts_false false b is = (refl, is)
-
 none_ending : (frames : List Judging) → not (are_none frames) ≡ false → (bad : Judging → Bool) → list_any bad frames ≡ false
 none_ending [] none bad = refl
 none_ending (one ∷ more) none bad = absurd (let no : true ≡ false = none in cc)
@@ -62,22 +54,15 @@ unended_well last inner now none =
     let silent : Bool = list_any (λ tick. nat_le tick now) (silence last) in
     let given : Bool = list_any (λ tick. nat_le tick now) (giving_up last) in
     let abort : Bool = is_abort_frame last.frame && not (are_none (sent_at last)) in
-    let timely = (or_parts_false ((not (are_none (ending last)) || silent) || given) abort none).0 in
-    let both = or_parts_false (not (are_none (ending last)) || silent) given timely in
-    let each = or_parts_false (not (are_none (ending last))) silent both.0 in
-    or_none (list_any (λ one. is_frame one.unit 1 || list_any (is_bad inner) (notice_in one.unit)) (ending last) || silent) given
-    (or_none (list_any (λ one. is_frame one.unit 1 || list_any (is_bad inner) (notice_in one.unit)) (ending last)) silent
+    let timely = (or_parts ((not (are_none (ending last)) || silent) || given) abort none).0 in
+    let both = or_parts (not (are_none (ending last)) || silent) given timely in
+    let each = or_parts (not (are_none (ending last))) silent both.0 in
+    or_from (list_any (λ one. is_frame one.unit 1 || list_any (is_bad inner) (notice_in one.unit)) (ending last) || silent) given
+    (or_from (list_any (λ one. is_frame one.unit 1 || list_any (is_bad inner) (notice_in one.unit)) (ending last)) silent
     (none_ending (ending last) each.0 (λ one. is_frame one.unit 1 || list_any (is_bad inner) (notice_in one.unit))) each.1)
     both.1
 
 -- ---- what is next
-
-parts_as : (first over third : Bool) (session : Session) (told : AttemptsTold) → (told.begun == 0) ≡ first → nat_lt told.begun 3 ≡ third → (over : Bool)
-    → parts_by over session told
-    ≡ (if first || (over && third) then first_part session session.form ∷ [] else (if over then [] else further_parts session session.form told))
-parts_as first over third session told is less over' =
-    ap (λ (b : Bool). if b || (over' && nat_lt told.begun 3) then first_part session session.form ∷ [] else (if over' then [] else further_parts session session.form told)) is
-    ∙ ap (λ (b : Bool). if first || (over' && b) then first_part session session.form ∷ [] else (if over' then [] else further_parts session session.form told)) less
 
 pub next_first : (told : AttemptsTold) (node : NodeState) (now : ℕ) (badly : Bool) (session : Session) → AreAttempts told node now badly → node.series ≡ Due → node.book.attempts ≤ 2
     → parts_by (is_over_by now badly told) session told ≡ first_part session session.form ∷ []

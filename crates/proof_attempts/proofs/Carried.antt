@@ -16,13 +16,9 @@ use Rattle.host_requests.specs.Events.{RequestsEvent, end_at, task_begun}
 use Rattle.host_requests.specs.Events.RequestsEvent.{Pushes, PushesInterview, PushesProbe, BeginsAbort, BeginsPrefix, BeginsAttempt, IsSent, Fails, Responds, CallsBack, Updates, Ticks, Forgets}
 use Rattle.host_requests.specs.Next.{at_callback, at_response, at_sent, at_tick, at_update, next_from, went_on}
 use Rattle.host_requests.specs.State.{RequestsState}
-use Rattle.host_requests.specs.declared.end.End.{End}
-use Rattle.host_requests.specs.declared.end.How.{How}
 use Rattle.host_requests.specs.declared.end.How.TheVariants.{LinkFailed}
 use Rattle.host_requests.specs.declared.next.Next.{Next}
 use Rattle.host_requests.specs.declared.next.Next.TheVariants.{Ends, GoesOn}
-use Rattle.host_requests.specs.declared.task.Purpose.{Purpose}
-use Rattle.host_requests.specs.declared.task.Purpose.TheVariants.{Housekeeping, Attempt, Abort}
 use Rattle.host_requests.specs.declared.task.Task.{Task}
 use Rattle.host_requests.specs.declared.task.Task.TheVariants.{First, NoMore, Offer, Second, Segment}
 use Rattle.host_requests.specs.declared.under_way.UnderWay.{UnderWay}
@@ -36,13 +32,12 @@ use Rattle.host_node.specs.Steps.{after_again, after_again_tick, after_attempt_e
 use Rattle.host_node.specs.Events.{NodeEvent, after as after_node}
 use Rattle.host_node.specs.Events.NodeEvent.{Accepts as node_accepts, Ends_attempt, Ends_no_more, Gives_text as node_gives_text, Notifies as node_notifies, Reports, Restarts as node_restarts, Sleeps, Starts as node_starts, Succeeds, Takes_nonce as node_takes_nonce, Ticks as node_ticks}
 use Rattle.host_node.specs.TableState.{node_of as node_among, unknown_from, unknown_nodes}
-use Rattle.host_model.specs.State.{HostState, first_host, first_nodes, node_of}
-use Rattle.host_model.specs.Sessions.{open_command}
-use Rattle.host_model.specs.Ends.{PartEnd, Good, Passed_over, Bad, part_end}
-use Rattle.host_model.specs.After.{after, failing_if, finishing, gives_up, giving, is_full, is_held, line_ticked, node_does, offering, queues_if_room, request_does, requests_do}
-use Rattle.host_model.specs.Events.{HostEvent, Accepts, Cancels, Joins, Queues, Queues_interview, Queues_probe, Hears, Requests_do, Interviews, Interview_unkept, Unreads, Is_unkept, Reports_old, Works, Finishes, Offers, Gives, Spends, Spends_unread, Takes_nonce, Notifies, Resends, Hears_value, Has_no_room, Line_ticks, Node_ticks, Queues_no_more, Drops_no_more, Submits_abort, Submits_front, Starts, Gives_text, Gives_segment, Begins, Begin_unkept}
-use Rattle.host_model.specs.May.{May}
-use Rattle.host_model.proofs.Submitted.{SleepersAre, SubmittedAre, next_is, no_more_is}
+use Rattle.proof_requests.specs.host_model.State.{HostState, first_host, first_nodes, node_of}
+use Rattle.proof_requests.specs.host_model.Sessions.{open_command}
+use Rattle.proof_requests.specs.host_model.After.{after, failing_if, finishing, gives_up, giving, is_full, is_held, line_ticked, node_does, offering, queues_if_room, request_does, requests_do}
+use Rattle.proof_requests.specs.host_model.Events.{HostEvent, Accepts, Cancels, Joins, Queues, Queues_interview, Queues_probe, Hears, Requests_do, Interviews, Interview_unkept, Unreads, Is_unkept, Reports_old, Works, Finishes, Offers, Gives, Spends, Spends_unread, Takes_nonce, Notifies, Resends, Hears_value, Has_no_room, Line_ticks, Node_ticks, Queues_no_more, Drops_no_more, Submits_abort, Submits_front, Starts, Gives_text, Gives_segment, Begins, Begin_unkept}
+use Rattle.proof_requests.specs.host_model.May.{May}
+use Rattle.proof_requests.proofs.Submitted.{SleepersAre, SubmittedAre, next_is, no_more_is}
 use Rattle.proof_work.specs.world_model.Events.{OpensFrom}
 use Rattle.proof_work.specs.Doing.{IsDone, IsTold}
 use Rattle.proof_requests.specs.proof_alone.Steps.{IsAskedBy}
@@ -55,9 +50,9 @@ use Rattle.proof_attempts.specs.Since.{InTick, IsOfItem, Lasts, TicksAt, TicksLe
 use Rattle.proof_attempts.specs.Waking.{KnowsWork}
 use Rattle.proof_attempts.specs.Working.{IsWorked, WorksInOrder}
 use Rattle.proof_attempts.proofs.Counting.{each_starts}
-use Rattle.proof_attempts.proofs.Doings.{Doing, did, does_at, end_does, failing_does, held_does, node_after, part_does, purpose_does, task_does}
+use Rattle.proof_attempts.proofs.Doings.{AllDo, Doing, EndsDo, did, does_at, end_all, failing_all, held_all, kept_by_all, node_after}
 use Rattle.proof_attempts.proofs.Lasting.{by_else, rest_of}
-use Rattle.proof_attempts.proofs.Payloads.{gets_other, open_other, sealed_other, sends_other, starts_other}
+use Rattle.proof_attempts.proofs.Payloads.{gets_neither, open_neither, sealed_other, sends_neither, starts_other}
 
 -- ---- requests
 
@@ -145,7 +140,7 @@ event_asks h (Spends n) may adds has = has.asks
 event_asks h (Spends_unread n payload) may adds has = has.asks
 event_asks h (Takes_nonce n seen text) may adds has = has.asks
 event_asks h (Notifies n) may adds has = has.asks
-event_asks h (Resends n payload) (k, found) adds has = room_well h (Segment n payload) (open_other h (node_of h n) (open_session (node_of h n).book) k payload found) has.asks
+event_asks h (Resends n payload) (k, found) adds has = room_well h (Segment n payload) (open_neither h (node_of h n) (open_session (node_of h n).book) k payload found).0 has.asks
 event_asks h (Hears_value n setting) may adds has = has.asks
 event_asks h (Has_no_room n property) may adds has = has.asks
 event_asks h Line_ticks may adds has = failing_well (gives_up h.side.turn (tick_side h.side).turn) (line_ticked h) has.asks
@@ -161,7 +156,7 @@ event_asks h (Gives_text n payload) may adds has =
     let is = served_is_node h n may.0.next in
     record { under_way = (is, text_given h n payload may.1 (has.texts n is.0 is.1)); queue = has.asks.queue }
 event_asks h (Gives_segment n more payload) may adds has =
-    record { under_way = (served_is_node h n may.0.next, open_other h (node_of h n) (open_session (node_of h n).book) (node_of h n).next_segment payload may.2); queue = has.asks.queue }
+    record { under_way = (served_is_node h n may.0.next, (open_neither h (node_of h n) (open_session (node_of h n).book) (node_of h n).next_segment payload may.2).0); queue = has.asks.queue }
 event_asks h (Begins n session command) may adds has = has.asks
 event_asks h (Begin_unkept n) may adds has = has.asks
 
@@ -227,51 +222,20 @@ one_text s node_ticks brings other = ticks_text s other
 one_text s node_restarts brings other = occasion_text (as_recorded s) tt
 one_text s event brings other = other
 
-all_text : (n : ℕ) (s : NodeState) (doings : List Doing) → AllByRecursion (λ one. BringsOther one.event) doings → TextOther s.text → TextOther (does_at n s doings).text
-all_text n s [] all other = other
-all_text n s (one ∷ more) all other =
-    all_text n (if one.node == n then after_node s one.event else s) more all.1 (text_either (one.node == n) (after_node s one.event) s (one_text s one.event all.0 other) other)
+text_ends : EndsDo BringsOther
+text_ends = record { answered = tt; attempt_over = λ moment. tt; let_sleep = tt; held = tt }
 
-abbrev DoesOther : List Doing → Type 0
-DoesOther doings = AllByRecursion (λ one. BringsOther one.event) doings
-
-part_other : (k : ℕ) (end : PartEnd) (moment : Moment) → DoesOther (part_does k end moment)
-part_other k Good moment = (tt, tt)
-part_other k Passed_over moment = tt
-part_other k Bad moment = (tt, tt)
-
-task_other : (task : Task) → DoesOther (task_does task)
-task_other (NoMore k) = (tt, tt)
-task_other task = tt
-
-purpose_other : (purpose : Purpose) (how : How) (moment : Moment) → DoesOther (purpose_does purpose how moment)
-purpose_other (Attempt k more payload) how moment = part_other k (part_end more how) moment
-purpose_other (Housekeeping task) how moment = task_other task
-purpose_other Abort how moment = tt
-
-end_other : (end : Option End) (moment : Moment) → DoesOther (end_does end moment)
-end_other None moment = tt
-end_other (Some end) moment = purpose_other end.purpose end.how moment
-
-failing_other : (b : Bool) (h : HostState) → DoesOther (failing_does b h)
-failing_other true h = end_other (end_at h.requests Fails) BeforeItsTick
-failing_other false h = tt
-
-held_other : (n : ℕ) (held : Bool) → DoesOther (held_does n held)
-held_other n true = (tt, tt)
-held_other n false = tt
-
-did_other : (h : HostState) (event : HostEvent) → May h event → DoesOther (did h event)
+did_other : (h : HostState) (event : HostEvent) → May h event → AllDo BringsOther (did h event)
 did_other h (Accepts order carriage) may = (tt, (tt, tt))
 did_other h (Cancels command) may = (tt, tt)
 did_other h (Joins n) may = (tt, tt)
-did_other h (Requests_do event moment) may = end_other (end_at h.requests event) moment
+did_other h (Requests_do event moment) may = end_all BringsOther text_ends (end_at h.requests event) moment
 did_other h (Interviews n listens classes update) may = (tt, tt)
 did_other h (Works n id) may = (tt, tt)
-did_other h (Finishes n session id command status wake) may = (tt, held_other n (is_held h n wake))
+did_other h (Finishes n session id command status wake) may = (tt, held_all BringsOther text_ends n (is_held h n wake))
 did_other h (Takes_nonce n seen text) (nonce, own, count, seals, eight) = (sealed_other (node_of h n) h.keys own nonce text seals, tt)
 did_other h (Notifies n) may = (tt, tt)
-did_other h Line_ticks may = failing_other (gives_up h.side.turn (tick_side h.side).turn) h
+did_other h Line_ticks may = failing_all BringsOther text_ends (gives_up h.side.turn (tick_side h.side).turn) h
 did_other h (Node_ticks n) may = (tt, tt)
 did_other h (Queues_no_more n) may = (tt, tt)
 did_other h (Drops_no_more n) may = (tt, tt)
@@ -281,6 +245,13 @@ did_other h (Gives_segment n more payload) may = (tt, tt)
 did_other h (Begins n session command) may = (tt, tt)
 did_other h (Begin_unkept n) may = (tt, tt)
 did_other h event may = tt
+
+-- a text of another kind leads to one of another kind
+abbrev KeepsOther : NodeState → NodeState → Type 0
+KeepsOther s t = TextOther s.text → TextOther t.text
+
+all_text : (n : ℕ) (s : NodeState) (doings : List Doing) → AllDo BringsOther doings → TextOther s.text → TextOther (does_at n s doings).text
+all_text = kept_by_all KeepsOther BringsOther (λ s other. other) (λ s t u first next other. next (first other)) one_text
 
 others_after : (h : HostState) (event : HostEvent) → length h.nodes ≡ 233 → May h event → AddsWell event → HasOthers h → HasOthers (after h event)
 others_after h event places may adds has = record {
@@ -296,8 +267,8 @@ as_adds event these is adds = subst AddsWell (sym is) adds
 
 asked_adds : (line : Line) (h : HostState) (event : HostEvent) → IsAskedBy line h event → AddsWell event
 asked_adds (lines.Command order) h event is = as_adds event _ is tt
-asked_adds (lines.Send node word) h event is = as_adds event _ is.1 (sends_other _ word)
-asked_adds (lines.Get node end) h event is = as_adds event _ is.1 (gets_other _ end)
+asked_adds (lines.Send node word) h event is = as_adds event _ is.1 (sends_neither _ word).0
+asked_adds (lines.Get node end) h event is = as_adds event _ is.1 (gets_neither _ end).0
 asked_adds (lines.Join node) h event is = as_adds event _ is tt
 asked_adds (lines.Interview node) h event is = as_adds event _ is.1 tt
 asked_adds (lines.Cancel command) h event is = as_adds event _ is tt

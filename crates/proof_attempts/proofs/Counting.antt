@@ -1,5 +1,5 @@
 -- A node counts as awake by the entries since the host started as it does in the host.
-use Rattle.std.proofs.Common.{◌≡◌, ℕ, ◌-◌, ◌<◌, ◌≤◌, ◌==◌, ◌&&◌, Bool, true, false, if◌then◌else◌, length, List, [], ◌∷◌, ◌++◌, map, Option, Some, None, refl, sym, ap, ◌∙◌, subst, append-nil, arith, zero, suc}
+use Rattle.std.proofs.Common.{◌≡◌, ℕ, ◌-◌, ◌<◌, ◌≤◌, ◌==◌, ◌&&◌, Bool, true, false, if◌then◌else◌, length, List, [], ◌∷◌, ◌++◌, map, Option, Some, None, refl, sym, ap, ◌∙◌, subst, arith, zero, suc}
 use Rattle.std.specs.Prelude.{IsSome}
 use Rattle.std.specs.List.{AllByRecursion}
 use Rattle.zw_base.proofs.Each.{all-weaker}
@@ -17,22 +17,21 @@ use Rattle.proof_work.specs.law_time.Waking.{counts_awake}
 use Rattle.host_node.specs.State.{NodeState, is_idle, is_open, is_up, unknown}
 use Rattle.host_node.specs.Steps.{after_restart, as_recorded, new_series}
 use Rattle.host_node.specs.TableState.{node_of as node_among, unknown_from, unknown_nodes}
-use Rattle.host_model.specs.State.{HostState, first_host, first_nodes, node_of}
-use Rattle.host_model.specs.Events.{HostEvent, Accepts, Cancels, Hears, Node_ticks}
-use Rattle.host_model.specs.After.{after}
-use Rattle.host_model.specs.Opening.{restarting}
-use Rattle.host_model.specs.Outs.{answers, outs}
-use Rattle.host_model.specs.declared.out.HostOut.{HostOut}
-use Rattle.host_model.specs.declared.out.HostOut.TheVariants.{Note, Write}
+use Rattle.proof_requests.specs.host_model.State.{HostState, first_host, first_nodes, node_of}
+use Rattle.proof_requests.specs.host_model.Events.{HostEvent, Accepts, Cancels, Hears, Node_ticks}
+use Rattle.proof_requests.specs.host_model.After.{after}
+use Rattle.proof_requests.specs.host_model.Opening.{restarting}
+use Rattle.proof_requests.specs.host_model.Outs.{answers, outs}
+use Rattle.proof_requests.specs.host_model.declared.out.HostOut.{HostOut}
+use Rattle.proof_requests.specs.host_model.declared.out.HostOut.TheVariants.{Note, Write}
 use Rattle.proof_work.specs.world_model.Events.{OpensFrom}
 use Rattle.proof_work.specs.proof_host.Entries.{notes_of}
 use Rattle.proof_requests.specs.proof_alone.Steps.{AreTold, IsAskedBy}
 use Rattle.proof_requests.specs.proof_alone.Tables.{KnowsTables}
-use Rattle.proof_requests.proofs.proof_alone_Apart.{AreOfLine, marks_are, told_are}
+use Rattle.proof_requests.proofs.proof_alone_Apart.{AreOfLine, marks_are}
 use Rattle.proof_requests.proofs.InOrder.{asked_puts, is_asked}
+pub use Rattle.proof_requests.proofs.proof_waking_Parts.{told_wordless}
 use Rattle.proof_requests.proofs.proof_waking_Apart.{IsWordless, said_anew, said_in_vain, said_on, wordless_more}
-use Rattle.proof_work.specs.proof_walk.Outside.{IsHostNote}
-use Rattle.proof_work.proofs.HostNotes.{NoteOuts, all_outs_note}
 use Rattle.proof_attempts.specs.Since.{IsLoose, Lasts}
 use Rattle.proof_attempts.specs.Waking.{CountsAwake, TieAwake, Waking, releases_of, waking_before, waking_in, waking_step}
 use Rattle.proof_attempts.proofs.Nodes.{IsQuiet, quiet_all}
@@ -98,18 +97,6 @@ pub loose_wordless : (e : Entry) → IsLoose e → IsWordless e
 loose_wordless (entry.Said words) loose = absurd loose
 loose_wordless (entry.Refused refusal) loose = absurd loose
 loose_wordless e loose = tt
-
-note_wordless : (e : Entry) → IsHostNote e → IsWordless e
-note_wordless (entry.Said words) note = absurd note
-note_wordless (entry.Refused refusal) note = absurd note
-note_wordless e note = tt
-
-line_wordless : AreOfLine IsWordless
-line_wordless = record { written = λ side text. tt; dropped = λ side. tt; garbled = λ side text. tt; overrun = λ side. tt }
-
-pub told_wordless : (h : HostState) (event : HostEvent) (told : List Entry) → AreTold (outs h event) told → AllByRecursion IsWordless told
-told_wordless h event told are =
-    told_are IsWordless line_wordless note_wordless (outs h event) told (subst NoteOuts (append-nil (outs h event)) (all_outs_note h (event ∷ []))) are
 
 -- what answers a line
 pub answers_wordless : (h : HostState) (event : HostEvent) → AllByRecursion IsWordless (answers h event)

@@ -1,6 +1,7 @@
 -- What an event of a host does to its nodes, as events of single nodes; and that a node that is told that there is no more for it waits for no other series with a command.
 use Rattle.std.proofs.Common.{◌≡◌, ◌⊎◌, ℕ, zero, suc, ◌+◌, ◌-◌, ◌<◌, ◌≤◌, ◌==◌, ◌&&◌, nat_lt, Bool, true, false, if◌then◌else◌, inl, inr, length, drop, List, [], ◌∷◌, Option, Some, None, refl, sym, ap, ◌∙◌, subst, arith}
 use Rattle.std.specs.Prelude.{is_some}
+use Rattle.std.specs.List.{AllByRecursion}
 use Rattle.std.proofs.lemmas.Bool.{and_parts, both_ways, cases_eq, eq-eqb, eqb-true, false_from_ne_true, ltb-false, ne_eqb, or_right}
 use Rattle.std.proofs.lemmas.List.{get_or-set_same, get_or-set_other, length-set}
 use Rattle.serial_link.specs.State.{tick_side}
@@ -34,11 +35,11 @@ use Rattle.host_node.specs.Events.{NodeEvent, after as after_node}
 use Rattle.host_node.specs.Events.NodeEvent.{Joins as node_joins, Interviews as node_interviews, Puts, Accepts as node_accepts, Cancels as node_cancels, Begins as node_begins, Blocks, Starts as node_starts, Gives_segment as node_gives_segment, Gives_text as node_gives_text, Succeeds, Takes_nonce as node_takes_nonce, Ends_attempt, Reports, Holds, Notifies as node_notifies, Queues_no_more as node_queues_no_more, Drops_no_more as node_drops_no_more, Ends_no_more, Ticks}
 use Rattle.host_node.specs.TableState.{node_of as node_among, nodes_after, unknown_from, unknown_nodes}
 use Rattle.s0_crypto.specs.declared.key_pair.Keys.{Keys}
-use Rattle.host_model.specs.State.{HostState, first_host, first_nodes, node_of}
-use Rattle.host_model.specs.Ends.{PartEnd, Good, Passed_over, Bad, after_end_if, after_part, after_task, part_end}
-use Rattle.host_model.specs.After.{after, failing_if, finishing, gives_up, giving, holding, is_full, is_held, line_ticked, node_for, requests_do}
-use Rattle.host_model.specs.Events.{HostEvent, Accepts, Cancels, Joins, Hears, Requests_do, Interviews, Works, Finishes, Offers, Gives, Takes_nonce, Notifies, Resends, Line_ticks, Node_ticks, Queues_no_more, Drops_no_more, Starts, Gives_text, Gives_segment, Begins, Begin_unkept}
-use Rattle.host_model.specs.May.{May}
+use Rattle.proof_requests.specs.host_model.State.{HostState, first_host, first_nodes, node_of}
+use Rattle.proof_requests.specs.host_model.Ends.{PartEnd, Good, Passed_over, Bad, after_end_if, after_part, after_task, part_end}
+use Rattle.proof_requests.specs.host_model.After.{after, failing_if, finishing, gives_up, giving, holding, is_full, is_held, line_ticked, node_for, requests_do}
+use Rattle.proof_requests.specs.host_model.Events.{HostEvent, Accepts, Cancels, Joins, Hears, Requests_do, Interviews, Works, Finishes, Offers, Gives, Takes_nonce, Notifies, Resends, Line_ticks, Node_ticks, Queues_no_more, Drops_no_more, Starts, Gives_text, Gives_segment, Begins, Begin_unkept}
+use Rattle.proof_requests.specs.host_model.May.{May}
 use Rattle.proof_work.specs.Work.{HostWork}
 use Rattle.proof_requests.specs.proof_alone.Phases.{Asked, Open, Resting}
 use Rattle.proof_attempts.specs.Since.{Lasts}
@@ -173,14 +174,62 @@ all_at nodes n (one ∷ more) within =
 pub node_after : (h : HostState) (event : HostEvent) (n : ℕ) → n < length h.nodes → node_of (after h event) n ≡ does_at n (node_of h n) (did h event)
 node_after h event n within = ap (λ (l : List NodeState). node_among l n) (nodes_are h event) ∙ all_at h.nodes n (did h event) within
 
+-- ---- what all of them are, and keep
+
+abbrev pub AllDo : (NodeEvent → Type 0) → List Doing → Type 0
+AllDo Of doings = AllByRecursion (λ (one : Doing). Of one.event) doings
+
+-- what each of them keeps of a node, all of them keep
+pub kept_by_all : (Keeps : NodeState → NodeState → Type 0) (Of : NodeEvent → Type 0) → ((s : NodeState) → Keeps s s) → ((s t u : NodeState) → Keeps s t → Keeps t u → Keeps s u)
+    → ((s : NodeState) (event : NodeEvent) → Of event → Keeps s (after_node s event)) → (n : ℕ) (s : NodeState) (doings : List Doing) → AllDo Of doings → Keeps s (does_at n s doings)
+kept_by_all Keeps Of same on one n s [] all = same s
+kept_by_all Keeps Of same on one n s (d ∷ more) all =
+    let next : NodeState = if d.node == n then after_node s d.event else s in
+    on s next (does_at n next more) (first (d.node == n)) (kept_by_all Keeps Of same on one n next more all.1)
+  where
+    first : (b : Bool) → Keeps s (if b then after_node s d.event else s)
+    first true = one s d.event all.0
+    first false = same s
+
+-- those of a request that ends, and of a node that is held
+pub record EndsDo (Of : NodeEvent → Type 0) : Type 0 where
+  pub answered : Of Succeeds
+  pub attempt_over : (moment : Moment) → Of (Ends_attempt moment)
+  pub let_sleep : Of Ends_no_more
+  pub held : Of Holds
+
+module _ (Of : NodeEvent → Type 0) (these : EndsDo Of) where
+  part_all : (k : ℕ) (end : PartEnd) (moment : Moment) → AllDo Of (part_does k end moment)
+  part_all k Good moment = (these.answered, tt)
+  part_all k Passed_over moment = tt
+  part_all k Bad moment = (these.attempt_over moment, tt)
+
+  task_all : (task : Task) → AllDo Of (task_does task)
+  task_all (NoMore k) = (these.let_sleep, tt)
+  task_all task = tt
+
+  purpose_all : (purpose : Purpose) (how : How) (moment : Moment) → AllDo Of (purpose_does purpose how moment)
+  purpose_all (Attempt k more payload) how moment = part_all k (part_end more how) moment
+  purpose_all (Housekeeping task) how moment = task_all task
+  purpose_all Abort how moment = tt
+
+  pub end_all : (end : Option End) (moment : Moment) → AllDo Of (end_does end moment)
+  end_all None moment = tt
+  end_all (Some end) moment = purpose_all end.purpose end.how moment
+
+  pub failing_all : (gives : Bool) (h : HostState) → AllDo Of (failing_does gives h)
+  failing_all true h = end_all (end_at h.requests request_fails) BeforeItsTick
+  failing_all false h = tt
+
+  pub held_all : (n : ℕ) (held : Bool) → AllDo Of (held_does n held)
+  held_all n true = (these.held, tt)
+  held_all n false = tt
+
 -- ---- waiting
 
 well_either : (b : Bool) (one other : NodeState) → (b ≡ true → WaitsWell one) → (b ≡ false → WaitsWell other) → WaitsWell (if b then one else other)
 well_either true one other p q = p refl
 well_either false one other p q = q refl
-
-never : (m : NoMoreState) (A : Type 0) → (m ≡ Queued → ⊥) → m ≡ Queued → A
-never m A none is = absurd (none is)
 
 not_unasked : Unasked ≡ Queued → ⊥
 not_unasked is = cc

@@ -26,7 +26,7 @@ use Rattle.supervision.specs.declared.host_node.Told.{Told as TheTold}
 use Rattle.supervision.specs.declared.host_node.Told.TheVariants as told
 use Rattle.value_store.specs.Values.{count_with}
 use Rattle.proof_work.specs.law_transcript.Lists.{Has}
-use Rattle.proof_work.specs.law_transcript.Units.{Carried, bringing_in, bringing_of, read_well}
+use Rattle.proof_work.specs.law_transcript.Units.{bringing_in}
 use Rattle.proof_work.specs.law_time.Holds.{ends_session, stays_by}
 use Rattle.host_keep.specs.Status.{status_of}
 use Rattle.host_keep.specs.declared.final_status.FinalStatus.{FinalStatus}
@@ -36,15 +36,15 @@ use Rattle.host_heard.specs.declared.payload.Heard.TheVariants.{Messages, Sealed
 use Rattle.host_heard.specs.declared.told.Told.{Told}
 use Rattle.host_heard.specs.declared.told.Told.TheVariants.{Report, NonceGet, NonceReport, Notification, SegmentRequest, Values}
 use Rattle.host_requests.specs.Events.{interviewed_by}
-use Rattle.host_model.specs.State.{HostState, node_of}
-use Rattle.host_model.specs.After.{after}
-use Rattle.host_model.specs.Did.{after_all}
+use Rattle.proof_requests.specs.host_model.State.{HostState, node_of}
+use Rattle.proof_requests.specs.host_model.After.{after}
+use Rattle.proof_requests.specs.host_model.Did.{after_all}
 use Rattle.host_node.specs.declared.attempt.Moment.TheVariants.{BetweenTicks}
-use Rattle.host_model.specs.Events.{HostEvent, Accepts, Queues, Requests_do, Line_ticks, Node_ticks, Begins, Interviews, Interview_unkept, Unreads, Is_unkept, Reports_old, Works, Finishes, Offers, Gives, Spends, Spends_unread, Takes_nonce, Notifies, Resends, Hears_value, Has_no_room}
-use Rattle.host_model.specs.May.{says_listens}
-use Rattle.host_model.specs.Taking.{AreTaken, FinalEvents, FrameEvents, InterviewEvents, IsOpened, IsTaken, NonceGetEvents, NonceReportEvents, NoticeEvents, PayloadEvents, ReportEvents, ResponseEvents, SealedEvents, is_secure, resent, value_event, value_events}
+use Rattle.proof_requests.specs.host_model.Events.{HostEvent, Accepts, Queues, Requests_do, Line_ticks, Node_ticks, Begins, Interviews, Interview_unkept, Unreads, Is_unkept, Reports_old, Works, Finishes, Offers, Gives, Spends, Spends_unread, Takes_nonce, Notifies, Resends, Hears_value, Has_no_room}
+use Rattle.proof_requests.specs.host_model.May.{says_listens}
+use Rattle.proof_requests.specs.host_model.Taking.{AreTaken, FinalEvents, FrameEvents, InterviewEvents, IsOpened, IsTaken, NonceGetEvents, NonceReportEvents, NoticeEvents, PayloadEvents, ReportEvents, ResponseEvents, SealedEvents, is_secure, resent, value_event, value_events}
 use Rattle.proof_requests.proofs.proof_waking_Always.{either, none, one}
-use Rattle.proof_work.proofs.Bodies.{body_is}
+use Rattle.proof_requests.proofs.proof_waking_Followed.{brought_of, text_brings}
 
 -- ---- by which reports
 
@@ -196,12 +196,6 @@ own_brings unit source payload is (Accepts order carriage) ends = absurd ends
 own_brings unit source payload is (Queues task) ends = absurd ends
 own_brings unit source payload is (Begins m session command) ends = absurd ends
 own_brings unit source payload is event ends = tt
-
-abbrev brought_of : Result Notice BodyFault → List Carried
-brought_of read = flat_map bringing_of (read_well read)
-
-text_brings : (func : ℕ) (body : List ℕ) (sum : ℕ) → bringing_in (framed (0 ∷ func ∷ body) sum) ≡ brought_of (notice_of func body)
-text_brings func body sum = ap (λ (b : List ℕ). brought_of (notice_of func b)) (body_is body func sum)
 
 response_all : (unit : List ℕ) (read : Result Response BodyFault) (events : List HostEvent) → ResponseEvents read events → AllByRecursion (Brings unit) events
 response_all unit (Ok response) events is = one (Brings unit) _ events refl is

@@ -16,24 +16,21 @@ use Rattle.proof_work.specs.law_time.Interviews.{listens}
 use Rattle.proof_work.specs.law_time.Judged.{last_of}
 use Rattle.proof_work.specs.law_time.Moments.{clock, later_of}
 use Rattle.host_node.specs.State.{NodeState, needs_tick}
-use Rattle.host_model.specs.State.{HostState, first_host, node_of}
-use Rattle.host_model.specs.Events.{HostEvent, Hears, Line_ticks, Node_ticks, Requests_do}
-use Rattle.host_model.specs.After.{after}
-use Rattle.host_model.specs.Outs.{answers, outs}
-use Rattle.host_model.specs.Ticking.{ticking_nodes}
-use Rattle.host_model.specs.declared.out.HostOut.{HostOut}
-use Rattle.host_model.proofs.Submitted.{SleepersAre, SubmittedAre, next_is, no_more_is}
+use Rattle.proof_requests.specs.host_model.State.{HostState, first_host, node_of}
+use Rattle.proof_requests.specs.host_model.Events.{HostEvent, Hears, Line_ticks, Node_ticks, Requests_do}
+use Rattle.proof_requests.specs.host_model.After.{after}
+use Rattle.proof_requests.specs.host_model.Outs.{answers, outs}
+use Rattle.proof_requests.specs.host_model.Ticking.{ticking_nodes}
+use Rattle.proof_requests.specs.host_model.declared.out.HostOut.{HostOut}
+use Rattle.proof_requests.proofs.Submitted.{SleepersAre, SubmittedAre, next_is, no_more_is}
 use Rattle.proof_work.specs.proof_host.Facts.{Facts}
 use Rattle.proof_work.specs.Work.{HostWork, MayBeTold, times_told}
 use Rattle.proof_work.specs.proof_walk.ByLine.{IsAsked}
-use Rattle.proof_work.specs.proof_walk.Outside.{IsHostNote}
-use Rattle.proof_work.proofs.HostNotes.{NoteOuts, all_outs_note}
 use Rattle.proof_work.proofs.Untimed.{AreUntimed, IsUntimed}
 use Rattle.proof_requests.specs.proof_alone.State.{HostMachine}
 use Rattle.proof_requests.specs.proof_alone.Steps.{AreTold, IsAskedBy}
 use Rattle.proof_requests.specs.proof_alone.Phases.{Phase, Resting, Asked, Risen, Ticking, Open, Behind, Sleeping, Submitting, GoesBy, IsNumbered, Turns}
 use Rattle.proof_requests.specs.proof_alone.Time.{TieClock, passing}
-use Rattle.proof_requests.proofs.proof_alone_Apart.{AreOfLine, told_are}
 use Rattle.proof_requests.proofs.InOrder.{asked_puts, is_asked}
 use Rattle.proof_requests.proofs.proof_waking_Apart.{IsWordless, wordless_fresh}
 use Rattle.proof_attempts.specs.Since.{InTick, IsBetweenTicks, IsLoose, IsOfItem, Lasts, TicksAt, is_to_tick, node_clock}
@@ -48,6 +45,7 @@ use Rattle.proof_attempts.proofs.Telling.{IsAnswered, IsSteady, IsUnheld, same_r
 use Rattle.proof_attempts.proofs.Ticking.{waits_tick}
 use Rattle.proof_attempts.proofs.Working.{in_order}
 use Rattle.proof_requests.proofs.Telling.{clock_same}
+use Rattle.proof_requests.proofs.Timing.{told_untimed}
 
 -- ---- how the hold grows
 
@@ -114,17 +112,6 @@ abbrev Releases : ℕ → (ℕ → Bool) → List Entry → List Entry → Type 
 Releases n releases past told = (((number : ℕ) → told_releases n past number ≡ releases number) × AllByRecursion IsSteady told) ⊎ AllByRecursion IsAnswered told
 
 -- ---- what is told
-
-note_untimed : (e : Entry) → IsHostNote e → IsUntimed e
-note_untimed (entry.Said words) note = absurd note
-note_untimed (entry.Time tick) note = absurd note
-note_untimed e note = tt
-
-line_untimed : AreOfLine IsUntimed
-line_untimed = record { written = λ side text. tt; dropped = λ side. tt; garbled = λ side text. tt; overrun = λ side. tt }
-
-pub told_untimed : (h : HostState) (event : HostEvent) (told : List Entry) → AreTold (outs h event) told → AreUntimed told
-told_untimed h event told are = told_are IsUntimed line_untimed note_untimed (outs h event) told (subst NoteOuts (append-nil (outs h event)) (all_outs_note h (event ∷ []))) are
 
 -- of the first entry, and of those after it
 now_first : (past : List Entry) (e : Entry) (told : List Entry) (at : ℕ) → IsNow past (e ∷ told) at → (at ≡ clock past) ⊎ IsUnheld e

@@ -29,15 +29,14 @@ use Rattle.host_keep.specs.declared.final_status.FinalStatus.{FinalStatus}
 use Rattle.host_keep.specs.declared.final_status.FinalStatus.TheVariants as final
 use Rattle.host_keep.specs.Status.{status_byte}
 use Rattle.host_node.specs.State.{NodeState, is_false, unknown}
-use Rattle.host_model.specs.State.{HostState, command_at, node_of}
-use Rattle.host_model.specs.Sessions.{command_by, open_command, settings_with}
-use Rattle.host_model.specs.May.{IsFinal}
-use Rattle.host_model.specs.Did.{MayAll}
-use Rattle.host_model.specs.Events.{HostEvent, Accepts, Cancels, Finishes, Hears}
-use Rattle.host_model.specs.After.{is_held}
-use Rattle.host_model.specs.Outs.{answers, ended_of, held_entries, noted, outs, stored_entries}
-use Rattle.host_model.proofs.Own.{IsOwn}
-use Rattle.host_model.proofs.Submitted.{SleepersAre, SubmittedAre, next_is, no_more_is}
+use Rattle.proof_requests.specs.host_model.State.{HostState, command_at, node_of}
+use Rattle.proof_requests.specs.host_model.Sessions.{command_by, open_command, settings_with}
+use Rattle.proof_requests.specs.host_model.May.{IsFinal}
+use Rattle.proof_requests.specs.host_model.Did.{MayAll}
+use Rattle.proof_requests.specs.host_model.Events.{HostEvent, Accepts, Cancels, Finishes, Hears, IsOwn}
+use Rattle.proof_requests.specs.host_model.After.{is_held}
+use Rattle.proof_requests.specs.host_model.Outs.{answers, ended_of, held_entries, outs, stored_entries}
+use Rattle.proof_requests.proofs.Submitted.{SleepersAre, SubmittedAre, next_is, no_more_is}
 use Rattle.proof_work.specs.proof_host.Facts.{Facts}
 use Rattle.proof_work.proofs.Lists.{each-append}
 use Rattle.proof_requests.specs.proof_alone.State.{HostMachine}
@@ -48,6 +47,7 @@ use Rattle.proof_requests.proofs.proof_alone_Apart.{missed_are}
 use Rattle.proof_requests.specs.proof_waking.Judged.{IsBehindFrame, IsOfRequest, KnowsJudged}
 use Rattle.proof_requests.proofs.proof_waking_Apart.{IsApart, apart_judged}
 use Rattle.proof_requests.proofs.proof_waking_Settling.{brought_is}
+pub use Rattle.proof_requests.proofs.proof_waking_Parts.{noted_told}
 use Rattle.proof_attempts.specs.Kept.{KnowsHeard, KnowsUnowed}
 use Rattle.proof_attempts.proofs.Finishing.{Brings, Tells, frame_brings}
 use Rattle.proof_attempts.proofs.Opening.{OpenLast, open_last}
@@ -163,10 +163,6 @@ opened_command h n session id command status it =
     ap (λ (o : Option ℕ). command_by node o) (final_by node.book.attempts id (status_byte status) session node.book.outcome node.book.commands it.told).1 ∙ it.carried
 
 -- ---- the entries of a session that ends
-
-pub noted_told : (notes told : List Entry) → AreTold (noted notes) told → told ≡ notes
-noted_told [] told is = is
-noted_told (e ∷ notes) told (rest, is, more) = is ∙ ap (λ (l : List Entry). e ∷ l) (noted_told notes rest more)
 
 module _ (past : List Entry) (n command : ℕ) where
   -- what is judged here, the sessions of the node and whether it listens are as before them

@@ -12,16 +12,16 @@ use Rattle.zw_text.specs.declared.entry.Entry.{Entry}
 use Rattle.zw_text.specs.declared.entry.Entry.TheVariants as entry
 use Rattle.proof_work.specs.law_transcript.Lists.{EachAfter}
 use Rattle.proof_work.specs.law_transcript.Restarts.{is_restart}
-use Rattle.host_model.specs.State.{HostState}
-use Rattle.host_model.specs.Events.{HostEvent}
+use Rattle.proof_requests.specs.host_model.State.{HostState}
 use Rattle.proof_work.specs.world_model.Events.{shown_values}
 use Rattle.proof_requests.specs.proof_alone.State.{HostMachine, first_alone}
 use Rattle.proof_requests.specs.proof_alone.Steps.{DidNotCome, IsOfOthers, Step, Tells, Comes, Misses, Says, Says_nothing, Asks, Refuses, Shows, Restarts, Begins_tick, Numbers, Judges, Does, entries, happens}
-use Rattle.proof_requests.specs.proof_alone.Phases.{Phase, Resting, Asked, Risen, Ticking, Open, Behind, Sleeping, Submitting, GoesBy, IsBetween, May, Turns}
+use Rattle.proof_requests.specs.proof_alone.Phases.{Phase, Resting, Asked, Risen, Ticking, Open, Behind, Sleeping, Submitting, May, Turns}
 use Rattle.proof_requests.specs.proof_alone.Runs.{Knowledge, Run, Walk, WalkOver, both_know}
 use Rattle.proof_requests.specs.proof_alone.Runs.Run.{Begins, Turned, Stepped}
 use Rattle.proof_requests.proofs.Running.{run_keeps}
 use Rattle.proof_requests.proofs.proof_waking_Judging.{asked_on, nothing_on}
+pub use Rattle.proof_requests.proofs.proof_waking_Judging.{between_else, by_else}
 use Rattle.proof_attempts.specs.Since.{AlongRuns, BeforeWords, IsElse, IsLoose, KnowsSince, Lasts, TieOf, WalkBoth}
 
 -- ---- entries
@@ -46,17 +46,6 @@ missed_loose (entry.Garbled Chip unit ∷ entry.Overrun Chip ∷ []) did = (tt, 
 missed_loose marks did = absurd did
 
 -- ---- phases but the one where a line is asked
-
-pub between_else : (here : Phase) → IsBetween here → IsElse here
-between_else (Asked line) between = absurd between
-between_else here between = tt
-
-pub by_else : (here next : Phase) (h : HostState) (event : HostEvent) → GoesBy here h event next → IsElse here × IsElse next
-by_else (Ticking (first ∷ left)) next h event goes = (tt, subst IsElse (sym goes.1) tt)
-by_else (Behind (first ∷ left)) next h event goes = (tt, subst IsElse (sym goes.1) tt)
-by_else Sleeping next h event (node, wants, is, to_is) = (tt, subst IsElse (sym to_is) tt)
-by_else Submitting next h event goes = (tt, subst IsElse (sym goes.1) tt)
-by_else here next h event goes = absurd goes
 
 module _ (Tie : TieOf) where
   pub rest_of : (here : Phase) (past : List Entry) (m : HostMachine) → IsElse here → KnowsSince Tie here past m → Tie here past m.state m.clock

@@ -14,11 +14,11 @@ use Rattle.proof_work.specs.law_time.Ends.{has_ended}
 use Rattle.host_requests.specs.State.{RequestsState}
 use Rattle.host_requests.specs.declared.under_way.UnderWay.{UnderWay}
 use Rattle.host_node.specs.State.{needs_tick}
-use Rattle.host_model.specs.State.{HostState, node_of}
-use Rattle.host_model.specs.After.{after}
-use Rattle.host_model.specs.Did.{after_all}
-use Rattle.host_model.specs.Events.{HostEvent, Node_ticks}
-use Rattle.host_model.specs.Ticking.{first_ticks, tick_events, ticking_nodes}
+use Rattle.proof_requests.specs.host_model.State.{HostState, node_of}
+use Rattle.proof_requests.specs.host_model.After.{after}
+use Rattle.proof_requests.specs.host_model.Did.{after_all}
+use Rattle.proof_requests.specs.host_model.Events.{HostEvent, Node_ticks}
+use Rattle.proof_requests.specs.host_model.Ticking.{first_ticks, tick_events, ticking_nodes}
 use Rattle.proof_requests.specs.proof_alone.State.{HostMachine, done}
 use Rattle.proof_requests.specs.proof_alone.Steps.{AreFrames, Step, Tells, Comes, Misses, Says, Says_nothing, Asks, Refuses, Shows, Restarts, Begins_tick, Numbers, Judges, Does, entries, happens}
 use Rattle.proof_requests.specs.proof_alone.Phases.{Phase, Resting, Asked, Risen, Ticking, Open, Behind, Sleeping, Submitting, GoesBy, May, Turns}
@@ -55,7 +55,7 @@ told_none awaits e told more numbered are is = let none = numbered is in let bad
 unended_end : (past told : List Entry) (requests : RequestsState) (now : ℕ) → told ≡ [] → Unended past requests now → Unended (past ++ told) requests now
 unended_end past told requests now is un = subst (λ (l : List Entry). Unended l requests now) (sym (ap (λ (l : List Entry). past ++ l) is ∙ append-nil past)) un
 
-less : (n : ℕ) → n + 1 - 1 ≡ n
+pub less : (n : ℕ) → n + 1 - 1 ≡ n
 less n = omega arith
 
 does_unended : (here next : Phase) (past told : List Entry) (m : HostMachine) (event : HostEvent) → May here m (Does event told) next → Wrote here past told m.state event → KnowsUnended here past m

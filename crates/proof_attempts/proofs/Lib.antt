@@ -15,7 +15,7 @@ pub mod Doings
 mod SeriesTold
 pub mod SeriesGoes
 pub mod SeriesTie
-mod Payloads
+pub mod Payloads
 mod Carried
 pub mod Requested
 pub mod Wrote
@@ -23,7 +23,7 @@ pub mod Slept
 mod Owing
 pub mod Late
 pub mod Sleeping
-mod Asleep
+pub mod Asleep
 pub mod AttemptsGo
 pub use Rattle.proof_work.proofs.Times
 pub use Rattle.proof_work.proofs.HostNotes
@@ -58,3 +58,8 @@ pub use Rattle.proof_requests.proofs.EndsLate
 pub use Rattle.proof_requests.proofs.EndsTold
 pub use Rattle.proof_requests.proofs.InOrder
 pub use Rattle.proof_requests.proofs.UnderWay
+pub use Rattle.proof_work.proofs.Computing
+pub use Rattle.proof_requests.proofs.SealedByNumber
+pub use Rattle.proof_requests.proofs.SealedTexts
+pub use Rattle.proof_work.proofs.Commands
+pub use Rattle.proof_work.proofs.Lists

@@ -49,12 +49,12 @@ use Rattle.host_node.specs.TableState.{node_of as node_among, with_node}
 use Rattle.host_keep.specs.declared.final_status.FinalStatus.{FinalStatus}
 use Rattle.host_keep.specs.declared.final_status.FinalStatus.TheVariants as final
 use Rattle.host_keep.specs.Status.{status_byte}
-use Rattle.host_model.specs.State.{HostState, command_at, node_of}
-use Rattle.host_model.specs.Sessions.{open_command, settings_with}
-use Rattle.host_model.specs.Ends.{PartEnd, Good as part_good, Passed_over, Bad, after_end, after_end_if, after_part, after_task, asleep_entry, attempt_ended, attempt_entries, end_entries, end_entries_if, failed_entry, neighbours_entry, part_end, part_entries, task_entries}
-use Rattle.host_model.specs.After.{after, failing_if, finishing, gives_up, giving, holding, is_full, is_held, line_ticked, node_for, offering, requests_do}
-use Rattle.host_model.specs.Outs.{answer_to, copy_out, dropped_if, ended_of, failing_entries, held_entries, noted, outs, request_entries, stored_entries}
-use Rattle.host_model.specs.Events.{HostEvent, Accepts, Cancels, Joins, Hears, Requests_do, Interviews, Interview_unkept, Unreads, Is_unkept, Reports_old, Works, Finishes, Offers, Gives, Spends_unread, Takes_nonce, Notifies, Resends, Hears_value, Has_no_room, Line_ticks, Node_ticks, Queues_no_more, Drops_no_more, Starts, Gives_text, Gives_segment, Begins, Begin_unkept}
+use Rattle.proof_requests.specs.host_model.State.{HostState, command_at, node_of}
+use Rattle.proof_requests.specs.host_model.Sessions.{open_command, settings_with}
+use Rattle.proof_requests.specs.host_model.Ends.{PartEnd, Good as part_good, Passed_over, Bad, after_end, after_end_if, after_part, after_task, asleep_entry, attempt_ended, attempt_entries, end_entries, end_entries_if, failed_entry, neighbours_entry, part_end, part_entries, task_entries}
+use Rattle.proof_requests.specs.host_model.After.{after, failing_if, finishing, gives_up, giving, holding, is_full, is_held, line_ticked, node_for, offering, requests_do}
+use Rattle.proof_requests.specs.host_model.Outs.{answer_to, copy_out, dropped_if, ended_of, failing_entries, held_entries, noted, outs, request_entries, stored_entries}
+use Rattle.proof_requests.specs.host_model.Events.{HostEvent, Accepts, Cancels, Joins, Hears, Requests_do, Interviews, Interview_unkept, Unreads, Is_unkept, Reports_old, Works, Finishes, Offers, Gives, Spends_unread, Takes_nonce, Notifies, Resends, Hears_value, Has_no_room, Line_ticks, Node_ticks, Queues_no_more, Drops_no_more, Starts, Gives_text, Gives_segment, Begins, Begin_unkept}
 use Rattle.proof_work.specs.proof_host.Entries.{notes_of}
 use Rattle.proof_attempts.specs.Waking.{Follows, Waking, is_kept, is_released, one_less, sleeps, waking_before, waking_in, waking_of, waking_step, wakes}
 

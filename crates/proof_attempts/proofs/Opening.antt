@@ -18,8 +18,8 @@ use Rattle.proof_work.specs.law_time.Requests.{are_none}
 use Rattle.proof_work.specs.law_time.Waking.{counts_awake}
 use Rattle.proof_work.specs.law_time.Sessions.{is_final, is_open, last_command}
 use Rattle.host_node.specs.State.{NodeState, is_open as has_open}
-use Rattle.host_model.specs.State.{HostState, node_of}
-use Rattle.host_model.specs.Sessions.{open_command}
+use Rattle.proof_requests.specs.host_model.State.{HostState, node_of}
+use Rattle.proof_requests.specs.host_model.Sessions.{open_command}
 use Rattle.proof_work.specs.proof_host.Facts.{Facts}
 use Rattle.proof_work.specs.proof_host.Laws.{IsUnderWay, numbers_for}
 use Rattle.proof_work.specs.proof_host.Tables.{outcome_in, recorded}

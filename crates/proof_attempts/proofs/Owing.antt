@@ -1,7 +1,7 @@
 -- What is entered that lets no node fall asleep is allowed where no sleep is owed, and leaves none owed.
 use Rattle.std.proofs.Common.{◌≡◌, ℕ, ◌&&◌, ◌||◌, not, Bool, true, false, List, [], ◌∷◌, ◌++◌, refl, sym, ap, ◌∙◌, subst, append-nil, append_assoc}
 use Rattle.std.specs.List.{AllByRecursion, flat_map, list_any}
-use Rattle.std.proofs.lemmas.Bool.{and_from, and_left, both_ways, or_right}
+use Rattle.std.proofs.lemmas.Bool.{and_from, and_left, both_ways, or_right, or_from}
 use Rattle.zw_base.proofs.Each.{all-weaker}
 use Rattle.zw_words.specs.declared.side.Side.TheVariants.{Host}
 use Rattle.zw_text.specs.declared.entry.Ended.TheVariants as ended
@@ -70,12 +70,8 @@ marks_may past (e ∷ marks) all = (mark_may past e all.0, marks_may (past ++ e 
 abbrev pub Rested : List Entry → Type 0
 Rested past = (is_directly_after past ≡ false) × (owes_sleep_to_given_up past ≡ false)
 
-pub either_false : (a b : Bool) → a ≡ false → b ≡ false → (a || b) ≡ false
-either_false false b first second = second
-either_false true b first second = absurd (let bad : true ≡ false = first in cc)
-
 pub owes_by : (past : List Entry) → owes_sleep_to_told past ≡ false → owes_sleep_to_given_up past ≡ false → owes_sleep past ≡ false
-owes_by past told given = either_false (owes_sleep_to_told past) (owes_sleep_to_given_up past) told given
+owes_by past told given = or_from (owes_sleep_to_told past) (owes_sleep_to_given_up past) told given
 
 pub untold : (past : List Entry) → is_directly_after past ≡ false → owes_sleep_to_told past ≡ false
 untold past none =

@@ -17,13 +17,13 @@ use Rattle.host_node.specs.declared.series.Series.{Series}
 use Rattle.host_node.specs.declared.series.Series.TheVariants.{Idle, Due, Running}
 use Rattle.host_node.specs.Facts.{SeriesFacts}
 use Rattle.host_node.specs.State.{NodeState, is_false, is_running}
-use Rattle.host_model.specs.State.{Command, HostState, command_at, node_of}
-use Rattle.host_model.specs.Sessions.{open_command}
-use Rattle.host_model.specs.Facts.{IsCommandOf}
-use Rattle.host_model.specs.After.{after}
-use Rattle.host_model.specs.Did.{one_if}
-use Rattle.host_model.specs.Events.{HostEvent}
-use Rattle.host_model.specs.Outs.{outs}
+use Rattle.proof_requests.specs.host_model.State.{Command, HostState, command_at, node_of}
+use Rattle.proof_requests.specs.host_model.Sessions.{open_command}
+use Rattle.proof_requests.specs.host_model.Facts.{IsCommandOf}
+use Rattle.proof_requests.specs.host_model.After.{after}
+use Rattle.proof_requests.specs.host_model.Did.{one_if}
+use Rattle.proof_requests.specs.host_model.Events.{HostEvent}
+use Rattle.proof_requests.specs.host_model.Outs.{outs}
 use Rattle.proof_work.specs.proof_host.Entries.{notes_of}
 use Rattle.proof_work.specs.Work.{told_at, told_for}
 use Rattle.proof_attempts.specs.Waking.{Follows, TellsAwake, releases_of, waking_before, waking_in, waking_step}

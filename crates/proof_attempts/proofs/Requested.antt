@@ -21,9 +21,9 @@ use Rattle.host_node.specs.declared.attempt.Moment.TheVariants.{BeforeItsTick}
 use Rattle.host_node.specs.declared.no_more.NoMore.TheVariants.{Unasked}
 use Rattle.host_node.specs.State.{NodeState}
 use Rattle.host_node.specs.Steps.{after_no_more, after_sleep, asleep}
-use Rattle.host_model.specs.State.{HostState, node_of}
-use Rattle.host_model.specs.After.{after, failing_if, gives_up, line_ticked, request_does, requests_do}
-use Rattle.host_model.specs.Events.{HostEvent, Queues, Hears, Requests_do, Interviews, Interview_unkept, Line_ticks, Submits_abort, Submits_front, Starts, Gives_text, Gives_segment}
+use Rattle.proof_requests.specs.host_model.State.{HostState, node_of}
+use Rattle.proof_requests.specs.host_model.After.{after, failing_if, gives_up, line_ticked, request_does, requests_do}
+use Rattle.proof_requests.specs.host_model.Events.{HostEvent, Queues, Hears, Requests_do, Interviews, Interview_unkept, Line_ticks, Submits_abort, Submits_front, Starts, Gives_text, Gives_segment}
 use Rattle.proof_work.specs.Doing.{IsTold}
 use Rattle.proof_requests.specs.Asking.{Doing as DoingOfHost, doing_of}
 use Rattle.proof_requests.proofs.Doing.{beside_same, end_if_asks}

@@ -43,15 +43,15 @@ use Rattle.host_node.specs.State.{NodeState, has_waiting, is_idle, is_open, is_r
 use Rattle.host_node.specs.Steps.{after_again, after_attempt_end, after_hold_tick, after_no_more, after_no_more_end, after_occasion, after_sign, after_sleep, after_tick, after_told, asleep, attempt_end, falls_asleep, new_series, next_due, series_over, tick_end, with_again, with_wait, without_attempt}
 use Rattle.host_node.specs.Events.{after as after_node}
 use Rattle.host_node.specs.Events.NodeEvent.{Joins as node_joins, Interviews as node_interviews, Cancels as node_cancels, Blocks, Starts as node_starts, Gives_segment as node_gives_segment, Gives_text as node_gives_text, Takes_nonce as node_takes_nonce, Reports, Holds, Queues_no_more as node_queues_no_more, Drops_no_more as node_drops_no_more}
-use Rattle.host_model.specs.State.{Command, HostState, command_at, node_of}
-use Rattle.host_model.specs.Sessions.{open_command, settings_with}
-use Rattle.host_model.specs.Ends.{PartEnd, Good, Passed_over, Bad, asleep_entry, attempt_entries, end_entries, end_entries_if, failed_entry, neighbours_entry, part_end, part_entries, task_entries}
-use Rattle.host_model.specs.Facts.{HostFacts, IsCommandOf}
-use Rattle.host_model.specs.After.{gives_up, is_full, is_held, line_ticked, node_for, requests_do}
-use Rattle.host_model.specs.Events.{HostEvent, Accepts, Cancels, Joins, Hears, Requests_do, Interviews, Works, Finishes, Offers, Gives, Takes_nonce, Notifies, Resends, Line_ticks, Node_ticks, Queues_no_more, Drops_no_more, Starts, Gives_text, Gives_segment, Begins, Begin_unkept}
-use Rattle.host_model.specs.May.{IsFinal, May}
-use Rattle.host_model.specs.Outs.{dropped_if, ended_of, failing_entries, held_entries, noted, outs, request_entries, stored_entries}
-use Rattle.host_model.specs.Did.{one_if}
+use Rattle.proof_requests.specs.host_model.State.{Command, HostState, command_at, node_of}
+use Rattle.proof_requests.specs.host_model.Sessions.{open_command, settings_with}
+use Rattle.proof_requests.specs.host_model.Ends.{PartEnd, Good, Passed_over, Bad, asleep_entry, attempt_entries, end_entries, end_entries_if, failed_entry, neighbours_entry, part_end, part_entries, task_entries}
+use Rattle.proof_requests.specs.host_model.Facts.{HostFacts, IsCommandOf}
+use Rattle.proof_requests.specs.host_model.After.{gives_up, is_full, is_held, line_ticked, node_for, requests_do}
+use Rattle.proof_requests.specs.host_model.Events.{HostEvent, Accepts, Cancels, Joins, Hears, Requests_do, Interviews, Works, Finishes, Offers, Gives, Takes_nonce, Notifies, Resends, Line_ticks, Node_ticks, Queues_no_more, Drops_no_more, Starts, Gives_text, Gives_segment, Begins, Begin_unkept}
+use Rattle.proof_requests.specs.host_model.May.{IsFinal, May}
+use Rattle.proof_requests.specs.host_model.Outs.{dropped_if, ended_of, failing_entries, held_entries, noted, outs, request_entries, stored_entries}
+use Rattle.proof_requests.specs.host_model.Did.{one_if}
 use Rattle.proof_work.specs.proof_host.Entries.{notes_of}
 use Rattle.proof_work.specs.Work.{told_for}
 use Rattle.proof_attempts.specs.Series.{IsSeries, again_ticked}

@@ -20,7 +20,7 @@ use Rattle.host_node.specs.Facts.{NodeFacts, SeriesFacts}
 use Rattle.host_node.specs.State.{NodeState, has_waiting, is_idle, is_open as has_open, is_up as hears}
 use Rattle.host_node.specs.Steps.{after_again, after_begin, after_hold_tick, after_occasion, after_restart, after_sleep, as_recorded, asleep, new_series as anew, next_due, series_over, with_again, with_final, without_attempt}
 use Rattle.host_node.specs.TableState.{node_of as node_among, unknown_from, unknown_nodes}
-use Rattle.host_model.specs.State.{HostState, first_host, first_nodes, node_of}
+use Rattle.proof_requests.specs.host_model.State.{HostState, first_host, first_nodes, node_of}
 use Rattle.proof_requests.specs.proof_alone.State.{HostMachine}
 use Rattle.proof_requests.specs.proof_alone.Phases.{Phase, Resting, Asked, Risen, Ticking, Open, Behind, Sleeping, Submitting, Turns}
 use Rattle.proof_requests.proofs.proof_waking_Apart.{IsWordless, wordless_fresh}

@@ -26,13 +26,13 @@ use Rattle.host_node.specs.declared.series.Series.{Series}
 use Rattle.host_node.specs.declared.series.Series.TheVariants.{Idle, Due, Running}
 use Rattle.host_node.specs.State.{NodeState, has_waiting, is_idle, is_open as has_open, is_up as hears, needs_tick, unknown}
 use Rattle.host_node.specs.Steps.{after_begin, after_occasion, after_put, after_tick, as_recorded, new_series as anew, tried_again}
-use Rattle.host_model.specs.State.{Command, HostState, node_of}
-use Rattle.host_model.specs.After.{after, node_for}
-use Rattle.host_model.specs.Events.{HostEvent, Accepts, Cancels, Joins, Queues, Queues_interview, Queues_probe, Hears, Requests_do, Notifies, Line_ticks, Node_ticks, Begins}
-use Rattle.host_model.specs.May.{May}
-use Rattle.host_model.specs.Outs.{answers, outs}
-use Rattle.host_model.specs.Ticking.{ticking_nodes}
-use Rattle.host_model.proofs.Submitted.{SleepersAre, SubmittedAre, next_is, no_more_is}
+use Rattle.proof_requests.specs.host_model.State.{Command, HostState, node_of}
+use Rattle.proof_requests.specs.host_model.After.{after, node_for}
+use Rattle.proof_requests.specs.host_model.Events.{HostEvent, Accepts, Cancels, Joins, Queues, Queues_interview, Queues_probe, Hears, Requests_do, Notifies, Line_ticks, Node_ticks, Begins}
+use Rattle.proof_requests.specs.host_model.May.{May}
+use Rattle.proof_requests.specs.host_model.Outs.{answers, outs}
+use Rattle.proof_requests.specs.host_model.Ticking.{ticking_nodes}
+use Rattle.proof_requests.proofs.Submitted.{SleepersAre, SubmittedAre, next_is, no_more_is}
 use Rattle.proof_work.proofs.HostOuts.{SharedAre, outs_are}
 use Rattle.proof_work.specs.proof_host.Entries.{notes_of}
 use Rattle.proof_work.specs.proof_host.Facts.{Facts}
@@ -40,7 +40,7 @@ use Rattle.proof_work.specs.proof_host.Laws.{IsUnderWay}
 use Rattle.proof_work.specs.proof_host.Tables.{outcome_in}
 use Rattle.zw_base.proofs.Each.{all-right}
 use Rattle.supervision.specs.Host.{open_session}
-use Rattle.host_model.specs.Sessions.{open_command}
+use Rattle.proof_requests.specs.host_model.Sessions.{open_command}
 use Rattle.proof_work.specs.world_model.Events.{OpensFrom}
 use Rattle.proof_requests.proofs.proof_waking_Apart.{IsWordless}
 use Rattle.proof_work.specs.Work.{HostWork, times_due, told_at, told_in}
@@ -57,7 +57,8 @@ use Rattle.proof_attempts.specs.Waiting.{WaitInOrder}
 use Rattle.proof_attempts.specs.Waking.{CountsAwake, KnowsWork}
 use Rattle.proof_attempts.proofs.Counting.{each_restarts, told_wordless}
 use Rattle.proof_attempts.proofs.Doings.{did, does_at, node_after}
-use Rattle.proof_attempts.proofs.Holding.{clock_now, told_untimed}
+use Rattle.proof_requests.proofs.Timing.{told_untimed}
+use Rattle.proof_attempts.proofs.Holding.{clock_now}
 use Rattle.proof_attempts.proofs.Lasting.{rest_of}
 use Rattle.proof_attempts.proofs.Nodes.{AtIs}
 use Rattle.proof_attempts.proofs.Opening.{has_last, last_is, node_told}

@@ -13,8 +13,8 @@ use Rattle.zw_text.proofs.Views.{folded-append}
 use Rattle.proof_work.specs.law_time.Judged.{last_of}
 use Rattle.proof_work.specs.law_time.Moments.{clock, now_at}
 use Rattle.proof_work.specs.law_time.Sessions.{Series as SeriesTold, is_last_command, series_by_end, series_step, with_time}
-use Rattle.host_model.specs.declared.out.HostOut.{HostOut}
-use Rattle.host_model.specs.declared.out.HostOut.TheVariants.{Note, Write}
+use Rattle.proof_requests.specs.host_model.declared.out.HostOut.{HostOut}
+use Rattle.proof_requests.specs.host_model.declared.out.HostOut.TheVariants.{Note, Write}
 use Rattle.proof_work.specs.proof_host.Entries.{notes_of}
 use Rattle.proof_work.proofs.Untimed.{AreUntimed, IsUntimed}
 use Rattle.proof_requests.specs.proof_alone.Steps.{AreTold, IsOfUnit}
@@ -22,6 +22,7 @@ use Rattle.proof_requests.proofs.proof_waking_Apart.{IsWordless}
 use Rattle.proof_attempts.specs.Series.{series_so_far}
 use Rattle.proof_attempts.specs.Since.{IsLoose}
 use Rattle.proof_attempts.proofs.SeriesSteps.{series_one, waits_on}
+use Rattle.proof_attempts.proofs.Counting.{loose_wordless}
 use Rattle.proof_attempts.proofs.Telling.{same_sessions_by}
 use Rattle.proof_requests.proofs.Telling.{clock_same}
 
@@ -143,11 +144,6 @@ loose_untimed : (e : Entry) → IsLoose e → IsUntimed e
 loose_untimed (entry.Said words) loose = absurd loose
 loose_untimed (entry.Time tick) loose = absurd loose
 loose_untimed e loose = tt
-
-loose_wordless : (e : Entry) → IsLoose e → IsWordless e
-loose_wordless (entry.Said words) loose = absurd loose
-loose_wordless (entry.Refused refusal) loose = absurd loose
-loose_wordless e loose = tt
 
 loose_still : (last : ℕ → Bool) (now : ℕ) (s : SeriesTold) (told : List Entry) → AllByRecursion IsLoose told → folded (end_step last now) s told ≡ s
 loose_still last now s [] all = refl

@@ -39,10 +39,10 @@ use Rattle.host_node.specs.declared.attempt.AttemptEnd.TheVariants.{NoneRan, Aga
 use Rattle.host_node.specs.Facts.{NodeFacts}
 use Rattle.host_node.specs.State.{NodeState, is_running}
 use Rattle.host_node.specs.Steps.{after_again_tick, after_hold_tick, attempt_end, falls_asleep, tick_end}
-use Rattle.host_model.specs.State.{HostState, node_of}
-use Rattle.host_model.specs.Sessions.{open_command}
-use Rattle.host_model.specs.Facts.{IsCommandOf}
-use Rattle.host_model.specs.Ends.{PartEnd, Good, Passed_over, Bad, asleep_entry, attempt_entries, end_entries, failed_entry, neighbours_entry, out_entry, part_end, part_entries}
+use Rattle.proof_requests.specs.host_model.State.{HostState, node_of}
+use Rattle.proof_requests.specs.host_model.Sessions.{open_command}
+use Rattle.proof_requests.specs.host_model.Facts.{IsCommandOf}
+use Rattle.proof_requests.specs.host_model.Ends.{PartEnd, Good, Passed_over, Bad, asleep_entry, attempt_entries, end_entries, failed_entry, neighbours_entry, out_entry, part_end, part_entries}
 use Rattle.proof_requests.proofs.proof_waking_Apart.{wordless_more}
 use Rattle.proof_requests.specs.Ends.{EndsHere}
 use Rattle.proof_requests.proofs.Untold.{directly_one}

@@ -1,16 +1,14 @@
 -- A node that was told that there is no more for it has slept since, by the transcript, once the request that tells it is over; and not before.
-use Rattle.std.proofs.Common.{◌≡◌, ◌⊎◌, ℕ, ◌≤◌, ◌==◌, ◌||◌, not, Bool, true, false, if◌then◌else◌, inl, inr, List, [], ◌∷◌, ◌++◌, length, Option, Some, None, refl, sym, ap, ◌∙◌, ap₂, subst, append_assoc, append-nil, arith}
+use Rattle.std.proofs.Common.{◌≡◌, ◌⊎◌, ℕ, ◌≤◌, ◌==◌, ◌||◌, not, Bool, true, false, if◌then◌else◌, inl, inr, List, [], ◌∷◌, ◌++◌, length, Option, Some, None, refl, sym, ap, ◌∙◌, ap₂, subst, append_assoc, arith}
 use Rattle.std.specs.Prelude.{IsSome}
 use Rattle.std.specs.List.{AllByRecursion, flat_map, list_any}
 use Rattle.std.proofs.lemmas.Bool.{both_ways, eq-eqb, eqb-true, or_left, or_right}
 use Rattle.std.proofs.lemmas.List.Folds.{list_any-append}
-use Rattle.zw_base.proofs.Each.{all-append, all-weaker}
+use Rattle.zw_base.proofs.Each.{all-weaker}
 use Rattle.serial_frame.specs.Items.{unit_text}
 use Rattle.serial_frame.specs.declared.item.Item.{Item}
-use Rattle.serial_frame.specs.declared.item.Item.TheVariants.{Good, Refused as refused_item}
-use Rattle.serial_frame.specs.declared.item.Refusal.TheVariants.{Stray, BadLength, BadSum, BadKind, Aborted}
 use Rattle.serial_frame.specs.declared.unit.Unit.{Unit as LineUnit}
-use Rattle.serial_frame.specs.declared.unit.Unit.TheVariants.{Ack, Nak, Can, Framed}
+use Rattle.serial_frame.specs.declared.unit.Unit.TheVariants.{Ack, Nak, Framed}
 use Rattle.serial_link.specs.State.{Side}
 use Rattle.chip_functions.specs.declared.notice.Update.{Update}
 use Rattle.chip_functions.specs.declared.notice.Update.TheVariants.{Received, RequestFailed}
@@ -24,7 +22,7 @@ use Rattle.zw_text.proofs.Views.{shown-append}
 use Rattle.proof_work.specs.law_transcript.Lists.{last_or}
 use Rattle.proof_work.specs.law_transcript.Restarts.{begins_refused, is_restart}
 use Rattle.proof_work.specs.law_transcript.Units.{request_in, sending_of}
-use Rattle.proof_work.specs.law_time.Interviews.{listening_at, listens}
+use Rattle.proof_work.specs.law_time.Interviews.{listens}
 use Rattle.proof_work.specs.law_time.Judged.{acknowledged, is_data}
 use Rattle.proof_work.specs.law_time.Requests.{Asked as TheAsked, asked, is_new, request_last}
 use Rattle.proof_work.specs.law_time.Waking.{has_slept, is_told, node_told, nodes_told}
@@ -36,22 +34,24 @@ use Rattle.host_requests.specs.declared.task.Purpose.TheVariants.{Housekeeping, 
 use Rattle.host_requests.specs.declared.task.Task.TheVariants.{Plain, Segment, NoMore}
 use Rattle.host_requests.specs.declared.under_way.UnderWay.{UnderWay}
 use Rattle.host_requests.specs.declared.under_way.Progress.TheVariants.{Submitted}
-use Rattle.host_model.specs.State.{HostState, first_host, node_of}
-use Rattle.host_model.specs.Did.{one_if}
-use Rattle.host_model.specs.After.{after}
-use Rattle.host_model.specs.May.{May as may_event}
-use Rattle.host_model.specs.Outs.{answer_to, answers, outs}
-use Rattle.host_model.specs.declared.out.HostOut.TheVariants.{Write}
+use Rattle.proof_requests.specs.host_model.State.{HostState, first_host, node_of}
+use Rattle.proof_requests.specs.host_model.Did.{one_if}
+use Rattle.proof_requests.specs.host_model.After.{after}
+use Rattle.proof_requests.specs.host_model.May.{May as may_event}
+use Rattle.proof_requests.specs.host_model.Outs.{answer_to, answers, outs}
+use Rattle.proof_requests.specs.host_model.declared.out.HostOut.TheVariants.{Write}
 use Rattle.proof_work.specs.world_model.Events.{OpensFrom}
-use Rattle.host_model.specs.Events.{HostEvent, Accepts, Cancels, Hears, Interviews, Notifies}
+use Rattle.proof_requests.specs.host_model.Events.{HostEvent, Accepts, Cancels, Hears, Interviews, Notifies}
 use Rattle.s0_crypto.specs.declared.key_pair.Keys.{Keys}
 use Rattle.proof_work.specs.Work.{HostWork, MayBeTold, times_told, told_at, told_for}
-use Rattle.proof_work.proofs.HostOuts.{SharedAre, outs_are}
+use Rattle.proof_work.proofs.HostOuts.{outs_are}
 use Rattle.proof_requests.specs.proof_alone.State.{HostMachine, done}
 use Rattle.proof_requests.specs.proof_alone.Steps.{AreTold, Does, IsOfUnit}
 use Rattle.proof_requests.specs.proof_alone.Phases.{Phase, Resting, Submitting, GoesBy, May}
 use Rattle.proof_requests.proofs.proof_waking_Apart.{IsWordless, wordless_fresh}
 use Rattle.proof_requests.proofs.proof_alone_Apart.{AreOfLine}
+use Rattle.proof_requests.proofs.proof_waking_Listening.{IsNoInterview, TellsNone, event_none, listens_more}
+use Rattle.proof_requests.proofs.proof_waking_Parts.{IsNoWaking, unit_told, item_told}
 use Rattle.proof_requests.specs.Asking.{Doing, TieAsked, TieUnderWay, doing_of}
 use Rattle.proof_requests.specs.Standing.{GoesOn, standing_of, with_entries}
 use Rattle.proof_requests.specs.Walking.{KnowsAsked}
@@ -61,22 +61,20 @@ use Rattle.proof_requests.proofs.Queueing.{opened_asks}
 use Rattle.proof_requests.proofs.Stepping.{asked_beside}
 use Rattle.proof_requests.proofs.Telling.{IsQuiet, quiet_on}
 use Rattle.proof_requests.proofs.Walking.{marks_quiet}
+use Rattle.proof_requests.proofs.proof_waking_Settling.{waking_shared}
+pub use Rattle.proof_requests.proofs.Judging.{or_false as or_none}
 use Rattle.proof_attempts.specs.Carried.{CarriesOthers, CarriesWell, IsOther, UnderWayWell, nodes_of}
 use Rattle.proof_attempts.specs.Slept.{KnowsTelling, SleepsIfTold, SleptSo, TieSlept}
 use Rattle.proof_attempts.specs.Since.{IsElse, IsLoose, Lasts}
 use Rattle.proof_attempts.proofs.Counting.{answers_wordless, event_awake, loose_wordless, told_wordless}
 use Rattle.proof_attempts.proofs.Lasting.{by_else, rest_of}
 use Rattle.proof_attempts.proofs.Requested.{Unsubmitted, event_keeps, told_sleeps}
-use Rattle.proof_attempts.proofs.Telling.{same_listens_by, told_so}
+use Rattle.proof_attempts.proofs.Telling.{told_so}
 use Rattle.proof_attempts.proofs.Working.{in_order}
 use Rattle.proof_attempts.proofs.Wrote.{Wrote, writes}
 use Rattle.proof_attempts.proofs.Wrote.Wrote.{Quietly, Again, Anew}
 
 -- ---- which nodes a request tells
-
-pub or_none : (b : Bool) → (b || false) ≡ b
-or_none true = refl
-or_none false = refl
 
 abbrev pub told_by : List Request → List ℕ
 told_by requests = flat_map node_told (flat_map sending_of requests)
@@ -110,18 +108,10 @@ frame_tells past requests u is well request = ap told_by request ∙ purpose_tel
 pub slept_more : (n : ℕ) (some more : List Entry) → has_slept n (some ++ more) ≡ (has_slept n some || has_slept n more)
 slept_more n some more = ap (λ (l : List Bool). list_any not l) (shown-append (waking_at n) some more) ∙ list_any-append not (wakings n some) (wakings n more)
 
--- no node wakes by it; none falls asleep, or was interviewed
-abbrev NoneWakes : Entry → Type 0
-NoneWakes (entry.Awake node) = ⊥
-NoneWakes e = Unit {0}
-
+-- no node falls asleep by it
 abbrev pub NoneSleeps : Entry → Type 0
 NoneSleeps (entry.Asleep node) = ⊥
 NoneSleeps e = Unit {0}
-
-abbrev NoInterview : Entry → Type 0
-NoInterview (entry.Interviewed node) = ⊥
-NoInterview e = Unit {0}
 
 pub none_slept : (n : ℕ) (told : List Entry) → AllByRecursion NoneSleeps told → has_slept n told ≡ false
 none_slept n [] all = refl
@@ -138,7 +128,7 @@ mark_wakes (entry.Asleep node) mark = absurd mark
 mark_wakes e mark = tt
 
 -- it wakes no more, and slept where it is not awake in the end
-stays_asleep : (n : ℕ) (told : List Entry) → AllByRecursion NoneWakes told → last_or false (wakings n told) ≡ false
+stays_asleep : (n : ℕ) (told : List Entry) → AllByRecursion IsNoWaking told → last_or false (wakings n told) ≡ false
 stays_asleep n [] all = refl
 stays_asleep n (entry.Awake node ∷ told) all = absurd all.0
 stays_asleep n (entry.Asleep node ∷ told) all = by (node == n) (stays_asleep n told all.1)
@@ -148,7 +138,7 @@ stays_asleep n (entry.Asleep node ∷ told) all = by (node == n) (stays_asleep n
     by false rest = rest
 stays_asleep n (e ∷ told) all = stays_asleep n told all.1
 
-stays_awake : (n : ℕ) (told : List Entry) → AllByRecursion NoneWakes told → last_or true (wakings n told) ≡ true → has_slept n told ≡ false
+stays_awake : (n : ℕ) (told : List Entry) → AllByRecursion IsNoWaking told → last_or true (wakings n told) ≡ true → has_slept n told ≡ false
 stays_awake n [] all awake = refl
 stays_awake n (entry.Awake node ∷ told) all awake = absurd all.0
 stays_awake n (entry.Asleep node ∷ told) all awake = by (node == n) awake (stays_awake n told all.1)
@@ -166,71 +156,24 @@ fell_asleep (false ∷ l) slept = refl
 
 -- ---- what is told at an event
 
-wakes_line : AreOfLine NoneWakes
+wakes_line : AreOfLine IsNoWaking
 wakes_line = record { written = λ side text. tt; dropped = λ side. tt; garbled = λ side text. tt; overrun = λ side. tt }
-
-wakes_shared : SharedAre NoneWakes
-wakes_shared = record {
-  unanswered = λ command. tt;
-  asleep = λ n. tt;
-  done = λ n how. tt;
-  uninterviewed = λ n. tt;
-  neighbours = λ n nodes. tt;
-  failed = λ n is_failed. tt;
-  stored = λ n setting. tt;
-  held = λ n. tt;
-  full = λ n. tt;
-}
 
 sleeps_line : AreOfLine NoneSleeps
 sleeps_line = record { written = λ side text. tt; dropped = λ side. tt; garbled = λ side text. tt; overrun = λ side. tt }
-
-interview_line : AreOfLine NoInterview
-interview_line = record { written = λ side text. tt; dropped = λ side. tt; garbled = λ side text. tt; overrun = λ side. tt }
-
-interview_shared : SharedAre NoInterview
-interview_shared = record {
-  unanswered = λ command. tt;
-  asleep = λ n. tt;
-  done = λ n how. tt;
-  uninterviewed = λ n. tt;
-  neighbours = λ n nodes. tt;
-  failed = λ n is_failed. tt;
-  stored = λ n setting. tt;
-  held = λ n. tt;
-  full = λ n. tt;
-}
-
-abbrev InterviewsNone : HostEvent → Type 0
-InterviewsNone (Interviews n listens classes update) = ⊥
-InterviewsNone event = Unit {0}
-
-told_uninterviewed : (h : HostState) (event : HostEvent) (told : List Entry) → InterviewsNone event → AreTold (outs h event) told → AllByRecursion NoInterview told
-told_uninterviewed h (Interviews n listens classes update) told none are = absurd none
-told_uninterviewed h (Accepts order carriage) told none are = told_so NoInterview interview_line [] told tt are
-told_uninterviewed h event told none are = told_so NoInterview interview_line (outs h event) told (outs_are NoInterview interview_shared h event tt) are
 
 -- where the node is awake before and after an event it has not slept in it
 never_slept : (h : HostState) (event : HostEvent) (told : List Entry) (n : ℕ) → AreTold (outs h event) told → last_or true (wakings n told) ≡ true → has_slept n told ≡ false
 never_slept h (Notifies k) told n are awake = none_slept n told (told_so NoneSleeps sleeps_line (outs h (Notifies k)) told (tt, tt) are)
 never_slept h (Accepts order carriage) told n are awake = none_slept n told (told_so NoneSleeps sleeps_line [] told tt are)
-never_slept h event told n are awake = stays_awake n told (told_so NoneWakes wakes_line (outs h event) told (outs_are NoneWakes wakes_shared h event tt) are) awake
-
-listens_same : (n : ℕ) (past told : List Entry) → AllByRecursion NoInterview told → listens n (past ++ told) ≡ listens n past
-listens_same n past [] all = ap (λ (l : List Entry). listens n l) (append-nil past)
-listens_same n past (e ∷ told) all =
-    ap (λ (l : List Entry). listens n l) (sym (append_assoc past (e ∷ []) told)) ∙ listens_same n (past ++ e ∷ []) told all.1 ∙ same_listens_by n past e (untold past e all.0)
-  where
-    untold : (past : List Entry) (e : Entry) → NoInterview e → listening_at n past e ≡ []
-    untold past (entry.Interviewed node) none = absurd none
-    untold past e none = refl
+never_slept h event told n are awake = stays_awake n told (told_so IsNoWaking wakes_line (outs h event) told (outs_are IsNoWaking waking_shared h event tt) are) awake
 
 none_interviewed : (first : Option ℕ) (update : Update) → interviewed_from first update None ≡ None
 none_interviewed first (Received n basic generic specific classes) = refl
 none_interviewed first RequestFailed = refl
 
 -- none is interviewed where no request is under way
-not_interviewed : (h : HostState) (event : HostEvent) → may_event h event → h.requests.under_way ≡ None → InterviewsNone event
+not_interviewed : (h : HostState) (event : HostEvent) → may_event h event → h.requests.under_way ≡ None → IsNoInterview event
 not_interviewed h (Interviews n listens classes update) (capability, it, says) none =
     let bad : None ≡ Some capability = sym (ap (λ (o : Option UnderWay). interviewed_from h.requests.first update o) none ∙ none_interviewed h.requests.first update) ∙ it.brought in cc
 not_interviewed h event may none = tt
@@ -259,7 +202,7 @@ new_asked past unit marks new all =
     ∙ ap (λ (a : TheAsked). with_entries a marks) (asked_new past unit new)
 
 -- nothing changes
-calm_each : (n : ℕ) (past told : List Entry) (s t : RequestsState) → On past told → t.under_way ≡ s.under_way → AllByRecursion NoneSleeps told → AllByRecursion NoInterview told → SleptSo n past s
+calm_each : (n : ℕ) (past told : List Entry) (s t : RequestsState) → On past told → t.under_way ≡ s.under_way → AllByRecursion NoneSleeps told → AllByRecursion TellsNone told → SleptSo n past s
     → SleptSo n (past ++ told) t
 calm_each n past told s t on same awake uninterviewed tie = record {
   over = λ none told_so. by (tie.over (sym same ∙ none) (ap (λ (f : List ℕ). is_told n f) (sym (on_frame past told on)) ∙ told_so));
@@ -271,9 +214,9 @@ calm_each n past told s t on same awake uninterviewed tie = record {
 
     by : (has_slept n (asked past).following ≡ true) ⊎ (listens n past ≡ true) → (has_slept n (asked (past ++ told)).following ≡ true) ⊎ (listens n (past ++ told) ≡ true)
     by (inl has) = inl (slept ∙ has)
-    by (inr hears) = inr (listens_same n past told uninterviewed ∙ hears)
+    by (inr hears) = inr (listens_more n past told uninterviewed ∙ hears)
 
-calm : (past told : List Entry) (s t : RequestsState) → On past told → t.under_way ≡ s.under_way → t.last_id ≡ s.last_id → AllByRecursion NoneSleeps told → AllByRecursion NoInterview told
+calm : (past told : List Entry) (s t : RequestsState) → On past told → t.under_way ≡ s.under_way → t.last_id ≡ s.last_id → AllByRecursion NoneSleeps told → AllByRecursion TellsNone told
     → TieSlept past s → TieSlept (past ++ told) t
 calm past told s t on same id awake uninterviewed tie = record {
   request = λ u is.
@@ -296,13 +239,13 @@ loose_awake : (e : Entry) → IsLoose e → NoneSleeps e
 loose_awake (entry.Asleep node) loose = absurd loose
 loose_awake e loose = tt
 
-loose_uninterviewed : (e : Entry) → IsLoose e → NoInterview e
+loose_uninterviewed : (e : Entry) → IsLoose e → TellsNone e
 loose_uninterviewed (entry.Interviewed node) loose = absurd loose
 loose_uninterviewed e loose = tt
 
 -- what answers a line, and an item
 abbrev IsCalm : Entry → Type 0
-IsCalm e = GoesOn e × (NoneSleeps e × NoInterview e)
+IsCalm e = GoesOn e × (NoneSleeps e × TellsNone e)
 
 answers_calm : (h : HostState) (event : HostEvent) → AllByRecursion IsCalm (answers h event)
 answers_calm h (Accepts order carriage) = ((tt, (tt, tt)), tt)
@@ -316,29 +259,16 @@ mark_calm (entry.Overrun Host) mark = (tt, (tt, tt))
 mark_calm e mark = absurd mark
 
 one_calm : (unit : LineUnit) (told : List Entry) → is_data (unit_text unit) ≡ false → AreTold (Write unit ∷ []) told → AllByRecursion IsCalm told
-one_calm unit told none (marks, rest, is, all, more) =
-    subst (AllByRecursion IsCalm) (sym is)
-    ((none, (tt, tt)), all-append IsCalm marks rest (all-weaker IsOfUnit IsCalm mark_calm marks all) (subst (AllByRecursion IsCalm) (sym more) tt))
-
-nothing_calm : (told : List Entry) → told ≡ [] → AllByRecursion IsCalm told
-nothing_calm told is = subst (AllByRecursion IsCalm) (sym is) tt
+one_calm unit told none are = unit_told IsCalm mark_calm unit told (none, (tt, tt)) are
 
 item_calm : (item : Item) (told : List Entry) → AreTold (answer_to item) told → AllByRecursion IsCalm told
-item_calm (Good (Framed f)) told are = one_calm Ack told refl are
-item_calm (Good Ack) told are = nothing_calm told are
-item_calm (Good Nak) told are = nothing_calm told are
-item_calm (Good Can) told are = nothing_calm told are
-item_calm (refused_item (BadSum want got)) told are = one_calm Nak told refl are
-item_calm (refused_item (BadKind x)) told are = one_calm Nak told refl are
-item_calm (refused_item (Stray x)) told are = nothing_calm told are
-item_calm (refused_item (BadLength n)) told are = nothing_calm told are
-item_calm (refused_item Aborted) told are = nothing_calm told are
+item_calm item told are = item_told (AllByRecursion IsCalm) (λ l is. one_calm Ack l refl is) (λ l is. one_calm Nak l refl is) tt item told are
 
 calm_told : (past told : List Entry) (s t : RequestsState) → AllByRecursion IsWordless told → t.under_way ≡ s.under_way → t.last_id ≡ s.last_id → AllByRecursion IsCalm told → TieSlept past s
     → TieSlept (past ++ told) t
 calm_told past told s t wordless same id all tie =
     calm past told s t (asked_on past told (wordless_fresh told wordless) (all-weaker IsCalm GoesOn (λ e is. is.0) told all)) same id (all-weaker IsCalm NoneSleeps (λ e is. is.1.0) told all)
-    (all-weaker IsCalm NoInterview (λ e is. is.1.1) told all) tie
+    (all-weaker IsCalm TellsNone (λ e is. is.1.1) told all) tie
 
 -- what answers an item goes on with the last request, and no node sleeps by it
 pub item_on : (past : List Entry) (item : Item) (told : List Entry) → AllByRecursion IsWordless told → AreTold (answer_to item) told → On past told × AllByRecursion NoneSleeps told
@@ -409,7 +339,7 @@ module _ (tells : (h : HostState) (n : ℕ) → HostWork h → 1 ≤ times_told 
           before : h.requests.under_way ≡ None → (has_slept n (asked past).following ≡ true) ⊎ (listens n past ≡ true)
               → (has_slept n (asked (past ++ told)).following ≡ true) ⊎ (listens n (past ++ told) ≡ true)
           before is (inl has) = inl (on_slept n past told on ∙ or_left (has_slept n (asked past).following) (has_slept n told) has)
-          before is (inr hears) = inr (listens_same n past told (told_uninterviewed h event told (not_interviewed h event may is) are) ∙ hears)
+          before is (inr hears) = inr (listens_more n past told (event_none h event told (not_interviewed h event may is) are) ∙ hears)
 
           by : (o : Option UnderWay) → h.requests.under_way ≡ o → (has_slept n (asked (past ++ told)).following ≡ true) ⊎ (listens n (past ++ told) ≡ true)
           by None is = before is ((tie.each n from to).over is told_then)
@@ -516,7 +446,7 @@ module _ (tells : (h : HostState) (n : ℕ) → HostWork h → 1 ≤ times_told 
   slept_last = record {
     loose = λ here at past told m all numbered ground tie.
         calm past told m.state.requests m.state.requests (asked_on past told (loose_fresh told all) (all-weaker IsLoose GoesOn loose_goes told all)) refl refl
-        (all-weaker IsLoose NoneSleeps loose_awake told all) (all-weaker IsLoose NoInterview loose_uninterviewed told all) tie;
+        (all-weaker IsLoose NoneSleeps loose_awake told all) (all-weaker IsLoose TellsNone loose_uninterviewed told all) tie;
     numbers = λ here past m other ground later tie.
         calm past (entry.Time m.clock ∷ []) m.state.requests m.state.requests (asked_on past (entry.Time m.clock ∷ []) refl (tt, tt)) refl refl (tt, tt) (tt, tt) tie;
     said = λ past words m none ground goes_on tie.

@@ -1,10 +1,8 @@
 -- What is told at one event of a host: where it tells that a command goes unanswered it tells neither of a session that begins nor of an interview; and but where a session ends no node is
 -- held, and no value stored.
-use Rattle.std.proofs.Common.{◌≡◌, ◌⊎◌, ℕ, ◌==◌, ◌&&◌, not, Bool, inl, inr, List, [], ◌∷◌, ◌++◌, refl, sym, ap, ap₂, ◌∙◌, subst, append-nil}
+use Rattle.std.proofs.Common.{◌≡◌, ◌⊎◌, ℕ, ◌==◌, ◌&&◌, not, Bool, inl, inr, List, [], ◌∷◌, ◌++◌, refl, ap, ap₂, ◌∙◌, append-nil}
 use Rattle.std.specs.List.{AllByRecursion, list_any}
-use Rattle.zw_base.proofs.Each.{all-append, all-weaker}
-use Rattle.serial_frame.specs.Items.{unit_text}
-use Rattle.zw_words.specs.declared.side.Side.TheVariants.{Host}
+use Rattle.zw_base.proofs.Each.{all-weaker}
 use Rattle.zw_text.specs.declared.entry.Ended.TheVariants as ended
 use Rattle.zw_text.specs.declared.entry.Entry.{Entry}
 use Rattle.zw_text.specs.declared.entry.Entry.TheVariants as entry
@@ -15,15 +13,14 @@ use Rattle.proof_work.specs.law_transcript.Nodes.{first_node}
 use Rattle.proof_work.specs.law_time.Interviews.{listening_at, listens}
 use Rattle.proof_work.specs.law_time.Judged.{last_of}
 use Rattle.proof_work.specs.law_time.Sessions.{is_last_command}
-use Rattle.host_model.specs.State.{HostState}
-use Rattle.host_model.specs.Outs.{outs}
-use Rattle.host_model.specs.Events.{HostEvent, Accepts, Requests_do, Interviews, Finishes, Line_ticks, Node_ticks, Begins}
-use Rattle.host_model.specs.declared.out.HostOut.{HostOut}
-use Rattle.host_model.specs.declared.out.HostOut.TheVariants.{Note, Write}
-use Rattle.proof_work.proofs.HostOuts.{AttemptsAre, EndsAre, MayPut, OutsAre, SharedAre, outs_are, outs_put}
+use Rattle.proof_requests.specs.host_model.State.{HostState}
+use Rattle.proof_requests.specs.host_model.Outs.{outs}
+use Rattle.proof_requests.specs.host_model.Events.{HostEvent, Accepts, Requests_do, Interviews, Finishes, Line_ticks, Node_ticks, Begins}
+use Rattle.proof_work.proofs.HostOuts.{AttemptsAre, EndsAre, MayPut, SharedAre, outs_are, outs_put}
 use Rattle.proof_work.proofs.Shown.{shown_one}
 use Rattle.proof_requests.specs.proof_alone.Steps.{AreTold}
-use Rattle.proof_requests.proofs.proof_alone_Apart.{AreOfLine, marks_are}
+use Rattle.proof_requests.proofs.proof_alone_Apart.{AreOfLine}
+pub use Rattle.proof_requests.proofs.proof_alone_Apart.{puts_are as told_so}
 
 -- ---- entries
 
@@ -76,22 +73,11 @@ same_releases n past e number steady =
 
 -- ---- at an event
 
--- of what is put out, by the entries in it
-module _ (Is : Entry → Type 0) (line : AreOfLine Is) where
-  pub told_so : (puts : List HostOut) (told : List Entry) → OutsAre Is puts → AreTold puts told → AllByRecursion Is told
-  told_so [] told all is = subst (λ (l : List Entry). AllByRecursion Is l) (sym is) tt
-  told_so (Note e ∷ puts) told all (rest, is, more) = subst (λ (l : List Entry). AllByRecursion Is l) (sym is) (all.0, told_so puts rest all.1 more)
-  told_so (Write unit ∷ puts) told all (marks, rest, is, of_unit, more) =
-      subst (λ (l : List Entry). AllByRecursion Is l) (sym is) (line.written Host (unit_text unit), all-append Is marks rest (marks_are Is line marks of_unit) (told_so puts rest all.1 more))
-
 steady_line : AreOfLine IsSteady
 steady_line = record { written = λ side text. tt; dropped = λ side. tt; garbled = λ side text. tt; overrun = λ side. tt }
 
 answered_line : AreOfLine IsAnswered
 answered_line = record { written = λ side text. tt; dropped = λ side. tt; garbled = λ side text. tt; overrun = λ side. tt }
-
-unheld_line : AreOfLine IsUnheld
-unheld_line = record { written = λ side text. tt; dropped = λ side. tt; garbled = λ side text. tt; overrun = λ side. tt }
 
 steady_shared : SharedAre IsSteady
 steady_shared = record {

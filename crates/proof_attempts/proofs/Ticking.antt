@@ -11,11 +11,11 @@ use Rattle.serial_link.specs.declared.turn.Turn.{Turn}
 use Rattle.host_requests.specs.Events.{RequestsEvent}
 use Rattle.host_requests.specs.Events.RequestsEvent.{Fails as request_fails, IsSent as request_is_sent}
 use Rattle.host_node.specs.State.{needs_tick}
-use Rattle.host_model.specs.State.{HostState, node_of}
-use Rattle.host_model.specs.After.{after, gives_up, is_busy}
-use Rattle.host_model.specs.Events.{HostEvent, Accepts, Begins, Hears, Line_ticks, Node_ticks, Queues, Requests_do}
-use Rattle.host_model.specs.Taking.{IsFollowed, told_if}
-use Rattle.host_model.specs.Ticking.{ticking_nodes}
+use Rattle.proof_requests.specs.host_model.State.{HostState, node_of}
+use Rattle.proof_requests.specs.host_model.After.{after, gives_up, is_busy}
+use Rattle.proof_requests.specs.host_model.Events.{HostEvent, Accepts, Begins, Hears, Line_ticks, Node_ticks, Queues, Requests_do}
+use Rattle.proof_requests.specs.host_model.Taking.{IsFollowed, told_if}
+use Rattle.proof_requests.specs.host_model.Ticking.{ticking_nodes}
 use Rattle.proof_requests.specs.proof_alone.State.{HostMachine}
 use Rattle.proof_requests.specs.proof_alone.Phases.{Phase, Resting, Asked, Risen, Ticking, Open, Behind, Sleeping, Submitting, GoesBy, Turns}
 use Rattle.proof_requests.specs.proof_alone.Runs.{Knowledge}

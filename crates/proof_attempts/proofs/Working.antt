@@ -12,15 +12,15 @@ use Rattle.host_keep.specs.Legal.{AreLegal}
 use Rattle.host_keep.specs.declared.record.Record.{Record}
 use Rattle.host_node.specs.Search.{first_wanting}
 use Rattle.host_node.specs.State.{NodeState}
-use Rattle.host_model.specs.State.{HostState}
-use Rattle.host_model.specs.Events.{HostEvent, Hears}
-use Rattle.host_model.specs.After.{after}
-use Rattle.host_model.specs.May.{May}
-use Rattle.host_model.specs.Opening.{opened}
-use Rattle.host_model.specs.Pumping.{IsNext, IsPumped, no_more_event}
-use Rattle.host_model.specs.Taking.{AreJudged}
-use Rattle.host_model.specs.Ticking.{tick_events}
-use Rattle.host_model.proofs.Submitted.{SleepersAre, SubmittedAre, next_is, no_more_is}
+use Rattle.proof_requests.specs.host_model.State.{HostState}
+use Rattle.proof_requests.specs.host_model.Events.{HostEvent, Hears}
+use Rattle.proof_requests.specs.host_model.After.{after}
+use Rattle.proof_requests.specs.host_model.May.{May}
+use Rattle.proof_requests.specs.host_model.Opening.{opened}
+use Rattle.proof_requests.specs.host_model.Pumping.{IsNext, IsPumped, no_more_event}
+use Rattle.proof_requests.specs.host_model.Taking.{AreJudged}
+use Rattle.proof_requests.specs.host_model.Ticking.{tick_events}
+use Rattle.proof_requests.proofs.Submitted.{SleepersAre, SubmittedAre, next_is, no_more_is}
 use Rattle.proof_work.specs.world_model.Events.{OpensFrom}
 use Rattle.proof_requests.specs.proof_alone.State.{HostMachine}
 use Rattle.proof_requests.specs.proof_alone.Steps.{IsAskedBy}

@@ -22,21 +22,22 @@ use Rattle.host_requests.specs.declared.task.Purpose.TheVariants.{Attempt, Abort
 use Rattle.host_requests.specs.declared.task.Task.{Task}
 use Rattle.host_requests.specs.declared.under_way.Progress.TheVariants.{Submitted}
 use Rattle.host_node.specs.declared.attempt.Moment.TheVariants.{BeforeItsTick}
-use Rattle.host_model.specs.State.{HostState}
-use Rattle.host_model.specs.After.{after, is_full, task_purpose}
-use Rattle.host_model.specs.Did.{MayAll}
-use Rattle.host_model.specs.May.{IsFree}
-use Rattle.host_model.specs.Events.{HostEvent, Line_ticks, Node_ticks, Requests_do, Submits_abort, Submits_front, Starts, Gives_text, Gives_segment, Begins, Begin_unkept}
-use Rattle.host_model.specs.Outs.{outs, request_entries}
-use Rattle.host_model.specs.Pumping.{IsNext, no_more_event}
-use Rattle.host_model.specs.declared.out.HostOut.TheVariants.{Write}
-use Rattle.host_model.proofs.Submitted.{SleepersAre, next_is, no_more_is}
+use Rattle.proof_requests.specs.host_model.State.{HostState}
+use Rattle.proof_requests.specs.host_model.After.{after, is_full, task_purpose}
+use Rattle.proof_requests.specs.host_model.Did.{MayAll}
+use Rattle.proof_requests.specs.host_model.May.{IsFree}
+use Rattle.proof_requests.specs.host_model.Events.{HostEvent, Line_ticks, Node_ticks, Requests_do, Submits_abort, Submits_front, Starts, Gives_text, Gives_segment, Begins, Begin_unkept}
+use Rattle.proof_requests.specs.host_model.Outs.{outs, request_entries}
+use Rattle.proof_requests.specs.host_model.Pumping.{IsNext, no_more_event}
+use Rattle.proof_requests.specs.host_model.declared.out.HostOut.TheVariants.{Write}
+use Rattle.proof_requests.proofs.Submitted.{SleepersAre, next_is, no_more_is}
 use Rattle.proof_work.proofs.HostNotes.{NoteOuts}
 use Rattle.proof_requests.specs.proof_alone.State.{HostMachine}
 use Rattle.proof_requests.specs.proof_alone.Steps.{AreFrames, AreTold, Does, IsOfUnit}
 use Rattle.proof_requests.specs.proof_alone.Phases.{Phase, Ticking, Behind, Sleeping, Submitting, May}
-use Rattle.proof_requests.specs.proof_waking.Judged.{IsOfRequest, KnowsJudged}
-use Rattle.proof_requests.proofs.proof_waking_Followed.{MayFollow, frame_all}
+use Rattle.proof_requests.specs.proof_waking.Judged.{KnowsJudged}
+use Rattle.proof_requests.proofs.proof_waking_Followed.{MayFollow}
+use Rattle.proof_requests.proofs.proof_waking_Settling.{behind_follows}
 use Rattle.proof_requests.proofs.proof_waking_Parts.{IsNote}
 use Rattle.proof_requests.specs.Asking.{TieAsked, TieLine, doing_of}
 use Rattle.proof_requests.specs.Standing.{standing_of}
@@ -44,7 +45,6 @@ use Rattle.proof_work.specs.Doing.{IsTold}
 use Rattle.proof_requests.specs.Walking.{AddsWell, Ground as RequestsGround, IsNodeTick, IsOfChip, IsTied, KnowsAsked, KnowsTick}
 use Rattle.proof_requests.proofs.Stepping.{IsSubmission, behind_notes, node_notes, sleep_notes, submissions}
 use Rattle.proof_requests.proofs.Telling.{IsQuiet}
-use Rattle.zw_base.proofs.Each.{all-right}
 use Rattle.proof_attempts.proofs.Requested.{Unsubmitted}
 use Rattle.proof_requests.proofs.Walking.{copy_line, event_hosts, event_quiet, is_fresh, is_old, line_outs, noted_notes, quiet_line}
 
@@ -147,7 +147,7 @@ tick_writes first left past told m event is are frames (inr (inr (all, known))) 
     let node : IsNodeTick event = subst IsNodeTick (sym is) all.0 in quietly (Ticking (first ∷ left)) past told m.state event (node_unsubmitted event node) (node_notes m.state event node) are
 
 -- behind an item
-chip_told : (event : RequestsEvent) → IsOfChip event → IsTold event
+pub chip_told : (event : RequestsEvent) → IsOfChip event → IsTold event
 chip_told IsSent is = tt
 chip_told Fails is = tt
 chip_told (Responds response) is = tt
@@ -165,16 +165,8 @@ follow_unsubmitted unit (Gives_text n payload) follows adds = absurd follows
 follow_unsubmitted unit (Gives_segment n more payload) follows adds = absurd follows
 follow_unsubmitted unit event follows adds = tt
 
-request_unsubmitted : (event : HostEvent) → IsOfRequest event → AddsWell event → Unsubmitted event
-request_unsubmitted (Requests_do event moment) is adds = chip_told event adds
-request_unsubmitted event is adds = absurd is
-
 behind_unsubmitted : (first : HostEvent) (left : List HostEvent) (past : List Entry) (m : HostMachine) → KnowsJudged (Behind (first ∷ left)) past m → AddsWell first → Unsubmitted first
-behind_unsubmitted first left past m (frames, inl behind) adds =
-    let unit : List ℕ = unit_text (Framed behind.frame.frame) in
-    let follow = frame_all behind.frame.first behind.frame.frame (behind.frame.gone ++ (first ∷ left)) behind.frame.followed in
-    follow_unsubmitted unit first (all-right (MayFollow unit) behind.frame.gone (first ∷ left) follow).0 adds
-behind_unsubmitted first left past m (frames, inr (requests, settled)) adds = request_unsubmitted first requests.0 adds
+behind_unsubmitted first left past m judged adds = let (unit, may) = behind_follows first left past m judged.1 in follow_unsubmitted unit first may adds
 
 sleepers_unsubmitted : SleepersAre Unsubmitted
 sleepers_unsubmitted = record { queues = λ n. tt; drops = λ n. tt }

@@ -9,7 +9,7 @@ use Rattle.proof_work.specs.law_time.Requests.{asked}
 use Rattle.proof_work.specs.law_time.Ends.{has_ended, is_ending_here}
 use Rattle.proof_work.specs.law_time.Waking.{has_slept, is_told, owes_sleep_to_given_up}
 use Rattle.host_requests.specs.declared.under_way.UnderWay.{UnderWay}
-use Rattle.host_model.specs.Events.{HostEvent, Node_ticks}
+use Rattle.proof_requests.specs.host_model.Events.{HostEvent, Node_ticks}
 use Rattle.proof_requests.specs.proof_alone.Phases.{Phase, Ticking}
 use Rattle.proof_requests.specs.proof_alone.Runs.{Knowledge, both_know}
 use Rattle.proof_requests.specs.Ends.{KnowsEnds}

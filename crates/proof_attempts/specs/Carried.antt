@@ -9,7 +9,7 @@ use Rattle.host_requests.specs.declared.task.Task.TheVariants.{Plain, Segment, N
 use Rattle.host_requests.specs.declared.task.Purpose.{Purpose}
 use Rattle.host_requests.specs.declared.task.Purpose.TheVariants.{Housekeeping, Attempt}
 use Rattle.host_requests.specs.declared.under_way.UnderWay.{UnderWay}
-use Rattle.host_model.specs.State.{HostState, node_of}
+use Rattle.proof_requests.specs.host_model.State.{HostState, node_of}
 use Rattle.proof_attempts.specs.Since.{TieOf}
 
 -- another message

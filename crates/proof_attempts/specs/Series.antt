@@ -11,7 +11,7 @@ use Rattle.proof_work.specs.law_time.Sessions.{Series as SeriesTold, is_open, no
 use Rattle.proof_work.specs.law_time.Waking.{is_up}
 use Rattle.host_node.specs.State.{NodeState, has_waiting, is_idle, is_open as has_open, is_up as hears}
 use Rattle.host_node.specs.Steps.{after_again_tick, after_hold_tick}
-use Rattle.host_model.specs.State.{HostState, node_of}
+use Rattle.proof_requests.specs.host_model.State.{HostState, node_of}
 use Rattle.proof_work.specs.proof_host.Laws.{numbers_for}
 use Rattle.proof_requests.specs.proof_alone.Phases.{Phase, Risen, Ticking}
 use Rattle.proof_requests.specs.proof_alone.Runs.{Knowledge, both_know}

@@ -13,14 +13,14 @@ use Rattle.zw_text.specs.declared.entry.Entry.{Entry}
 use Rattle.zw_text.specs.declared.entry.Entry.TheVariants as entry
 use Rattle.zw_text.specs.Transcript.{line_of}
 use Rattle.proof_work.specs.law_transcript.Restarts.{is_restart}
-use Rattle.host_model.specs.State.{HostState}
+use Rattle.proof_requests.specs.host_model.State.{HostState}
 use Rattle.host_requests.specs.Events.RequestsEvent.{Ticks as request_ticks}
 use Rattle.host_node.specs.declared.attempt.Moment.TheVariants.{BeforeItsTick, BetweenTicks}
-use Rattle.host_model.specs.Did.{MayAll, after_all}
-use Rattle.host_model.specs.Ticking.{first_ticks, ticking_nodes}
-use Rattle.host_model.specs.Events.{HostEvent, Accepts, Begins, Hears, Line_ticks, Node_ticks, Queues, Requests_do}
-use Rattle.host_model.specs.After.{after}
-use Rattle.host_model.specs.Outs.{answers}
+use Rattle.proof_requests.specs.host_model.Did.{MayAll, after_all}
+use Rattle.proof_requests.specs.host_model.Ticking.{first_ticks, ticking_nodes}
+use Rattle.proof_requests.specs.host_model.Events.{HostEvent, Accepts, Begins, Hears, Line_ticks, Node_ticks, Queues, Requests_do}
+use Rattle.proof_requests.specs.host_model.After.{after}
+use Rattle.proof_requests.specs.host_model.Outs.{answers}
 use Rattle.proof_work.specs.world_model.Events.{OpensFrom}
 use Rattle.proof_requests.specs.proof_alone.State.{HostMachine, done, first_alone}
 use Rattle.proof_requests.specs.proof_alone.Steps.{Does, IsAskedBy, Says, Step, entries, happens}
@@ -28,6 +28,7 @@ use Rattle.proof_requests.specs.proof_alone.Phases.{Phase, Resting, Asked, Risen
 use Rattle.proof_requests.specs.proof_alone.Runs.{Knowledge, Run, both_know}
 use Rattle.proof_requests.specs.proof_alone.Tables.{KnowsTables}
 use Rattle.proof_requests.specs.proof_alone.Time.{KnowsClock}
+pub use Rattle.proof_requests.specs.proof_waking.Judged.{IsElse}
 
 -- ---- nodes in a tick
 
@@ -80,11 +81,6 @@ TicksAt here h clock = Unit {0}
 -- of the entries so far and a host, at a phase and a time
 abbrev pub TieOf : Type 1
 TieOf = Phase → List Entry → HostState → ℕ → Type 0
-
--- no line was just said
-abbrev pub IsElse : Phase → Type 0
-IsElse (Asked line) = ⊥
-IsElse here = Unit {0}
 
 -- the words of a line stand last: it holds of what stood before them, of them where they do not start the host again, and where they are refused
 pub record BeforeWords (Tie : TieOf) (line : Line) (past : List Entry) (m : HostMachine) : Type 0 where

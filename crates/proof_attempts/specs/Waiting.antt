@@ -2,7 +2,7 @@
 use Rattle.std.specs.Prelude.{◌≡◌, ◌⊎◌, ◌≤◌, ℕ, false}
 use Rattle.host_node.specs.declared.no_more.NoMore.TheVariants.{Queued}
 use Rattle.host_node.specs.State.{NodeState, has_waiting}
-use Rattle.host_model.specs.State.{node_of}
+use Rattle.proof_requests.specs.host_model.State.{node_of}
 use Rattle.proof_attempts.specs.Since.{TieOf}
 
 abbrev pub WaitsWell : NodeState → Type 0

@@ -9,9 +9,9 @@ use Rattle.host_node.specs.TableState.{node_of as node_among}
 use Rattle.proof_work.specs.law_time.Holds.{held_until}
 use Rattle.proof_work.specs.law_time.Judged.{last_of}
 use Rattle.proof_work.specs.law_time.Waking.{counts_awake}
-use Rattle.host_model.specs.State.{HostState, node_of}
-use Rattle.host_model.specs.Events.{HostEvent, Node_ticks}
-use Rattle.host_model.specs.Facts.{HostFacts}
+use Rattle.proof_requests.specs.host_model.State.{HostState, node_of}
+use Rattle.proof_requests.specs.host_model.Events.{HostEvent, Node_ticks}
+use Rattle.proof_requests.specs.host_model.Facts.{HostFacts}
 use Rattle.proof_work.specs.Work.{times_told}
 use Rattle.proof_requests.specs.proof_alone.Listening.{KnowsListening}
 use Rattle.proof_requests.specs.proof_alone.Runs.{Knowledge, both_know}

@@ -1,6 +1,6 @@
 -- What is known of the work of a host alone at each phase (this project's own rule): it is in order; and but where the host does something and pumps, nothing that is due lacks its request.
 use Rattle.std.specs.List.{AllByRecursion}
-use Rattle.host_model.specs.State.{HostState}
+use Rattle.proof_requests.specs.host_model.State.{HostState}
 use Rattle.proof_requests.specs.proof_alone.Phases.{Phase, Resting, Risen, Ticking, Behind, Submitting}
 use Rattle.proof_work.specs.Doing.{IsDone}
 use Rattle.proof_work.specs.Rests.{IsTended, NoneWants}

@@ -12,11 +12,10 @@ ghost use Rattle.proof_work.specs.world_lines.Done.{AreDone};
 ghost use Rattle.proof_requests.specs.proof_alone.State.{first_alone};
 ghost use Rattle.proof_requests.specs.proof_alone.Runs.{Told};
 
-use proof_requests::hosts_listen_as_told;
-use proof_requests::waking::alone::{
-    hosts_keep_their_tables, lines_are_a_hosts, what_is_heard_is_a_hosts,
+use proof_requests::{
+    hosts_judge_as_told, hosts_keep_their_tables, hosts_listen_as_told, lines_are_a_hosts,
+    what_is_heard_is_a_hosts,
 };
-use proof_requests::waking::hosts_judge_as_told;
 
 /// In any run of a host alone, over a keeper that tells its records and has none at first: a node is held where the report that ends its session may ask so,
 /// and wherever it does.

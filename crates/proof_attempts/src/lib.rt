@@ -29,8 +29,11 @@ mod work;
 
 pub use attempts::{attempts_go_with_nodes, attempts_tell_what_is_next};
 pub use holds::{hosts_hold_as_asked, lines_hold_as_asked};
-pub use proof_requests as requests;
-pub use proof_work as work_proofs;
+pub use proof_requests::{
+    hosts_ask_as_told, hosts_leave_nonces, hosts_listen_as_told, hosts_tell_of_ends,
+    lines_are_a_hosts, what_is_heard_is_a_hosts,
+};
+pub use proof_work::{ends_of_tasks_are_told, laws_follow, tasks_end_in_order};
 pub use series::{
     hosts_run_series_as_told, hosts_show_open_sessions, series_go_with_nodes, series_go_with_ticks,
     series_grow_by_entries,

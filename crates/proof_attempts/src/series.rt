@@ -37,7 +37,7 @@ ghost use Rattle.host_node.specs.Steps.{
   with_final,
   without_attempt,
 };
-ghost use Rattle.host_model.specs.State.{HostState, first_host, node_of};
+ghost use Rattle.proof_requests.specs.host_model.State.{HostState, first_host, node_of};
 ghost use Rattle.s0_crypto.specs.declared.key_pair.Keys.{Keys};
 ghost use Rattle.proof_requests.specs.proof_alone.State.{HostMachine, first_alone};
 ghost use Rattle.proof_requests.specs.proof_alone.Phases.{Phase, Resting, Risen, Turns};
@@ -56,8 +56,7 @@ ghost use Rattle.proof_attempts.specs.Series.{
 
 use crate::waking::hosts_count_awake;
 use crate::work::{hosts_know_their_work, hosts_tell_those_that_wait_for_nothing};
-use proof_requests::hosts_listen_as_told;
-use proof_requests::waking::alone::hosts_keep_their_tables;
+use proof_requests::{hosts_keep_their_tables, hosts_listen_as_told};
 
 /// The last session of a node by the transcript is that of its book in the host, and it is open as there. The commands that wait for it are those in the
 /// host, where those that were accepted for it are those that its orders asked for; so where it listens and is awake as there, it is as it is told.

@@ -18,8 +18,10 @@ ghost use Rattle.proof_attempts.specs.Since.{AlongRuns};
 
 use crate::waking::hosts_count_awake;
 use crate::work::hosts_know_their_work;
-use proof_requests::waking::alone::{lines_are_a_hosts, what_is_heard_is_a_hosts};
-use proof_requests::{hosts_ask_as_told, hosts_listen_as_told, hosts_tell_of_ends};
+use proof_requests::{
+    hosts_ask_as_told, hosts_listen_as_told, hosts_tell_of_ends, lines_are_a_hosts,
+    what_is_heard_is_a_hosts,
+};
 use proof_work::work_in_order_means;
 
 /// Along each run of a host alone, over a keeper that tells its records and has none at first: each No More Information that it asks its chip to send tells a

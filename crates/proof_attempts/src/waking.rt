@@ -5,7 +5,7 @@ ghost use Rattle.s0_crypto.specs.declared.key_pair.Keys.{Keys};
 ghost use Rattle.zw_text.specs.declared.entry.Entry.{Entry};
 ghost use Rattle.proof_work.specs.law_time.Holds.{held_until};
 ghost use Rattle.proof_work.specs.law_time.Waking.{counts_awake};
-ghost use Rattle.host_model.specs.State.{node_of};
+ghost use Rattle.proof_requests.specs.host_model.State.{node_of};
 ghost use Rattle.proof_work.specs.proof_host.Laws.{MayStand};
 ghost use Rattle.proof_requests.specs.proof_alone.State.{HostMachine, first_alone};
 ghost use Rattle.proof_requests.specs.proof_alone.Phases.{Resting};
@@ -15,8 +15,7 @@ ghost use Rattle.proof_attempts.specs.Since.{AlongRuns, KnowsSince};
 ghost use Rattle.proof_attempts.specs.Waking.{CountsAwake, HeldAsTold};
 
 use crate::work::hosts_know_their_work;
-use proof_requests::hosts_listen_as_told;
-use proof_requests::waking::alone::hosts_keep_their_tables;
+use proof_requests::{hosts_keep_their_tables, hosts_listen_as_told};
 use proof_work::work_in_order_means;
 
 /// In any run of a host alone, also where it starts again, over a keeper that tells its records and has none at first: at each step, and wherever a part

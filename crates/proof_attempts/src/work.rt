@@ -15,7 +15,7 @@ ghost use Rattle.proof_attempts.specs.Waiting.{WaitInOrder};
 ghost use Rattle.proof_attempts.specs.Waking.{KnowsWork};
 ghost use Rattle.proof_attempts.specs.Working.{WorksInOrder};
 
-use proof_requests::waking::alone::{hosts_keep_their_tables, hosts_tell_time};
+use proof_requests::{hosts_keep_their_tables, hosts_tell_time};
 use proof_work::{
     hosts_are_tended, hosts_do_these, hosts_keep_their_work, turns_of_a_pump_leave_nothing,
 };

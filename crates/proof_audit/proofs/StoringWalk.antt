@@ -7,9 +7,9 @@ use Rattle.host_model.specs.Events.{HostEvent}
 use Rattle.host_model.specs.After.{after}
 use Rattle.host_model.specs.May.{May as MayHost}
 use Rattle.host_model.specs.Did.{MayAll as MayAllHost, after_all as after_host}
-use Rattle.host_model.specs.Outs.{answers, outs}
+use Rattle.host_model.specs.Outs.{answers, outs, Silent}
 use Rattle.host_model.specs.declared.out.HostOut.{HostOut}
-use Rattle.host_model.proofs.Silence.{Silent, judged_silent}
+use Rattle.host_model.proofs.Silence.{judged_silent}
 use Rattle.outside_model.specs.Events.{Host_notes, entries as entries_outside, outcome}
 use Rattle.outside_model.specs.Did.{entries_all as entries_all_outside}
 use Rattle.world_model.specs.State.{Machine, host_does, host_entries, routed}

@@ -20,12 +20,12 @@ ghost use Rattle.proof_audit.specs.Tables.{IsOfTable};
 ghost use Rattle.proof_audit.specs.Whole.{EachKeepsOnce};
 
 use device_sim::when_changes_come;
-use proof_headline::device::devices_go_on;
 use proof_headline::{
-    devices_as_made_begin_courses, nodes_have_the_headline, supervised_nodes_are_plain_or_locks,
+    devices_as_made_begin_courses, devices_go_on, nodes_have_the_headline,
+    supervised_nodes_are_plain_or_locks,
 };
 use proof_host::what_is_over_stays;
-use proof_transcript::spoken::world::runs_take_once;
+use proof_transcript::runs_take_once;
 
 /// Where each line has the answer that is due, and each device is of the kind of its node, an order that is accepted is that of the line before it, for a node
 /// that the host takes for its kind, and sets parameters that there are.

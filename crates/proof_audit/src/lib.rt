@@ -22,8 +22,16 @@ pub use books::{
 };
 pub use frames::frames_keep_the_rule_of_the_air;
 pub use payloads::{carried_payloads_keep_their_rule, garbled_units_ask_nothing};
-pub use proof_headline as headline;
-pub use proof_transcript as transcript;
+pub use proof_headline::{
+    askable_nodes_have_the_headline, devices_as_made_begin_courses, nodes_have_the_headline,
+    nodes_report_after_the_change, supervised_nodes_are_plain_or_locks,
+};
+pub use proof_transcript::{
+    all_frames_land_in_the_end, commands_are_taken_back_when_asked, lines_are_answered,
+    lines_carry_units, lines_lose_marked_frames, lines_number_frames, lines_show_what_is_kept,
+    records_are_what_is_shown, sessions_begin_with_their_unit, tables_are_what_is_shown,
+    ticks_decide_each_frame, values_are_stored_as_asked,
+};
 pub use rules::laws_keep_every_rule;
 pub use tables::{
     a_table_is_its_lines, tables_are_as_due, values_are_stored_directly, values_stand_after_success,

@@ -20,11 +20,9 @@ ghost use Rattle.proof_audit.specs.Books.{AreAsked, IsOfItsKind};
 ghost use Rattle.proof_audit.specs.Tables.{IsOfTable, StoresDirectly};
 
 use proof_host::{asides_keep_facts, events_keep_facts, laws_follow};
-use proof_transcript::lines_are_answered;
-use proof_transcript::spoken::world::the_machine_keeps_facts;
-use proof_transcript::spoken::{
-    answers_stand_after_their_lines, interviews_give_what_is_known, lines_tell_what_nodes_list,
-    tables_keep_orders,
+use proof_transcript::{
+    answers_stand_after_their_lines, interviews_give_what_is_known, lines_are_answered,
+    lines_tell_what_nodes_list, tables_keep_orders, the_machine_keeps_facts,
 };
 
 /// The rule of confirmed values, also with the table after the run: where directly after each success stand the values that its command asks for.

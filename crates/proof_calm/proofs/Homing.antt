@@ -43,7 +43,7 @@ use Rattle.proof_calm.specs.Homeward.{IsOfMember, SpeaksHome}
 use Rattle.proof_calm.specs.Known.{IsMember}
 use Rattle.proof_calm.specs.Marks.{IsQuietEvent}
 use Rattle.proof_calm.proofs.Counting.{IsAside, done_aside, outs_aside}
-use Rattle.proof_calm.proofs.Pending.{IsFromOf}
+use Rattle.proof_calm.proofs.Pending.{IsFromAs, IsFromOf}
 use Rattle.proof_calm.proofs.Heard.{Keeps, replied_if, steps_keep}
 use Rattle.proof_calm.proofs.Unmarked.{hosts, nothing_asked}
 
@@ -181,9 +181,14 @@ module _ (joined : List Bool) where
   pub event_speaks : (m : Machine) (event : Event) → CoversOuter IsQuietEvent event → May m event → Speaks m.outside.outer → Speaks (happens m event).outside.outer
   event_speaks m event covers may speaks = (machine_keeps AsksNothing (λ pending. Same) IsQuietEvent law hosts m event covers may [] (speaks, nothing_asked [] _)).1.0
 
-  -- ---- what comes to the chip
+-- ---- what comes to the chip
 
-  aside_from : (event : AirEvent) → IsAside event → IsFromOf joined event
+-- where it is so of each frame of a device that arrives
+module _ (Is : ℕ → List ℕ → Type 0) where
+  abbrev HomeAs : Flown → Type 0
+  HomeAs frame = frame.heading ≡ Homeward → Is frame.node frame.payload
+
+  aside_from : (event : AirEvent) → IsAside event → IsFromAs Is event
   aside_from (air_event.ToChip frame from payload) aside = absurd aside
   aside_from (air_event.Done frame status dead) aside = tt
   aside_from (air_event.Heard frame) aside = tt
@@ -192,8 +197,8 @@ module _ (joined : List Bool) where
   aside_from (air_event.Sent frame from to route payload) aside = tt
   aside_from (air_event.Changed node at) aside = tt
 
-  all_from : (events : List AirEvent) → AllByRecursion IsAside events → AllByRecursion (IsFromOf joined) events
-  all_from events aside = all-weaker IsAside (IsFromOf joined) aside_from events aside
+  all_from : (events : List AirEvent) → AllByRecursion IsAside events → AllByRecursion (IsFromAs Is) events
+  all_from events aside = all-weaker IsAside (IsFromAs Is) aside_from events aside
 
   -- the chip hears frames of devices alone
   goes_home : (dead : Option (ℕ × ℕ)) (heading : Heading) (listener : Option ℕ) → fate_by dead heading listener ≡ AtChip → heading ≡ Homeward
@@ -209,8 +214,8 @@ module _ (joined : List Bool) where
       by true same = absurd cc
       by false same = goes_home (dead_hop_of net frame) frame.heading (listener_of frame.node devices) same
 
-  fate_from : (at : Mesh) (number : ℕ) (frame : Flown) (fate : Fate) (drawn : List ℕ) (route : Option Route) → fate_of at.air.network at.devices frame ≡ fate → IsOfMember joined frame
-      → AllByRecursion (IsFromOf joined) (arrival_outs_as at number frame fate drawn route)
+  fate_from : (at : Mesh) (number : ℕ) (frame : Flown) (fate : Fate) (drawn : List ℕ) (route : Option Route) → fate_of at.air.network at.devices frame ≡ fate → HomeAs frame
+      → AllByRecursion (IsFromAs Is) (arrival_outs_as at number frame fate drawn route)
   fate_from at number frame Lost drawn route is of = (tt, all_from _ (done_aside frame.heading number 1 None))
   fate_from at number frame (Dead from to) drawn route is of = (tt, all_from _ (done_aside frame.heading number 1 (Some (from, to))))
   fate_from at number frame Missed drawn route is of = (tt, all_from _ (done_aside frame.heading number 1 None))
@@ -218,8 +223,22 @@ module _ (joined : List Bool) where
   fate_from at number frame (AtDevice place) drawn route is of =
       let heard : Mesh = record at { air = landed (acknowledged at.air) } in
       let outs_are : List AirEvent = outs_at heard (slice_get at.devices place) number frame.node route (Hears frame.payload drawn) in
-      all-append (IsFromOf joined) outs_are (air_event.Done number _ None ∷ []) (all_from outs_are (outs_aside heard (slice_get at.devices place) number frame.node route (Hears frame.payload drawn))) (tt, tt)
+      all-append (IsFromAs Is) outs_are (air_event.Done number _ None ∷ []) (all_from outs_are (outs_aside heard (slice_get at.devices place) number frame.node route (Hears frame.payload drawn))) (tt, tt)
 
+  pub arrival_of : (w : Outside) (drawn : List ℕ) (route : Option Route) → ((frame : Flown) → next_of w.outer.air.frames ≡ Some frame → HomeAs frame)
+      → AllByRecursion (IsFromAs Is) (mesh_outs (mesh_of w) (mesh.Arrives drawn route))
+  unfolding mesh_outs
+  arrival_of w drawn route next_is = by (next_of w.outer.air.frames) refl
+    where
+      at : Mesh
+      at = mesh_of w
+
+      by : (frame : Option Flown) → next_of w.outer.air.frames ≡ frame → AllByRecursion (IsFromAs Is) (arrival_outs at frame drawn route)
+      by None is = tt
+      by (Some frame) is = fate_from at (at.air.frames.landed + 1) frame (fate_of at.air.network at.devices frame) drawn route refl (next_is frame is)
+
+-- where the frames are of joined nodes
+module _ (joined : List Bool) where
   pub next_of_member : (frames : FramesState) → AllByRecursion (IsOfMember joined) frames.frames → (frame : Flown) → next_of frames ≡ Some frame → IsOfMember joined frame
   next_of_member frames all frame is = by_test (nat_lt frames.landed frames.sent) is
     where
@@ -227,17 +246,5 @@ module _ (joined : List Bool) where
       by_test true found = all-get (IsOfMember joined) frames.frames (frames.landed - (frames.sent - length frames.frames)) frame all found
       by_test false found = absurd cc
 
-  pub arrival_of : (w : Outside) (drawn : List ℕ) (route : Option Route) → ((frame : Flown) → next_of w.outer.air.frames ≡ Some frame → IsOfMember joined frame)
-      → AllByRecursion (IsFromOf joined) (mesh_outs (mesh_of w) (mesh.Arrives drawn route))
-  unfolding mesh_outs
-  arrival_of w drawn route next_is = by (next_of w.outer.air.frames) refl
-    where
-      at : Mesh
-      at = mesh_of w
-
-      by : (frame : Option Flown) → next_of w.outer.air.frames ≡ frame → AllByRecursion (IsFromOf joined) (arrival_outs at frame drawn route)
-      by None is = tt
-      by (Some frame) is = fate_from at (at.air.frames.landed + 1) frame (fate_of at.air.network at.devices frame) drawn route refl (next_is frame is)
-
-  pub arrival_from : (w : Outside) (drawn : List ℕ) (route : Option Route) → Speaks w.outer → AllByRecursion (IsFromOf joined) (mesh_outs (mesh_of w) (mesh.Arrives drawn route))
-  arrival_from w drawn route speaks = arrival_of w drawn route (next_of_member w.outer.air.frames speaks.frames)
+  pub arrival_from : (w : Outside) (drawn : List ℕ) (route : Option Route) → SpeaksHome joined w.outer → AllByRecursion (IsFromOf joined) (mesh_outs (mesh_of w) (mesh.Arrives drawn route))
+  arrival_from w drawn route speaks = arrival_of (λ from payload. IsMember joined from) w drawn route (next_of_member w.outer.air.frames speaks.frames)

@@ -4,18 +4,20 @@ use Rattle.std.specs.Prelude.{◌⊎◌, Some, None}
 use Rattle.std.specs.List.{AllByRecursion}
 use Rattle.serial_frame.specs.Frame.{FrameParts}
 use Rattle.serial_frame.specs.declared.frame.Kind.TheVariants.{Request as of_request, Response as of_response}
+use Rattle.serial_frame.specs.declared.item.Item.{Item}
 use Rattle.serial_frame.specs.declared.item.Item.TheVariants.{Good}
 use Rattle.serial_frame.specs.declared.unit.Unit.{Unit as LineUnit}
 use Rattle.serial_frame.specs.declared.unit.Unit.TheVariants.{Ack, Nak, Can, Framed}
 use Rattle.serial_link.specs.declared.turn.Turn.{Turn}
-use Rattle.chip_functions.specs.declared.notice.Notice.TheVariants.{SendData}
+use Rattle.chip_functions.specs.declared.notice.Notice.TheVariants.{ApplicationCommandHandler, SendData}
+use Rattle.chip_functions.specs.declared.response.Response.TheVariants.{SendData as SendDataAnswer}
 use Rattle.chip_sim.specs.Answers.{notice_frame}
 use Rattle.chip_sim.specs.State.{ChipState}
 use Rattle.host_requests.specs.Next.{is_answered}
 use Rattle.host_requests.specs.declared.under_way.Progress.{Progress}
 use Rattle.host_requests.specs.declared.under_way.UnderWay.{UnderWay}
 use Rattle.host_model.specs.State.{HostState}
-use Rattle.host_model.specs.Events.{HostEvent, Hears}
+use Rattle.host_model.specs.Events.{HostEvent, Hears, Requests_do}
 use Rattle.host_model.specs.After.{after}
 use Rattle.host_model.specs.Did.{after_all}
 use Rattle.host_model.specs.Taking.{IsFollowed, IsJudged, AreJudged}
@@ -26,11 +28,14 @@ use Rattle.proof_calm.specs.Tied.{HasAnswer, LeavesIt, Answers, Brings, Informs,
 use Rattle.proof_calm.proofs.Following.{kept}
 use Rattle.proof_calm.proofs.Ending.{then_answered, OfHost, Stays, ack_stays, ack_none, answer_stays, answer_none, call_ends, handler_stays, handler_kept, update_stays, update_none}
 use Rattle.proof_calm.proofs.Reading.{goods}
-use Rattle.zw_base.proofs.Each.{all-append}
+use Rattle.zw_base.proofs.Each.{all-append, all-left, all-right}
 use Rattle.host_heard.specs.Telling.{heard_at}
-use Rattle.host_requests.specs.Events.RequestsEvent.{IsSent as request_is_sent}
+use Rattle.host_requests.specs.Events.{RequestsEvent}
+use Rattle.host_requests.specs.Events.RequestsEvent.{CallsBack, IsSent as request_is_sent, Responds, Updates}
+use Rattle.host_node.specs.declared.attempt.Moment.TheVariants.{BetweenTicks}
 use Rattle.host_model.specs.After.{is_busy}
-use Rattle.host_model.specs.Taking.{told_if}
+use Rattle.host_model.specs.Taking.{PayloadEvents, told_if, told_requests}
+use Rattle.proof_work.specs.Doing.{IsTold}
 use Rattle.proof_waking.proofs.Followed.{FollowersAre, payload_all}
 use Rattle.proof_calm.specs.Known.{IsMember}
 use Rattle.proof_calm.proofs.Ending.{EndsNoInterview, IsToldOf, Nothing, Something, answers_are, calls_are, handler_payload, none_under_way, send_under_way, update_told}
@@ -211,59 +216,125 @@ named_followers joined n member = record {
   no_room = λ property. tt;
 }
 
-told_named : (joined : List Bool) (events : List HostEvent) → IsToldOf events → AllByRecursion (IsNamed joined) events
-told_named joined events (Nothing are) = subst (AllByRecursion (IsNamed joined)) (sym are) tt
-told_named joined events (Something update are) = subst (AllByRecursion (IsNamed joined)) (sym are) (tt, tt)
+-- what the requests may hear of
+abbrev pub MayTell : (FrameParts → Type 0) → RequestsEvent → Type 0
+MayTell Says request_is_sent = Unit {0}
+MayTell Says (Responds response) = response ≡ SendDataAnswer 1
+MayTell Says (Updates update) = Unit {0}
+MayTell Says (CallsBack id status) = Says (notice_frame (SendData id status))
+MayTell Says event = ⊥
 
-leaves_named : (joined : List Bool) (h : HostState) (frame : FrameParts) (events : List HostEvent) → LeavesIt joined frame → EndsNoInterview h → FrameFollows h frame events → AllByRecursion (IsNamed joined) events
-leaves_named joined h frame events (Answers is) none follows = subst (AllByRecursion (IsNamed joined)) (sym (answers_are h events (subst (λ (f : FrameParts). FrameFollows h f events) is follows))) (tt, tt)
-leaves_named joined h frame events (Brings n payload member some is) none follows =
-    payload_all (IsNamed joined) n (named_followers joined n member) h payload (heard_at payload) events (λ tells. member.is_joined)
-    (handler_payload h n payload events member.is_node some (subst (λ (f : FrameParts). FrameFollows h f events) is follows))
-leaves_named joined h frame events (Informs update is) none follows = told_named joined events (update_told h update events none (subst (λ (f : FrameParts). FrameFollows h f events) is follows))
+-- this holds of the events that follow frames, where the frames say so: a payload is of a joined node
+pub record Follow (Holds : HostState → List HostEvent → Type 0) (Says : FrameParts → Type 0) (joined : List Bool) : Type 0 where
+  pub none : (h : HostState) → Holds h []
+  pub both : (h : HostState) (first later : List HostEvent) → Holds h first → Holds (after_all h first) later → Holds h (first ++ later)
+  pub hears : (h : HostState) (item : Item) (rest : List HostEvent) → Holds (after h (Hears item)) rest → Holds h (Hears item ∷ rest)
+  pub told : (h : HostState) (event : RequestsEvent) → MayTell Says event → Holds h (told_requests event)
+  pub brings : (h : HostState) (n : ℕ) (payload : List ℕ) (events : List HostEvent) → IsMember joined n → Says (notice_frame (ApplicationCommandHandler 0 n payload)) → PayloadEvents h n payload (heard_at payload) events → Holds h events
 
-module _ (counted : Bool) (s : ChipState) (asking : List FrameParts) where
-  frame_named : (h : HostState) (frame : FrameParts) (rest : List FrameParts) (events : List HostEvent) → FrameFollows h frame events → TieBy counted (kept h) s (frame ∷ rest) asking
-      → AllByRecursion (IsNamed s.joined) events
-  frame_named h frame rest events follows tie = by tie.tied
+module _ (Holds : HostState → List HostEvent → Type 0) (Says : FrameParts → Type 0) (counted : Bool) (s : ChipState) (asking : List FrameParts) (follow : Follow Holds Says s.joined) where
+  told_are : (h : HostState) (event : RequestsEvent) (events : List HostEvent) → MayTell Says event → events ≡ told_requests event → Holds h events
+  told_are h event events may are = subst (Holds h) (sym are) (follow.told h event may)
+
+  update_are : (h : HostState) (events : List HostEvent) → IsToldOf events → Holds h events
+  update_are h events (Nothing are) = subst (Holds h) (sym are) (follow.none h)
+  update_are h events (Something update are) = told_are h (Updates update) events tt are
+
+  leaves_are : (h : HostState) (frame : FrameParts) (events : List HostEvent) → LeavesIt s.joined frame → Says frame → EndsNoInterview h → FrameFollows h frame events → Holds h events
+  leaves_are h frame events (Answers is) says none follows =
+      told_are h (Responds (SendDataAnswer 1)) events refl (answers_are h events (subst (λ (f : FrameParts). FrameFollows h f events) is follows))
+  leaves_are h frame events (Brings n payload member some is) says none follows =
+      follow.brings h n payload events member (subst Says is says) (handler_payload h n payload events member.is_node some (subst (λ (f : FrameParts). FrameFollows h f events) is follows))
+  leaves_are h frame events (Informs update is) says none follows = update_are h events (update_told h update events none (subst (λ (f : FrameParts). FrameFollows h f events) is follows))
+
+  pub frame_are : (h : HostState) (frame : FrameParts) (rest : List FrameParts) (events : List HostEvent) → FrameFollows h frame events → TieBy counted (kept h) s (frame ∷ rest) asking → Says frame → Holds h events
+  frame_are h frame rest events follows tie says = by tie.tied
     where
       sends : (u : UnderWay) → IsOf u (ends_by (kept h) s) → EndsNoInterview h
       sends u of = send_under_way h u (record { under_way = of.under_way; sends = of.sends })
 
       called : (u : UnderWay) → IsOf u (ends_by (kept h) s) → (is : IsCalled (ends_by (kept h) s) (frame ∷ rest) asking) → (before : List FrameParts)
-          → frame ∷ rest ≡ before ++ notice_frame (SendData h.requests.last_id is.status) ∷ is.behind → LeaveIt s.joined before → AllByRecursion (IsNamed s.joined) events
+          → frame ∷ rest ≡ before ++ notice_frame (SendData h.requests.last_id is.status) ∷ is.behind → LeaveIt s.joined before → Holds h events
       called u of is [] are leave =
           let first : frame ≡ notice_frame (SendData h.requests.last_id is.status) = cc in
-          subst (AllByRecursion (IsNamed s.joined)) (sym (calls_are h h.requests.last_id is.status events (subst (λ (f : FrameParts). FrameFollows h f events) first follows))) (tt, tt)
+          told_are h (CallsBack h.requests.last_id is.status) events (subst Says first says)
+          (calls_are h h.requests.last_id is.status events (subst (λ (f : FrameParts). FrameFollows h f events) first follows))
       called u of is (one ∷ before) are leave =
           let first : frame ≡ one = cc in
-          leaves_named s.joined h frame events (subst (LeavesIt s.joined) (sym first) leave.0) (sends u of) follows
+          leaves_are h frame events (subst (LeavesIt s.joined) (sym first) leave.0) says (sends u of) follows
 
-      by : Tied counted (ends_by (kept h) s) (frame ∷ rest) asking → AllByRecursion (IsNamed s.joined) events
-      by (Nowhere is) = leaves_named s.joined h frame events is.leave.0 (none_under_way h is.none) follows
-      by (On_way u of fresh is) = leaves_named s.joined h frame events is.leave.0 (sends u of) follows
-      by (At_chip u of fresh is) = leaves_named s.joined h frame events is.leave.0 (sends u of) follows
+      by : Tied counted (ends_by (kept h) s) (frame ∷ rest) asking → Holds h events
+      by (Nowhere is) = leaves_are h frame events is.leave.0 says (none_under_way h is.none) follows
+      by (On_way u of fresh is) = leaves_are h frame events is.leave.0 says (sends u of) follows
+      by (At_chip u of fresh is) = leaves_are h frame events is.leave.0 says (sends u of) follows
       by (Called u of fresh is) = called u of is is.before is.are is.before_leave
 
-  ack_named : (turn : Turn) (events : List HostEvent) → events ≡ told_if (is_busy turn) request_is_sent → AllByRecursion (IsNamed s.joined) events
-  ack_named turn events are = subst (AllByRecursion (IsNamed s.joined)) (sym are) (by (is_busy turn))
+  ack_are : (h : HostState) (turn : Turn) (events : List HostEvent) → events ≡ told_if (is_busy turn) request_is_sent → Holds h events
+  ack_are h turn events are = subst (Holds h) (sym are) (by (is_busy turn))
     where
-      by : (b : Bool) → AllByRecursion (IsNamed s.joined) (told_if b request_is_sent)
-      by true = (tt, tt)
-      by false = tt
+      by : (b : Bool) → Holds h (told_if b request_is_sent)
+      by true = follow.told h request_is_sent tt
+      by false = follow.none h
 
-  unit_named : (h : HostState) (unit : LineUnit) (rest : List FrameParts) (events : List HostEvent) → IsPlain unit → IsJudged h (Good unit) events → TieBy counted (kept h) s (frames_in (unit ∷ []) ++ rest) asking
-      → AllByRecursion (IsNamed s.joined) events
-  unit_named h Ack rest events plain (more, are, followed) tie = subst (AllByRecursion (IsNamed s.joined)) (sym are) (tt, ack_named h.side.turn more followed)
-  unit_named h Nak rest events plain judged tie = absurd plain
-  unit_named h Can rest events plain judged tie = absurd plain
-  unit_named h (Framed f) rest events plain (more, are, followed) tie = subst (AllByRecursion (IsNamed s.joined)) (sym are) (tt, frame_named (after h (Hears (Good (Framed f)))) f rest more followed tie)
+  unit_are : (h : HostState) (unit : LineUnit) (rest : List FrameParts) (events : List HostEvent) → IsPlain unit → IsJudged h (Good unit) events → TieBy counted (kept h) s (frames_in (unit ∷ []) ++ rest) asking
+      → AllByRecursion Says (frames_in (unit ∷ [])) → Holds h events
+  unit_are h Ack rest events plain (more, are, followed) tie says = subst (Holds h) (sym are) (follow.hears h (Good Ack) more (ack_are (after h (Hears (Good Ack))) h.side.turn more followed))
+  unit_are h Nak rest events plain judged tie says = absurd plain
+  unit_are h Can rest events plain judged tie says = absurd plain
+  unit_are h (Framed f) rest events plain (more, are, followed) tie says =
+      subst (Holds h) (sym are) (follow.hears h (Good (Framed f)) more (frame_are (after h (Hears (Good (Framed f)))) f rest more followed tie says.0))
 
-  pub units_named : (h : HostState) (units : List LineUnit) (rest : List FrameParts) (events : List HostEvent) → AllByRecursion IsPlain units → AreJudged h (goods units) events
-      → TieBy counted (kept h) s (frames_in units ++ rest) asking → AllByRecursion (IsNamed s.joined) events
-  units_named h [] rest events plain judged tie = subst (AllByRecursion (IsNamed s.joined)) (sym judged) tt
-  units_named h (unit ∷ units) rest events plain (first, later, are, one, others) tie =
-      let parts = subst (λ (fs : List FrameParts). TieBy counted (kept h) s fs asking) (one_more counted s asking unit units rest) tie in
-      let here = unit_named h unit (frames_in units ++ rest) first plain.0 one parts in
+  pub units_are : (h : HostState) (units : List LineUnit) (rest : List FrameParts) (events : List HostEvent) → AllByRecursion IsPlain units → AreJudged h (goods units) events
+      → TieBy counted (kept h) s (frames_in units ++ rest) asking → AllByRecursion Says (frames_in units ++ rest) → Holds h events
+  units_are h [] rest events plain judged tie says = subst (Holds h) (sym judged) (follow.none h)
+  units_are h (unit ∷ units) rest events plain (first, later, are, one, others) tie says =
+      let same = one_more counted s asking unit units rest in
+      let parts = subst (λ (fs : List FrameParts). TieBy counted (kept h) s fs asking) same tie in
+      let said = subst (AllByRecursion Says) same says in
+      let here = unit_are h unit (frames_in units ++ rest) first plain.0 one parts (all-left Says (frames_in (unit ∷ [])) (frames_in units ++ rest) said) in
       let then_tied = unit_tied counted s asking h unit (frames_in units ++ rest) first plain.0 one parts in
-      subst (AllByRecursion (IsNamed s.joined)) (sym are) (all-append (IsNamed s.joined) first later here (units_named (after_all h first) units rest later plain.1 others then_tied))
+      let behind = all-right Says (frames_in (unit ∷ [])) (frames_in units ++ rest) said in
+      subst (Holds h) (sym are) (follow.both h first later here (units_are (after_all h first) units rest later plain.1 others then_tied behind))
+
+-- so where it is of each event by itself
+pub record EachFollows (Is : HostEvent → Type 0) (Says : FrameParts → Type 0) (joined : List Bool) : Type 0 where
+  pub hears : (item : Item) → Is (Hears item)
+  pub told : (event : RequestsEvent) → IsTold event → Is (Requests_do event BetweenTicks)
+  pub brings : (h : HostState) (n : ℕ) (payload : List ℕ) (events : List HostEvent) → IsMember joined n → Says (notice_frame (ApplicationCommandHandler 0 n payload)) → PayloadEvents h n payload (heard_at payload) events → AllByRecursion Is events
+
+may_told : (Says : FrameParts → Type 0) (event : RequestsEvent) → MayTell Says event → IsTold event
+may_told Says request_is_sent may = tt
+may_told Says (Responds response) may = tt
+may_told Says (Updates update) may = tt
+may_told Says (CallsBack id status) may = tt
+may_told Says event may = absurd may
+
+pub each_follow : (Is : HostEvent → Type 0) (Says : FrameParts → Type 0) (joined : List Bool) → EachFollows Is Says joined → Follow (λ (h : HostState) (events : List HostEvent). AllByRecursion Is events) Says joined
+each_follow Is Says joined each = record {
+  none = λ h. tt;
+  both = λ h first later here then_here. all-append Is first later here then_here;
+  hears = λ h item rest all. (each.hears item, all);
+  told = λ h event may. (each.told event (may_told Says event may), tt);
+  brings = each.brings;
+}
+
+-- whatever the frames are, each event is of joined nodes
+abbrev pub AnyFrame : FrameParts → Type 0
+AnyFrame frame = Unit {0}
+
+pub any_frames : (frames : List FrameParts) → AllByRecursion AnyFrame frames
+any_frames [] = tt
+any_frames (frame ∷ frames) = (tt, any_frames frames)
+
+each_named : (joined : List Bool) → EachFollows (IsNamed joined) AnyFrame joined
+each_named joined = record {
+  hears = λ item. tt;
+  told = λ event told. told;
+  brings = λ h n payload events member says is. payload_all (IsNamed joined) n (named_followers joined n member) h payload (heard_at payload) events (λ tells. member.is_joined) is;
+}
+
+pub units_named : (counted : Bool) (s : ChipState) (asking : List FrameParts) (h : HostState) (units : List LineUnit) (rest : List FrameParts) (events : List HostEvent) → AllByRecursion IsPlain units → AreJudged h (goods units) events
+    → TieBy counted (kept h) s (frames_in units ++ rest) asking → AllByRecursion (IsNamed s.joined) events
+units_named counted s asking h units rest events plain judged tie =
+    units_are (λ (g : HostState) (all : List HostEvent). AllByRecursion (IsNamed s.joined) all) AnyFrame counted s asking (each_follow (IsNamed s.joined) AnyFrame s.joined (each_named s.joined)) h units rest events plain judged tie
+    (any_frames (frames_in units ++ rest))

@@ -152,10 +152,14 @@ deals_joined devices o event = ap (λ (m : Members). m.of_chip) (deals_members d
 
 -- ---- which payloads come to the chip
 
+-- each that does is so
+abbrev pub IsFromAs : (ℕ → List ℕ → Type 0) → AirEvent → Type 0
+IsFromAs Is (air_event.ToChip frame from payload) = Is from payload
+IsFromAs Is event = Unit {0}
+
 -- only those of joined nodes
 abbrev pub IsFromOf : List Bool → AirEvent → Type 0
-IsFromOf joined (air_event.ToChip frame from payload) = IsMember joined from
-IsFromOf joined event = Unit {0}
+IsFromOf joined = IsFromAs (λ from payload. IsMember joined from)
 
 -- ---- events of the chip in a tick
 

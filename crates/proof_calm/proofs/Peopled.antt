@@ -40,7 +40,7 @@ use Rattle.proof_calm.proofs.Following.{kept}
 use Rattle.proof_calm.proofs.Homing.{event_speaks}
 use Rattle.proof_calm.proofs.HostTurns.{host_turns}
 use Rattle.proof_calm.proofs.Idle.{fed_none, host_idles}
-use Rattle.proof_calm.proofs.Judging.{TieBy, units_named}
+use Rattle.proof_calm.proofs.Judging.{EachFollows, TieBy, each_follow, units_are, units_named}
 use Rattle.proof_calm.proofs.Knowing.{IsNamed, all_know, event_knows, same_requests}
 use Rattle.proof_calm.proofs.Links.{event_members}
 use Rattle.proof_calm.proofs.Living.{event_lives}
@@ -168,6 +168,28 @@ takes_none m host turn frames rest items events line may =
 pub judged_are : (m : Machine) (count : ℕ) (rest : Rest) (items : List Item) (events : List HostEvent) (units : List LineUnit) → May m (Host_takes count rest items events) → items ≡ goods units → AreJudged m.host.state (goods units) events
 unfolding May
 judged_are m count rest items events units may same = subst (λ (l : List Item). AreJudged m.host.state l events) same may.judged
+
+-- so what is so of each event that follows a frame is so of all, where each frame is so that is on its way to the host
+pub takes_are : (Is : HostEvent → Type 0) (Says : FrameParts → Type 0) (air : Airs) (b : Bool) (passes : ℕ) (m : Machine) (rest : Rest) (items : List Item) (events : List HostEvent) → EachFollows Is Says m.outside.outer.chip.state.joined
+    → May m (Host_takes (length m.outside.outer.to_host.bytes) rest items events) → IsDone m ⊎ HasMoved b passes m → TieOf true m [] → AllByRecursion Says (unheard m.outside.outer) → AllByRecursion Is events
+takes_are Is Says air b passes m rest items events follow may at tie says = by at
+  where
+    s : ChipState
+    s = m.outside.outer.chip.state
+
+    idles : (host turn : Turn) (frames : List FrameParts) → OnLine [] [] host turn frames m → AllByRecursion Is events
+    idles host turn frames line = subst (AllByRecursion Is) (sym (takes_none m host turn frames rest items events line may)) tt
+
+    judges : (down : List LineUnit) (has : HasMoved b passes m) → OnLine [] down has.host has.turn has.frames m → AllByRecursion IsPlain down → length down ≤ 99 → unheard m.outside.outer ≡ frames_in down ++ s.port.waiting → AllByRecursion Is events
+    judges [] has line plain few frames_are = idles has.host has.turn has.frames line
+    judges (unit ∷ units) has line plain few frames_are =
+        let turned = host_turns air m unit units has.host has.turn has.frames rest items events plain (omega (arith, few)) line may in
+        units_are (λ (h : HostState) (all : List HostEvent). AllByRecursion Is all) Says true s [] (each_follow Is Says s.joined follow) m.host.state (unit ∷ units) s.port.waiting events plain (judged_are m (length m.outside.outer.to_host.bytes) rest items events (unit ∷ units) may turned.2)
+        (subst (λ (fs : List FrameParts). TieBy true (kept m.host.state) s fs []) frames_are tie) (subst (AllByRecursion Says) frames_are says)
+
+    by : IsDone m ⊎ HasMoved b passes m → AllByRecursion Is events
+    by (inl done) = idles Idle Idle [] done.line
+    by (inr has) = judges has.down has has.line has.plain has.few (moved_frames b passes m has)
 
 takes_known : (payloads : Payloads) (air : Airs) (b : Bool) (passes : ℕ) (m : Machine) (rest : Rest) (items : List Item) (events : List HostEvent) → May m (Host_takes (length m.outside.outer.to_host.bytes) rest items events)
     → IsDone m ⊎ HasMoved b passes m → TieOf true m [] → KnowsMembers m.outside.outer.chip.state.joined m.host.state → Plains m

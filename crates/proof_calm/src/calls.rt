@@ -20,7 +20,7 @@ ghost use Rattle.proof_calm.specs.Sending.{IsFollowed, SendsFew};
 ghost use Rattle.proof_calm.specs.Settling.{IsServed};
 
 use crate::the_line_rests;
-use proof_waking::traffic::lines_make_requests;
+use proof_waking::lines_make_requests;
 
 /// Where the serial line rests and a course of the host's requests is where the machine is, the chip sends nothing, and then no call is to come and no frame
 /// of the host is on the air; or it sends one payload, whose one call is to come, for the host's only frame there. So it is after quiet lines, from any machine

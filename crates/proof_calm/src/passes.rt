@@ -27,7 +27,7 @@ ghost use Rattle.proof_calm.specs.Passes.{
   turn_after,
 };
 
-use proof_waking::traffic::frames_fly_in_order;
+use proof_waking::frames_fly_in_order;
 
 /// On a line without marks the host acknowledges each frame on its way to it, and its own frame is over where it is acknowledged; an acknowledgement on its way
 /// to the chip has the next of its frames written. The chip sends, and waits for, and has on the air what it did.

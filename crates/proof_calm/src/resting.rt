@@ -14,7 +14,7 @@ ghost use Rattle.proof_calm.specs.Quiet.{AreQuiet};
 ghost use Rattle.proof_calm.specs.Resting.{KnowLine, LineRests};
 ghost use Rattle.proof_calm.specs.Settling.{IsServed};
 
-use proof_waking::traffic::frames_fly_in_order;
+use proof_waking::frames_fly_in_order;
 use proof_work::turns_of_a_pump_leave_nothing;
 
 /// At first the serial line rests: nothing is marked to be lost, no byte is on its way, and neither side has a frame of its own on the line or in a queue.

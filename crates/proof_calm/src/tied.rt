@@ -17,7 +17,7 @@ ghost use Rattle.proof_calm.specs.Tied.{IsOrderly, IsTied, KnowTied, RequestRest
 use crate::the_line_rests;
 use host_model::{a_restart_keeps_what_is_held, attempts_have_what_they_give, facts_are_kept};
 use host_requests::callback_ids;
-use proof_waking::traffic::{frames_fly_in_order, outsides_make_requests};
+use proof_waking::{frames_fly_in_order, outsides_make_requests};
 use proof_work::{hosts_are_tended, requests_stay_on_the_line, turns_of_a_pump_leave_nothing};
 
 /// At first the line rests, no call is to come, no request is under way, and node 2 alone is joined. Where at most 31 frames are on the air as a tick

@@ -22,8 +22,8 @@ use Rattle.outside_model.specs.State.{OuterState, Outside}
 use Rattle.outside_model.specs.Results.{device_at}
 use Rattle.outside_model.specs.Air.{sent_entries}
 use Rattle.outside_model.specs.Devices.{acts_at, acts_by_hand, changes_entries, new_changes}
-use Rattle.outside_model.specs.Events.{OuterEvent, Begins_line, Begins_tick, Host_writes, Host_takes, Host_notes, Host_begins, Chip_takes, Arrives, Gives, Device_ticks, Chip_ticks, Repeats, Wakes_device, Sets_device, Shows, Joins, Discovers, Marks_loss, Marks_change, Clears_pipe, Collides_next, outcome}
-use Rattle.proof_air.proofs.Entered.{IsChange, IsCleared, IsMark, IsShown, all_cleared, all_shown, changes_entered, told_by_marks}
+use Rattle.outside_model.specs.Events.{OuterEvent, Begins_line, Begins_tick, Host_writes, Host_takes, Host_notes, Host_begins, Chip_takes, Arrives, Gives, Device_ticks, Chip_ticks, Repeats, Wakes_device, Sets_device, Shows, Joins, Discovers, Marks_loss, Marks_change, Clears_pipe, Collides_next, outcome, IsCleared}
+use Rattle.proof_air.proofs.Entered.{IsChange, IsMark, IsShown, all_cleared, all_shown, changes_entered, told_by_marks}
 use Rattle.proof_air.specs.proof_walk.Outside.{IsNote, IsSimple}
 use Rattle.proof_chip.proofs.Settling.{IsIdle}
 use Rattle.proof_chip.proofs.Telling.{IsAside}

@@ -11,7 +11,7 @@ ghost use Rattle.proof_air.specs.Hearing.{KnowAir};
 ghost use Rattle.proof_chip.specs.Knowing.{AnyEntry};
 ghost use Rattle.proof_chip.specs.Calling.{KnowCalls};
 
-use proof_line::traffic::{
+use proof_line::{
     frames_fly_in_order, hosts_make_requests, outsides_make_requests, requests_keep_facts,
 };
 

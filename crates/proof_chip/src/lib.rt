@@ -15,6 +15,9 @@ mod worked;
 
 pub use calls::calls_go_on;
 pub use nodes::nodes_go_on;
-pub use proof_line as line;
-pub use proof_line::world;
+pub use proof_line::{
+    frames_fly_in_order, hosts_make_requests, hosts_obey_the_line, lines_keep_and_ask_well,
+    outsides_make_requests, requests_keep_facts, restarts_go_on, runs_take_once,
+    the_machine_keeps_facts,
+};
 pub use worked::worked_bringing;

@@ -1,5 +1,5 @@
 -- A node is blocked in the host only where the keeper has failed for it in this tick by the transcript, and where it is not no session of it was not kept.
-use Rattle.std.proofs.Common.{◌≡◌, ℕ, zero, suc, ◌+◌, ◌-◌, ◌<◌, ◌≤◌, ◌==◌, ◌&&◌, ◌||◌, nat_lt, Bool, true, false, if◌then◌else◌, inl, inr, List, [], ◌∷◌, ◌++◌, map, length, Option, Some, None, refl, sym, ap, ◌∙◌, subst, arith}
+use Rattle.std.proofs.Common.{◌≡◌, ℕ, zero, suc, ◌+◌, ◌-◌, ◌<◌, ◌≤◌, ◌==◌, ◌&&◌, ◌||◌, nat_lt, Bool, true, false, if◌then◌else◌, inl, inr, List, [], ◌∷◌, ◌++◌, map, length, refl, sym, ap, ◌∙◌, subst, arith}
 use Rattle.std.specs.List.{AllByRecursion}
 use Rattle.std.proofs.lemmas.Bool.{both_ways, eqb-true, false_from_ne_true, or_left}
 use Rattle.zw_base.proofs.Each.{all-weaker}
@@ -14,15 +14,8 @@ use Rattle.law_transcript.specs.Restarts.{since_restart}
 use Rattle.law_time.specs.Judged.{is_following}
 use Rattle.law_time.specs.Moments.{clock}
 use Rattle.host_requests.specs.Events.{end_at}
-use Rattle.host_requests.specs.Events.RequestsEvent.{Fails as request_fails}
-use Rattle.host_requests.specs.declared.end.End.{End}
-use Rattle.host_requests.specs.declared.end.How.{How}
-use Rattle.host_requests.specs.declared.task.Purpose.{Purpose}
-use Rattle.host_requests.specs.declared.task.Purpose.TheVariants.{Attempt, Housekeeping, Abort}
-use Rattle.host_requests.specs.declared.task.Task.{Task}
-use Rattle.host_requests.specs.declared.task.Task.TheVariants.{NoMore}
 use Rattle.host_node.specs.declared.attempt.Moment.{Moment}
-use Rattle.host_node.specs.declared.attempt.Moment.TheVariants.{BeforeItsTick, BetweenTicks}
+use Rattle.host_node.specs.declared.attempt.Moment.TheVariants.{BetweenTicks}
 use Rattle.host_node.specs.declared.attempt.Plan.{Plan}
 use Rattle.host_node.specs.declared.attempt.Plan.TheVariants.{Whole, Segments, Sealed}
 use Rattle.host_node.specs.declared.no_more.NoMore.TheVariants.{Unasked}
@@ -33,14 +26,13 @@ use Rattle.host_node.specs.Events.NodeEvent.{Accepts as node_accepts, Blocks, St
 use Rattle.host_node.specs.TableState.{node_of as node_among, unknown_from, unknown_nodes}
 use Rattle.host_model.specs.State.{HostState, first_host, first_nodes, node_of}
 use Rattle.host_model.specs.After.{after, gives_up, is_held}
-use Rattle.host_model.specs.Ends.{PartEnd, Good, Passed_over, Bad, part_end}
 use Rattle.host_model.specs.Events.{HostEvent, Accepts, Cancels, Joins, Requests_do, Interviews, Interview_unkept, Is_unkept, Works, Finishes, Takes_nonce, Notifies, Hears, Line_ticks, Node_ticks, Queues_no_more, Drops_no_more, Starts, Gives_text, Gives_segment, Begins, Begin_unkept}
 use Rattle.host_model.specs.Outs.{answers, outs}
 use Rattle.host_model.specs.Ticking.{ticking_nodes}
 use Rattle.host_model.specs.declared.out.HostOut.{HostOut}
 use Rattle.host_model.specs.declared.out.HostOut.TheVariants.{Note}
 use Rattle.host_model.proofs.Submitted.{SleepersAre, SubmittedAre, next_is, no_more_is}
-use Rattle.proof_ends.specs.proof_rests.proof_nonces.proof_work.proof_walk.ByLine.{IsAsked}
+use Rattle.proof_following.specs.proof_ends.proof_rests.proof_nonces.proof_work.proof_walk.ByLine.{IsAsked}
 use Rattle.proof_giving.proofs.HostOuts.{SharedAre, outs_are}
 use Rattle.proof_giving.specs.proof_queue.proof_attempts.proof_requests.proof_alone.State.{HostMachine}
 use Rattle.proof_giving.specs.proof_queue.proof_attempts.proof_requests.proof_alone.Steps.{AreTold}
@@ -51,7 +43,7 @@ use Rattle.proof_giving.specs.proof_queue.proof_attempts.Since.{InTick, IsLoose,
 use Rattle.proof_giving.proofs.proof_alone_Apart.{AreOfLine}
 use Rattle.proof_giving.proofs.proof_waking_Apart.{IsWordless, said_in_vain, said_on, wordless_more}
 use Rattle.proof_giving.proofs.Counting.{answers_wordless, each_starts, loose_wordless, told_wordless}
-use Rattle.proof_giving.proofs.Doings.{Doing, did, does_at, end_does, failing_does, held_does, node_after, part_does, purpose_does, task_does}
+use Rattle.proof_giving.proofs.Doings.{AllDo, Doing, EndsDo, did, does_at, end_all, failing_all, held_all, kept_by_all, node_after}
 use Rattle.proof_giving.proofs.Holding.{clock_now}
 use Rattle.proof_giving.proofs.InOrder.{is_asked}
 use Rattle.proof_giving.proofs.Lasting.{by_else, rest_of}
@@ -128,13 +120,8 @@ ticks_free s =
 
 -- ---- the events of a host
 
-abbrev LeavesAll : List Doing → Type 0
-LeavesAll doings = AllByRecursion (λ (one : Doing). Leaves one.event) doings
-
-all_same : (n : ℕ) (s : NodeState) (doings : List Doing) → LeavesAll doings → (does_at n s doings).blocked ≡ s.blocked
-all_same n s [] all = refl
-all_same n s (one ∷ more) all =
-    all_same n (if one.node == n then after_node s one.event else s) more all.1 ∙ either (one.node == n) (after_node s one.event) s s.blocked (node_same s one.event all.0) refl
+all_same : (n : ℕ) (s : NodeState) (doings : List Doing) → AllDo Leaves doings → (does_at n s doings).blocked ≡ s.blocked
+all_same = kept_by_all (λ (s t : NodeState). t.blocked ≡ s.blocked) Leaves (λ s. refl) (λ s t u first next. next ∙ first) node_same
 
 -- it blocks no node, and no node ticks at it
 abbrev BlocksNone : HostEvent → Type 0
@@ -142,37 +129,14 @@ BlocksNone (Node_ticks n) = ⊥
 BlocksNone (Begin_unkept n) = ⊥
 BlocksNone event = Unit {0}
 
-part_leaves : (k : ℕ) (end : PartEnd) (moment : Moment) → LeavesAll (part_does k end moment)
-part_leaves k Good moment = (tt, tt)
-part_leaves k Passed_over moment = tt
-part_leaves k Bad moment = (tt, tt)
+leaving_ends : EndsDo Leaves
+leaving_ends = record { answered = tt; attempt_over = λ moment. tt; let_sleep = tt; held = tt }
 
-task_leaves : (task : Task) → LeavesAll (task_does task)
-task_leaves (NoMore k) = (tt, tt)
-task_leaves task = tt
-
-purpose_leaves : (purpose : Purpose) (how : How) (moment : Moment) → LeavesAll (purpose_does purpose how moment)
-purpose_leaves (Attempt k more payload) how moment = part_leaves k (part_end more how) moment
-purpose_leaves (Housekeeping task) how moment = task_leaves task
-purpose_leaves Abort how moment = tt
-
-end_leaves : (end : Option End) (moment : Moment) → LeavesAll (end_does end moment)
-end_leaves None moment = tt
-end_leaves (Some end) moment = purpose_leaves end.purpose end.how moment
-
-failing_leaves : (gives : Bool) (h : HostState) → LeavesAll (failing_does gives h)
-failing_leaves true h = end_leaves (end_at h.requests request_fails) BeforeItsTick
-failing_leaves false h = tt
-
-held_leaves : (n : ℕ) (held : Bool) → LeavesAll (held_does n held)
-held_leaves n true = (tt, tt)
-held_leaves n false = tt
-
-event_leaves : (h : HostState) (event : HostEvent) → BlocksNone event → LeavesAll (did h event)
+event_leaves : (h : HostState) (event : HostEvent) → BlocksNone event → AllDo Leaves (did h event)
 event_leaves h (Accepts order carriage) none = (tt, (tt, tt))
-event_leaves h (Requests_do event moment) none = end_leaves (end_at h.requests event) moment
-event_leaves h (Finishes n session id command status wake_request) none = (tt, held_leaves n (is_held h n wake_request))
-event_leaves h Line_ticks none = failing_leaves (gives_up h.side.turn (tick_side h.side).turn) h
+event_leaves h (Requests_do event moment) none = end_all Leaves leaving_ends (end_at h.requests event) moment
+event_leaves h (Finishes n session id command status wake_request) none = (tt, held_all Leaves leaving_ends n (is_held h n wake_request))
+event_leaves h Line_ticks none = failing_all Leaves leaving_ends (gives_up h.side.turn (tick_side h.side).turn) h
 event_leaves h (Node_ticks n) none = absurd none
 event_leaves h (Begin_unkept n) none = absurd none
 event_leaves h (Cancels command) none = (tt, tt)

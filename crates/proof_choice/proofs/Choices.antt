@@ -32,10 +32,10 @@ use Rattle.proof_giving.specs.Told.{attempts_so_far}
 use Rattle.proof_choice.specs.Choosing.{begins_well}
 use Rattle.proof_choice.specs.Nodes.{NodeKnown}
 use Rattle.proof_choice.specs.Served.{served_so_far}
-use Rattle.proof_choice.specs.Turning.{IsInRange}
 use Rattle.proof_choice.proofs.Parts.{no_work, to_begin}
 use Rattle.proof_choice.proofs.Served.{served_is}
 use Rattle.proof_choice.proofs.Turns.{has_its_turn}
+use Rattle.chip_functions.specs.Field.{IsNode}
 
 -- ---- nodes that joined
 
@@ -47,7 +47,7 @@ any_among p f (first ∷ rest) n among is = by (first == n) refl among (λ there
     by true it among later = or_left (p (f first)) (list_any p (map f rest)) (ap (λ (k : ℕ). p (f k)) (eqb-true first n it) ∙ is)
     by false it among later = or_right (p (f first)) (list_any p (map f rest)) (later among)
 
-all_among : (p : Attempts → Bool) (f : ℕ → Attempts) (nodes : List ℕ) → AllByRecursion IsInRange nodes → ((m : ℕ) → 1 ≤ m → m ≤ 232 → p (f m) ≡ true) → list_all p (map f nodes) ≡ true
+all_among : (p : Attempts → Bool) (f : ℕ → Attempts) (nodes : List ℕ) → AllByRecursion IsNode nodes → ((m : ℕ) → 1 ≤ m → m ≤ 232 → p (f m) ≡ true) → list_all p (map f nodes) ≡ true
 all_among p f [] all is = refl
 all_among p f (first ∷ rest) all is = and_from (p (f first)) (list_all p (map f rest)) (is first all.0.0 all.0.1) (all_among p f rest all.1 is)
 
@@ -105,7 +105,7 @@ module _ (node_is : (heeds : Heeds) (n : ℕ) (past : List Entry) → (attempts_
       as_parts (serving heeds (joined past) past) (requests heeds past) served (map (λ n. attempts_so_far heeds n past) (joined past)) (requests_are heeds (joined past) past) (served_is heeds (joined past) past ∙ is)
       (each_is heeds (joined past) past)
 
-  module _ (past : List Entry) (h : HostState) (facts : HostFacts h) (nodes : (n : ℕ) → 1 ≤ n → n ≤ 232 → NodeKnown heeds past h (clock past) n) (range : AllByRecursion IsInRange (joined past))
+  module _ (past : List Entry) (h : HostState) (facts : HostFacts h) (nodes : (n : ℕ) → 1 ≤ n → n ≤ 232 → NodeKnown heeds past h (clock past) n) (range : AllByRecursion IsNode (joined past))
       (owners : (n : ℕ) → works (node_of h n) ≡ true → is_among (joined past) n ≡ true) where
     abbrev told : ℕ → Attempts
     told n = attempts_so_far heeds n past

@@ -4,10 +4,8 @@ use Rattle.std.specs.List.{AllByRecursion, flat_map, list_any}
 use Rattle.std.proofs.lemmas.Bool.{or_left, or_right}
 use Rattle.serial_frame.specs.Items.{unit_text}
 use Rattle.serial_frame.specs.declared.item.Item.{Item}
-use Rattle.serial_frame.specs.declared.item.Item.TheVariants.{Good, Refused as refused_item}
-use Rattle.serial_frame.specs.declared.item.Refusal.TheVariants.{Stray, BadLength, BadSum, BadKind, Aborted}
 use Rattle.serial_frame.specs.declared.unit.Unit.{Unit as LineUnit}
-use Rattle.serial_frame.specs.declared.unit.Unit.TheVariants.{Ack, Nak, Can, Framed}
+use Rattle.serial_frame.specs.declared.unit.Unit.TheVariants.{Ack, Nak, Framed}
 use Rattle.chip_functions.specs.declared.request.Request.{Request}
 use Rattle.zw_words.specs.declared.side.Side.TheVariants.{Host, Chip}
 use Rattle.zw_text.specs.declared.entry.Entry.{Entry}
@@ -56,6 +54,8 @@ use Rattle.proof_giving.proofs.Wrote.{Wrote, writes}
 use Rattle.proof_giving.proofs.Wrote.Wrote.{Quietly, Again, Anew}
 use Rattle.proof_giving.proofs.proof_alone_Apart.{AreOfLine}
 use Rattle.proof_giving.proofs.proof_requests_Telling.{IsQuiet}
+use Rattle.proof_giving.proofs.proof_requests_Judging.{or_false}
+use Rattle.proof_giving.proofs.proof_waking_Parts.{item_told}
 use Rattle.proof_giving.specs.proof_queue.Waiting.{want_of_task}
 use Rattle.proof_giving.specs.Told.{attempts_so_far}
 use Rattle.proof_choice.specs.Choosing.{begins_well, may_choose}
@@ -96,10 +96,6 @@ pub told_none : (h : HostState) (event : HostEvent) (told : List Entry) → Begi
 told_none h (Begins n session command) told none are = absurd none
 told_none h (Accepts order carriage) told none are = told_so IsNoBegin line_none [] told tt are
 told_none h event told none are = told_so IsNoBegin line_none (outs h event) told (outs_are IsNoBegin shared_none h event tt) are
-
-or_none : (b : Bool) → (b || false) ≡ b
-or_none true = refl
-or_none false = refl
 
 module _ (node_is : (heeds : Heeds) (n : ℕ) (past : List Entry) → (attempts_so_far heeds n past).node ≡ n)
     (each_is : (heeds : Heeds) (nodes : List ℕ) (past : List Entry) → (serving heeds nodes past).each ≡ map (λ n. attempts_so_far heeds n past) nodes)
@@ -203,7 +199,7 @@ module _ (node_is : (heeds : Heeds) (n : ℕ) (past : List Entry) → (attempts_
         let is_node = served_is_node m.state k served.next in
         let chosen : chosen_of purpose ≡ true
         = ap (λ (l : List Request). list_any (is_chosen heeds past (serving heeds (joined past) past)) (flat_map sending_of l)) read
-        ∙ or_none (is_chosen heeds past (serving heeds (joined past) past) (record { node = k; payload = payload }))
+        ∙ or_false (is_chosen heeds past (serving heeds (joined past) past) (record { node = k; payload = payload }))
         ∙ ap (λ (s : Serving). is_chosen heeds past s (record { node = k; payload = payload })) (serving_is node_is each_is requests_are taken past m.state.served all.served)
         ∙ chosen_is node_is each_is requests_are taken past m.state facts (nodes_at time) all.range all.owners k payload served (part (nodes_at time k is_node.0 is_node.1)) in
         puts_may purpose are (or_right (new_of purpose || is_abort_frame (unit_of purpose) || some_of purpose) (chosen_of purpose) chosen)
@@ -242,19 +238,8 @@ module _ (node_is : (heeds : Heeds) (n : ℕ) (past : List Entry) → (attempts_
       unit_may past told (unit_text unit) marks (is ∙ ap (λ (l : List Entry). entry.Written Host (unit_text unit) ∷ (marks ++ l)) none ∙ ap (λ (l : List Entry). entry.Written Host (unit_text unit) ∷ l) (append-nil marks)) all
       (old_may past (unit_text unit) old)
 
-  nothing_may : (past told : List Entry) → told ≡ [] → AllMay past told
-  nothing_may past told none = subst (AllMay past) (sym none) tt
-
   item_may : (past told : List Entry) (item : Item) → AreTold (answer_to item) told → AllMay past told
-  item_may past told (Good (Framed f)) are = answer_may past told Ack refl are
-  item_may past told (Good Ack) are = nothing_may past told are
-  item_may past told (Good Nak) are = nothing_may past told are
-  item_may past told (Good Can) are = nothing_may past told are
-  item_may past told (refused_item (BadSum want got)) are = answer_may past told Nak refl are
-  item_may past told (refused_item (BadKind x)) are = answer_may past told Nak refl are
-  item_may past told (refused_item (Stray x)) are = nothing_may past told are
-  item_may past told (refused_item (BadLength n)) are = nothing_may past told are
-  item_may past told (refused_item Aborted) are = nothing_may past told are
+  item_may past told item are = item_told (λ (l : List Entry). AllMay past l) (λ l is. answer_may past l Ack refl is) (λ l is. answer_may past l Nak refl is) tt item told are
 
   -- where none is submitted
   other_may : (here : Phase) (past told : List Entry) (m : HostMachine) (event : HostEvent) → (here ≡ Submitting → ⊥) → BeginsNone event → AreTold (outs m.state event) told → Wrote here past told m.state event → AllMay past told

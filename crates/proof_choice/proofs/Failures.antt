@@ -15,6 +15,7 @@ use Rattle.law_time.specs.Requests.{are_none}
 use Rattle.host_node.specs.State.{NodeState}
 use Rattle.proof_giving.proofs.Opening.{last_is}
 use Rattle.proof_giving.proofs.proof_waking_Apart.{said_anew}
+use Rattle.proof_giving.proofs.proof_requests_Judging.{or_false}
 use Rattle.proof_choice.specs.Blocked.{BlockedSo}
 
 shown_joined : (shows : List Entry → Entry → List ℕ) (start past told : List Entry) → shown_after shows start (past ++ told) ≡ shown_after shows start past ++ shown_after shows (start ++ past) told
@@ -136,10 +137,6 @@ not_none (first ∷ items) item = refl
 unkept_at : (n k : ℕ) (before : List Entry) → (k == n) ≡ true → shown_after (unkept_when n) before (entry.Unkept k ∷ []) ≡ clock before ∷ []
 unkept_at n k before same = ap (λ (b : Bool). (if b then clock before ∷ [] else []) ++ []) same
 
-or_none : (b : Bool) → (b || false) ≡ b
-or_none true = refl
-or_none false = refl
-
 -- the keeper has failed for this node now
 fails_now : (n k : ℕ) (past : List Entry) (time : ℕ) → (k == n) ≡ true → clock past ≡ time → since_restart (past ++ entry.Unkept k ∷ []) ≡ since_restart past ++ entry.Unkept k ∷ []
     → is_in_tick (unkept_when n) (past ++ entry.Unkept k ∷ []) time ≡ true
@@ -152,7 +149,7 @@ fails_now n k past time same now since =
     ∙ ap (λ (l : List ℕ). shown_after (unkept_when n) [] (since_restart past) ++ l) (unkept_at n k (since_restart past) same) in
     ap₂ (λ (l k : List ℕ). not (are_none l) && list_any (λ tick. tick == time) (last_of k)) later after
     ∙ ap₂ (λ (b : Bool) (l : List ℕ). b && list_any (λ tick. tick == time) l) (not_none (shown_after (unkept_when n) [] (since_restart past)) (clock (since_restart past))) (last_is shown (clock past))
-    ∙ or_none (clock past == time) ∙ eq-eqb (clock past) time now
+    ∙ or_false (clock past == time) ∙ eq-eqb (clock past) time now
 
 abbrev IsMore : List Entry → ℕ → Type 0
 IsMore past k = since_restart (past ++ entry.Unkept k ∷ []) ≡ since_restart past ++ entry.Unkept k ∷ []

@@ -21,20 +21,7 @@ use Rattle.proof_giving.specs.proof_queue.Turn.{is_first_waiting, may_ask, may_g
 use Rattle.proof_giving.proofs.Books.{last_is}
 use Rattle.proof_choice.specs.Choosing.{may_choose}
 
--- one that is new
-ask_in_turn : (chosen first : Bool) (owes is_abort : Bool) → (if owes then is_abort else not is_abort && first) ≡ true → (is_abort || chosen) ≡ true → (if owes then is_abort else not is_abort && chosen) ≡ true
-ask_in_turn chosen first true is_abort may choice = may
-ask_in_turn chosen first false true may choice = may
-ask_in_turn chosen first false false may choice = choice
-
--- where none waits what is chosen is next, and where one does the first one is
-next_so : (unit : List ℕ) (wants : List (List ℕ)) (is_abort chosen : Bool) → (is_abort || not (are_none wants) || chosen) ≡ true
-    → (is_abort || (if are_none wants then chosen else true)) ≡ true
-next_so unit [] true chosen is = refl
-next_so unit [] false chosen is = is
-next_so unit (want ∷ wants) true chosen is = refl
-next_so unit (want ∷ wants) false chosen is = refl
-
+-- one that is new: where none waits what is chosen is next, and where one does the first one is
 unit_so : (heeds : Heeds) (past : List Entry) (s : Serving) (unit : List ℕ) (wants : List (List ℕ)) (owes is_abort : Bool) → (if owes then is_abort else not is_abort && is_first_waiting unit wants) ≡ true
     → (is_abort || not (are_none wants) || list_any (is_chosen heeds past s) (sending_in unit)) ≡ true
     → (if owes then is_abort else not is_abort && is_next heeds past s unit wants) ≡ true

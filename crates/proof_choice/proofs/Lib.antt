@@ -24,8 +24,8 @@ pub mod ReadyStarts
 mod Unended
 mod ReadyFrames
 mod ReadyAlong
-pub use Rattle.proof_ends.proofs.Times
-pub use Rattle.proof_ends.proofs.HostNotes
+pub use Rattle.proof_following.proofs.Times
+pub use Rattle.proof_following.proofs.HostNotes
 pub use Rattle.proof_giving.proofs.Opening
 pub use Rattle.proof_giving.proofs.Told
 pub use Rattle.proof_giving.proofs.Stepping
@@ -61,3 +61,19 @@ pub use Rattle.proof_giving.proofs.proof_queue_Orders
 pub use Rattle.proof_giving.proofs.Asked
 pub use Rattle.proof_giving.proofs.InOrder
 pub use Rattle.proof_giving.proofs.Running
+pub use Rattle.proof_following.proofs.Ending
+pub use Rattle.proof_following.proofs.proof_ends_Noting
+pub use Rattle.proof_following.proofs.proof_ends_Walking
+pub use Rattle.proof_following.proofs.EndsTold
+pub use Rattle.proof_following.proofs.Ticking
+pub use Rattle.proof_following.proofs.Entering
+pub use Rattle.proof_following.proofs.TickNotes
+pub use Rattle.proof_following.proofs.Framing
+pub use Rattle.proof_following.proofs.Acks
+pub use Rattle.proof_following.proofs.Hearing
+pub use Rattle.proof_following.proofs.HostEnds
+pub use Rattle.proof_following.proofs.Coming
+pub use Rattle.proof_following.proofs.Silent
+pub use Rattle.proof_following.proofs.LateEnds
+pub use Rattle.proof_following.proofs.Interviews
+pub use Rattle.proof_following.proofs.Informing

@@ -28,7 +28,7 @@ use Rattle.host_node.specs.Steps.{after_nonce}
 use Rattle.host_model.specs.State.{HostState, node_of}
 use Rattle.host_model.specs.After.{after}
 use Rattle.host_model.specs.Did.{after_all}
-use Rattle.host_model.specs.Events.{HostEvent, Starts, Gives_text, Unreads, Is_unkept, Reports_old, Works, Finishes, Offers, Gives, Spends, Spends_unread, Takes_nonce, Notifies, Resends, Hears_value, Has_no_room}
+use Rattle.host_model.specs.Events.{HostEvent, Unreads, Is_unkept, Reports_old, Works, Finishes, Offers, Gives, Spends, Spends_unread, Takes_nonce, Notifies, Resends, Hears_value, Has_no_room}
 use Rattle.host_model.specs.Taking.{AreTaken, FinalEvents, IsKeptOr, IsOpened, IsTaken, NonceGetEvents, NonceReportEvents, PayloadEvents, ReportEvents, SealedEvents, is_secure, named_by, resent, value_event, value_events, wanted_segment}
 use Rattle.law_time.specs.Attempts.{nonce_told}
 use Rattle.proof_giving.proofs.Doings.{Doing, did, does_all, node_after, nodes_are}
@@ -276,12 +276,3 @@ module _ (n : ℕ) where
   payload_nonces h payload (Messages messages) events within is = messages_so h payload false messages events within is
   payload_nonces h payload Sealed events within is = sealed_so h payload (named_by payload (live_of h.nonces n)) events within is
   payload_nonces h payload Unread events within is = subst (So h []) (sym is) (none_so h (Unreads n payload) within tt)
-
--- ---- of other nodes
-
--- an event of one node takes no nonce of another
-abbrev pub TakesOf : ℕ → HostEvent → Type 0
-TakesOf k (Takes_nonce m seen text) = m ≡ k
-TakesOf k (Starts m plan more payload) = ⊥
-TakesOf k (Gives_text m payload) = ⊥
-TakesOf k event = Unit {0}

@@ -27,16 +27,15 @@ use Rattle.host_model.proofs.Events.{session_owned}
 use Rattle.host_model.proofs.Tests.{open_command_is, unrefused_is, unrefused_so}
 use Rattle.proof_host.specs.Facts.{Facts}
 use Rattle.proof_host.specs.Tables.{nodes_by}
-use Rattle.proof_giving.proofs.HostNotes.{NoteOuts, all_outs_note}
-use Rattle.proof_ends.specs.proof_rests.proof_nonces.proof_work.proof_walk.Outside.{IsHostNote}
 use Rattle.proof_giving.specs.proof_queue.proof_attempts.proof_requests.proof_alone.State.{HostMachine}
-use Rattle.proof_giving.specs.proof_queue.proof_attempts.proof_requests.proof_alone.Steps.{AreTold, IsOfOthers, Step, Tells, Comes, Misses, Says, Says_nothing, Asks, Refuses, Shows, Restarts, Begins_tick, Numbers, Judges, Does, entries}
+use Rattle.proof_giving.specs.proof_queue.proof_attempts.proof_requests.proof_alone.Steps.{AreTold, Step, Tells, Comes, Misses, Says, Says_nothing, Asks, Refuses, Shows, Restarts, Begins_tick, Numbers, Judges, Does, entries}
 use Rattle.proof_giving.specs.proof_queue.proof_attempts.proof_requests.proof_alone.Phases.{Phase, Asked, May}
 use Rattle.proof_giving.specs.proof_queue.proof_attempts.proof_requests.proof_alone.Runs.{WalkOver}
-use Rattle.proof_giving.proofs.proof_alone_Apart.{AreOfLine, missed_are, told_are}
-use Rattle.proof_ends.specs.proof_rests.proof_nonces.proof_known.Known.{KnowsTold}
+use Rattle.proof_giving.proofs.proof_alone_Apart.{missed_are}
+use Rattle.proof_following.specs.proof_ends.proof_rests.proof_nonces.proof_known.Known.{KnowsTold}
 use Rattle.proof_giving.proofs.proof_queue_Orders.{is_among}
-use Rattle.proof_choice.proofs.Parts.{opened_of}
+use Rattle.proof_giving.proofs.Along.{is_opened}
+use Rattle.proof_giving.proofs.proof_known_Saying.{AcceptsNone, line_none, others_none, told_none}
 
 -- ---- the lines before the last one
 
@@ -109,8 +108,8 @@ owned_command h n facts some = by s.series refl
 
     by : (x : Series) → s.series ≡ x → (command : ℕ) × IsCommandOf h.commands n command
     by Idle is = first s.waiting (waits s is some) (recursion_from_All (IsCommandOf h.commands n) s.waiting (facts.owns n).waiting)
-    by Due is = let one = opened_of s (facts.nodes.facts n) (ap is_idle is) in opened one.0 one.1
-    by Running is = let one = opened_of s (facts.nodes.facts n) (ap is_idle is) in opened one.0 one.1
+    by Due is = let one = is_opened s (facts.nodes.facts n) (ap is_idle is) in opened one.0 one.1
+    by Running is = let one = is_opened s (facts.nodes.facts n) (ap is_idle is) in opened one.0 one.1
 
 pub owner_joined : (past : List Entry) (h : HostState) → Facts past h → EachAfter OwnLaw [] past → (n : ℕ) → works (node_of h n) ≡ true → is_among (joined past) n ≡ true
 owner_joined past h facts law n some =
@@ -119,28 +118,13 @@ owner_joined past h facts law n some =
 
 -- ---- the law
 
-abbrev AcceptsNone : Entry → Type 0
-AcceptsNone (entry.Accepted command node) = ⊥
-AcceptsNone e = Unit {0}
-
-others_none : (e : Entry) → IsOfOthers e → AcceptsNone e
-others_none (entry.Accepted command node) others = absurd others
-others_none e others = tt
-
-note_none : (e : Entry) → IsHostNote e → AcceptsNone e
-note_none (entry.Accepted command node) note = absurd note
-note_none e note = tt
-
-line_none : AreOfLine AcceptsNone
-line_none = record { written = λ side text. tt; dropped = λ side. tt; garbled = λ side text. tt; overrun = λ side. tt }
-
 all_own : (past told : List Entry) → AllByRecursion AcceptsNone told → EachAfter OwnLaw past told
 all_own past [] all = tt
 all_own past (entry.Accepted command node ∷ told) all = absurd all.0
 all_own past (e ∷ told) all = (tt, all_own (past ++ e ∷ []) told all.1)
 
 host_own : (past : List Entry) (h : HostState) (event : HostEvent) (told : List Entry) → AreTold (outs h event) told → EachAfter OwnLaw past told
-host_own past h event told are = all_own past told (told_are AcceptsNone line_none note_none (outs h event) told (subst NoteOuts (append-nil (outs h event)) (all_outs_note h (event ∷ []))) are)
+host_own past h event told are = all_own past told (told_none h event told are)
 
 accepts_own : (line : Line) (past : List Entry) (m : HostMachine) (event : HostEvent) → MayHost m.state event → KnowsTold (Asked line) past m → EachAfter OwnLaw past (answers m.state event)
 accepts_own line past m (Accepts order carriage) may told =

@@ -1,6 +1,6 @@
 -- What the session of a node has to send by the transcript is what the host has to give it.
 use Rattle.std.proofs.Common.{◌≡◌, ◌⊎◌, ℕ, ◌+◌, ◌-◌, ◌/◌, ◌<◌, ◌≤◌, ◌==◌, ◌&&◌, ◌||◌, nat_le, nat_lt, not, Bool, true, false, if◌then◌else◌, inl, inr, Option, Some, None, length, List, [], ◌∷◌, map, refl, sym, ap, ap₂, ◌∙◌, subst, append-nil, arith}
-use Rattle.std.specs.Prelude.{IsSome, bytes_eq, is_none, is_some, slice_index}
+use Rattle.std.specs.Prelude.{bytes_eq, is_none, is_some, slice_index}
 use Rattle.std.specs.List.{flat_map, list_any}
 use Rattle.std.proofs.lemmas.Bool.{and_from, and_left, and_right, both_ways, eq-eqb, le-leb, lt-leb, lt-ltb, ltb-false, ltb-true, or_from, or_parts}
 use Rattle.std.proofs.lemmas.Slice.Eq.{bytes_eq-Decides}
@@ -37,9 +37,10 @@ use Rattle.host_model.proofs.Events.{session_owned}
 use Rattle.host_model.proofs.Pumps.{found_is}
 use Rattle.host_model.proofs.Tests.{open_command_is}
 use Rattle.proof_host.specs.Tables.{taken_by}
-use Rattle.proof_ends.specs.proof_rests.proof_nonces.proof_work.Rests.{NodeRests}
+use Rattle.proof_following.specs.proof_ends.proof_rests.proof_nonces.proof_work.Rests.{NodeRests}
 use Rattle.proof_giving.specs.proof_queue.proof_attempts.Attempts.{IsSign, is_over_by}
 use Rattle.proof_giving.specs.proof_queue.proof_attempts.proof_requests.law_host.Heard.{heeds_alone, listing_heard}
+use Rattle.proof_giving.proofs.Along.{is_opened}
 use Rattle.proof_giving.proofs.AttemptsGo.{next_first, next_further, running_goes}
 use Rattle.proof_giving.proofs.proof_queue_Segments.{open_is_last, session_last}
 use Rattle.proof_giving.specs.Stays.{ShowsSessions}
@@ -67,19 +68,6 @@ none_some : (A : Type 0) (o : Option (List ℕ)) (text : List ℕ) → o ≡ Non
 none_some A o text none some = absurd (let bad : ◌≡◌ {A = Option (List ℕ)} None (Some text) = sym none ∙ some in cc)
 
 -- ---- the open session
-
--- a series that is due or runs is of an open session
-pub opened_of : (s : NodeState) → NodeFacts s → is_idle s.series ≡ false → (session : ℕ) × (open_session s.book ≡ Some session)
-opened_of s facts busy = by (open_session s.book) refl (opens s.series busy facts.series)
-  where
-    opens : (x : Series) → is_idle x ≡ false → SeriesFacts x s.book s.attempt_wait s.again_wait s.next_segment s.segments s.text s.pending → IsSome (open_session s.book)
-    opens Idle busy facts = absurd (let bad : true ≡ false = busy in cc)
-    opens Due busy facts = facts.0.is_open
-    opens Running busy facts = facts.0.is_open
-
-    by : (o : Option ℕ) → open_session s.book ≡ o → IsSome (open_session s.book) → (session : ℕ) × (open_session s.book ≡ Some session)
-    by (Some session) is some = (session, is)
-    by None is some = absurd (let bad : false ≡ true = sym (ap (λ (o : Option ℕ). is_some o) is) ∙ some in cc)
 
 module _ (taken : List Entry → Carried → List Told) (past : List Entry) (h : HostState) (n : ℕ) (facts : HostFacts h) (shows : ShowsSessions (heeds_alone taken) past h n) where
   -- by the transcript as in the host
@@ -157,7 +145,7 @@ module _ (node_is : (heeds : Heeds) (n : ℕ) (past : List Entry) → (attempts_
   -- where a series is due or runs, of its open session
   module _ (busy : is_idle s.series ≡ false) where
     pub opened : (session : ℕ) × (open_session s.book ≡ Some session)
-    opened = opened_of s node_facts busy
+    opened = is_opened s node_facts busy
 
     pub it : OpenSo taken past h n facts known.shows opened.0
     it = open_so taken past h n facts known.shows opened.0 opened.1

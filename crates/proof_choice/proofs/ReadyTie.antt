@@ -1,5 +1,5 @@
 -- The messages that are ready to be sealed go on as in the host at each step, where a frame that is judged and a host that starts leave them so.
-use Rattle.std.proofs.Common.{◌≡◌, ◌⊎◌, ℕ, ◌<◌, ◌≤◌, ◌==◌, ◌&&◌, ◌||◌, Bool, true, false, if◌then◌else◌, inl, inr, Option, Some, None, length, List, [], ◌∷◌, ◌++◌, map, refl, sym, ap, ap₂, ◌∙◌, subst, append_assoc, arith}
+use Rattle.std.proofs.Common.{◌≡◌, ◌⊎◌, ℕ, ◌<◌, ◌≤◌, ◌==◌, ◌&&◌, Bool, true, false, if◌then◌else◌, inl, inr, Option, Some, None, length, List, [], ◌∷◌, ◌++◌, map, refl, sym, ap, ap₂, ◌∙◌, subst, append_assoc, arith}
 use Rattle.std.specs.Prelude.{is_some}
 use Rattle.std.specs.List.{flat_map, list_any}
 use Rattle.std.proofs.lemmas.Bool.{eqb-true, ltb-true}
@@ -61,6 +61,7 @@ use Rattle.proof_giving.specs.Walking.{EndsAsTold, Grounds, KnowsAttempts, gives
 use Rattle.proof_giving.proofs.Asking.{mark_leaves, of_attempt}
 use Rattle.proof_giving.proofs.Begun.{starts_begin}
 use Rattle.proof_giving.proofs.Told.{attempts_asked, attempts_left, attempts_one}
+use Rattle.proof_giving.proofs.proof_requests_Judging.{or_false}
 use Rattle.proof_choice.specs.Ready.{ReadySo}
 use Rattle.proof_choice.specs.Readying.{ReadyAsTold, ReadyGround, Renewed}
 use Rattle.proof_choice.specs.Waits.{WaitsAnew}
@@ -222,10 +223,6 @@ module _ (grows : GrowsAlong) (brings : PayloadsBring) (taken : List Entry → C
           by true is = own is
           by false is = other_ready (so_far n past) over (unit_of (Attempt k more payload)) s s (stays_same false s) so
 
-      or_none : (b : Bool) → (b || false) ≡ b
-      or_none true = refl
-      or_none false = refl
-
       starts_go : (k : ℕ) (plan : Plan) (more : Bool) (payload : List ℕ) → IsFree m.state → MayHost m.state (Starts k plan more payload) → ReadsAs m.state (Attempt k more payload)
           → Puts (Attempt k more payload) → Goes (Starts k plan more payload)
       starts_go k plan more payload free may read are =
@@ -235,7 +232,7 @@ module _ (grows : GrowsAlong) (brings : PayloadsBring) (taken : List Entry → C
           let bare = due_bare s (facts.nodes.facts n) due in
           own_ready (so_far n past) over (unit_of (Attempt k more payload)) s (after_start s plan) (seen_so plan) (text_so plan bare.0)
           (λ plain is.
-          ap (λ (l : List Request). list_any (λ (carried : Carried). goes_on carried.payload) (flat_map sending_of l)) read ∙ or_none (goes_on payload)
+          ap (λ (l : List Request). list_any (λ (carried : Carried). goes_on carried.payload) (flat_map sending_of l)) read ∙ or_false (goes_on payload)
           ∙ starts_begin m.state k plan more payload facts may.1) so)
         where
           seen_so : (plan : Plan) → (after_start s plan).seen ≡ s.seen

@@ -22,12 +22,12 @@ use Rattle.law_time.specs.Heeds.{Heeds}
 use Rattle.host_model.specs.State.{HostState, node_of}
 use Rattle.host_model.specs.After.{after}
 use Rattle.host_model.specs.Did.{after_all}
-use Rattle.host_model.specs.Events.{HostEvent, Accepts, Cancels, Hears}
+use Rattle.host_model.specs.Events.{HostEvent, Accepts, Cancels, Hears, Starts, Gives_text, Takes_nonce}
 use Rattle.host_model.specs.Outs.{answers}
 use Rattle.proof_giving.specs.proof_queue.proof_attempts.proof_requests.proof_alone.world_model.Events.{OpensFrom, shown_values}
 use Rattle.proof_giving.specs.proof_queue.proof_attempts.proof_requests.law_host.Heard.{heeds_alone}
 use Rattle.proof_giving.specs.proof_queue.proof_attempts.proof_requests.proof_alone.State.{HostMachine, done}
-use Rattle.proof_giving.specs.proof_queue.proof_attempts.proof_requests.proof_alone.Steps.{IsAskedBy, Step, Tells, Comes, Misses, Says, Says_nothing, Asks, Refuses, Shows, Restarts, Begins_tick, Numbers, Judges, Does, entries, happens}
+use Rattle.proof_giving.specs.proof_queue.proof_attempts.proof_requests.proof_alone.Steps.{Step, Tells, Comes, Misses, Says, Says_nothing, Asks, Refuses, Shows, Restarts, Begins_tick, Numbers, Judges, Does, entries, happens}
 use Rattle.proof_giving.specs.proof_queue.proof_attempts.proof_requests.proof_alone.Phases.{Phase, Resting, Asked, Risen, Ticking, Open, Behind, Sleeping, Submitting, IsJudgedNow, May, Turns}
 use Rattle.proof_giving.specs.proof_queue.proof_attempts.proof_requests.proof_alone.Runs.{Run}
 use Rattle.proof_giving.specs.proof_queue.proof_attempts.proof_requests.proof_alone.Runs.Run.{Begins, Turned, Stepped}
@@ -38,7 +38,10 @@ use Rattle.proof_giving.proofs.Queued.{PayloadsBring}
 use Rattle.proof_giving.specs.proof_queue.Heeding.{AllSteps, HeedsAs}
 use Rattle.proof_giving.specs.Walking.{Grounds}
 use Rattle.proof_giving.specs.Told.{GoesAlong, LeavesAttempts, attempts_so_far}
+use Rattle.proof_giving.specs.proof_queue.proof_attempts.proof_walk.ByLine.{IsAsked}
 use Rattle.proof_giving.proofs.Told.{attempts_in_vain, attempts_left, attempts_said}
+use Rattle.proof_giving.proofs.InOrder.{is_asked}
+use Rattle.proof_giving.proofs.Stepping.{asked_on}
 use Rattle.proof_choice.specs.Ready.{ReadySo}
 use Rattle.proof_choice.specs.Readying.{ReadyAsTold, ReadyGround, Renewed}
 use Rattle.proof_choice.specs.Turning.{AllAlong}
@@ -111,31 +114,11 @@ module _ (grows : GrowsAlong) (brings : PayloadsBring) (taken : List Entry → C
       (one_stays n m.state event (within_of (Asked line) past m ground.0.0 n to) calm)
       (anew_bare grows brings taken n past all (after m.state event) m.clock m.clock ((facts_of Open all (done m event) later.0.0).nodes.facts n) (later.0.1 n from to)) (tie n from to)
 
-  asked_calm : (line : Line) (h : HostState) (event : HostEvent) → IsAskedBy line h event → LeavesTexts false event
-  asked_calm (lines.Command order) h event is = subst (LeavesTexts false) (sym is) tt
-  asked_calm (lines.Send node word) h event is = subst (LeavesTexts false) (sym is.1) tt
-  asked_calm (lines.Get node end) h event is = subst (LeavesTexts false) (sym is.1) tt
-  asked_calm (lines.Join node) h event is = subst (LeavesTexts false) (sym is) tt
-  asked_calm (lines.Interview node) h event is = subst (LeavesTexts false) (sym is.1) tt
-  asked_calm (lines.Cancel command) h event is = subst (LeavesTexts false) (sym is) tt
-  asked_calm lines.Discover h event is = subst (LeavesTexts false) (sym is.1) tt
-  asked_calm (lines.Neighbours node) h event is = subst (LeavesTexts false) (sym is.1) tt
-  asked_calm (lines.Failed node) h event is = subst (LeavesTexts false) (sym is.1) tt
-  asked_calm lines.Probe h event is = subst (LeavesTexts false) (sym is.1) tt
-  asked_calm line h event is = absurd is
-
-  asked_no_restart : (line : Line) (h : HostState) (event : HostEvent) → IsAskedBy line h event → is_restart (line ∷ []) ≡ false
-  asked_no_restart (lines.Command order) h event is = refl
-  asked_no_restart (lines.Send node word) h event is = refl
-  asked_no_restart (lines.Get node end) h event is = refl
-  asked_no_restart (lines.Join node) h event is = refl
-  asked_no_restart (lines.Interview node) h event is = refl
-  asked_no_restart (lines.Cancel command) h event is = refl
-  asked_no_restart lines.Discover h event is = refl
-  asked_no_restart (lines.Neighbours node) h event is = refl
-  asked_no_restart (lines.Failed node) h event is = refl
-  asked_no_restart lines.Probe h event is = refl
-  asked_no_restart line h event is = absurd is
+  asked_calm : (event : HostEvent) → IsAsked event → LeavesTexts false event
+  asked_calm (Starts n plan more payload) asked = absurd asked
+  asked_calm (Gives_text n payload) asked = absurd asked
+  asked_calm (Takes_nonce n seen text) asked = absurd asked
+  asked_calm event asked = tt
 
   module _ (judges : JudgesReady) (starts : StartsReady) where
     abbrev Tie : Phase → List Entry → HostState → ℕ → Type 0
@@ -178,9 +161,9 @@ module _ (grows : GrowsAlong) (brings : PayloadsBring) (taken : List Entry → C
         (said_goes past words m.state m.clock (ap is_restart may.2) (rest_of (ReadyAsTold heeds) Resting past m tt (as_known (ReadyAsTold heeds) here Resting past m may.0 known)))
     step_goes here next past m (Asks event) (line, here_is, is, may, numbered, to_is) as_told shown ground later known =
         leads_to (ReadyAsTold heeds) next Open (past ++ entries m (Asks event)) (happens m (Asks event)) tt to_is
-        (asked_goes line past m event (asked_calm line m.state event is) (subst (λ (p : Phase). ReadyGround heeds p past m) here_is ground)
+        (asked_goes line past m event (asked_calm event (is_asked line m.state event is)) (subst (λ (p : Phase). ReadyGround heeds p past m) here_is ground)
         (subst (λ (p : Phase). ReadyGround heeds p (past ++ entries m (Asks event)) (happens m (Asks event))) to_is later)
-        ((as_known (ReadyAsTold heeds) here (Asked line) past m here_is known).goes_on (asked_no_restart line m.state event is)))
+        ((as_known (ReadyAsTold heeds) here (Asked line) past m here_is known).goes_on (asked_on line m.state event is)))
     step_goes here next past m (Refuses refusal) (line, here_is, why, numbered, to_is) as_told shown ground later known =
         leads_to (ReadyAsTold heeds) next Open (past ++ entry.Refused refusal ∷ []) (happens m (Refuses refusal)) tt to_is ((as_known (ReadyAsTold heeds) here (Asked line) past m here_is known).in_vain refusal)
     step_goes here next past m (Shows node) may as_told shown ground later known =

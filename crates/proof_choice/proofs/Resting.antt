@@ -18,7 +18,7 @@ use Rattle.law_time.specs.Queue.{requests, with_due}
 use Rattle.law_time.specs.Requests.{Asked, are_none, asked}
 use Rattle.law_time.specs.Rests.{has_come, is_rest, may_rest, none_overdue, none_waits, owes_nothing}
 use Rattle.host_model.specs.Facts.{HostFacts}
-use Rattle.proof_ends.specs.proof_rests.proof_nonces.proof_work.Rests.{Rests}
+use Rattle.proof_following.specs.proof_ends.proof_rests.proof_nonces.proof_work.Rests.{Rests}
 use Rattle.proof_giving.specs.proof_queue.proof_attempts.proof_requests.law_host.Heard.{heeds_alone}
 use Rattle.proof_giving.specs.proof_queue.proof_attempts.proof_requests.proof_alone.State.{HostMachine}
 use Rattle.proof_giving.specs.proof_queue.proof_attempts.proof_requests.proof_alone.Phases.{Resting}
@@ -26,13 +26,14 @@ use Rattle.proof_giving.specs.proof_queue.proof_attempts.proof_requests.proof_al
 use Rattle.proof_giving.proofs.Books.{last_is}
 use Rattle.proof_giving.specs.proof_queue.Waiting.{queue_of, want_of_task}
 use Rattle.proof_giving.specs.Told.{attempts_so_far}
-use Rattle.proof_ends.specs.proof_rests.Undone.{is_done, may_begin}
-use Rattle.proof_ends.proofs.Done.{TasksNone, done_at_rest}
-use Rattle.proof_ends.proofs.Freeing.{frees}
+use Rattle.proof_following.specs.proof_ends.proof_rests.Undone.{is_done, may_begin}
+use Rattle.proof_following.proofs.Done.{TasksNone, done_at_rest}
+use Rattle.proof_following.proofs.Freeing.{frees}
 use Rattle.proof_choice.specs.Resting.{RestingGround, leaves_none, rests_with_none}
-use Rattle.proof_choice.specs.Turning.{AllKnown, IsInRange}
+use Rattle.proof_choice.specs.Turning.{AllKnown}
 use Rattle.proof_choice.proofs.Choices.{serving_is}
 use Rattle.proof_choice.proofs.Parts.{overdue_none, waits_for_none}
+use Rattle.chip_functions.specs.Field.{IsNode}
 
 -- the law is that of rests
 pub rests_may : (heeds : Heeds) (past told : List Entry) → EachAfter (Allows (may_begin (rests_with_none heeds))) past told → EachAfter (Allows (may_rest heeds)) past told
@@ -58,7 +59,7 @@ module _ (node_is : (heeds : Heeds) (n : ℕ) (past : List Entry) → (attempts_
         (and_from (has_come n (since_restart past)) (none_waits n past m.clock) come (waits_for_none node_is taken past m.state m.clock n facts (all.nodes n from to) (rests.each n from to)))
         (overdue_none node_is taken past m.state m.clock n facts (all.nodes n from to) (rests.each n from to))
 
-    all_owed : (nodes : List ℕ) → AllByRecursion IsInRange nodes → list_all (λ node. has_come node (since_restart past)) nodes ≡ true → list_all (owes_nothing heeds past m.clock) (map told nodes) ≡ true
+    all_owed : (nodes : List ℕ) → AllByRecursion IsNode nodes → list_all (λ node. has_come node (since_restart past)) nodes ≡ true → list_all (owes_nothing heeds past m.clock) (map told nodes) ≡ true
     all_owed [] range come = refl
     all_owed (n ∷ nodes) range come =
         let both = and_parts (has_come n (since_restart past)) (list_all (λ node. has_come node (since_restart past)) nodes) come in

@@ -5,10 +5,8 @@ use Rattle.std.specs.List.{AllByRecursion, flat_map}
 use Rattle.zw_base.proofs.Each.{all-weaker}
 use Rattle.serial_frame.specs.Items.{unit_text}
 use Rattle.serial_frame.specs.declared.item.Item.{Item}
-use Rattle.serial_frame.specs.declared.item.Item.TheVariants.{Good, Refused as refused_item}
-use Rattle.serial_frame.specs.declared.item.Refusal.TheVariants.{Stray, BadLength, BadSum, BadKind, Aborted}
 use Rattle.serial_frame.specs.declared.unit.Unit.{Unit as LineUnit}
-use Rattle.serial_frame.specs.declared.unit.Unit.TheVariants.{Ack, Nak, Can, Framed}
+use Rattle.serial_frame.specs.declared.unit.Unit.TheVariants.{Ack, Nak, Framed}
 use Rattle.serial_link.specs.State.{tick_side}
 use Rattle.chip_functions.specs.declared.request.Request.{Request}
 use Rattle.s0_crypto.specs.declared.key_pair.Keys.{Keys}
@@ -52,7 +50,7 @@ use Rattle.host_model.specs.Pumping.{IsNext}
 use Rattle.host_model.specs.Restoring.{ending, restored}
 use Rattle.host_model.specs.declared.out.HostOut.TheVariants.{Note, Write}
 use Rattle.host_model.proofs.Submitted.{next_is}
-use Rattle.proof_ends.specs.proof_rests.proof_nonces.proof_work.proof_walk.ByLine.{IsAsked}
+use Rattle.proof_following.specs.proof_ends.proof_rests.proof_nonces.proof_work.proof_walk.ByLine.{IsAsked}
 use Rattle.proof_giving.specs.proof_queue.proof_attempts.proof_requests.proof_alone.world_model.Events.{OpensFrom}
 use Rattle.proof_giving.specs.proof_queue.proof_attempts.proof_requests.law_host.Heard.{heeds_alone}
 use Rattle.proof_giving.specs.proof_queue.proof_attempts.proof_requests.Asking.{doing_of}
@@ -69,6 +67,7 @@ use Rattle.proof_giving.proofs.proof_attempts_Walking.{is_fresh, written_told}
 use Rattle.proof_giving.proofs.Wrote.{Wrote, writes}
 use Rattle.proof_giving.proofs.Wrote.Wrote.{Quietly, Again, Anew}
 use Rattle.proof_giving.proofs.proof_requests_Telling.{IsQuiet}
+use Rattle.proof_giving.proofs.proof_waking_Parts.{item_told}
 use Rattle.proof_giving.specs.proof_queue.Waiting.{want_of_task}
 use Rattle.proof_choice.specs.Served.{ServedAsTold, served_so_far}
 use Rattle.proof_choice.specs.Waits.{AskingGround, WaitsAnew}
@@ -210,19 +209,9 @@ module _ (taken : List Entry → Carried → List Told) where
       unit_served past told (unit_text unit) marks (is ∙ ap (λ (l : List Entry). entry.Written Host (unit_text unit) ∷ (marks ++ l)) none ∙ ap (λ (l : List Entry). entry.Written Host (unit_text unit) ∷ l) (append-nil marks))
       (all-weaker IsOfUnit LeavesServed mark_leaves marks all) ∙ served_again taken past (unit_text unit) old
 
-  unanswered : (past told : List Entry) → told ≡ [] → node_so (past ++ told) ≡ node_so past
-  unanswered past told none = ap (λ (l : List Entry). node_so (past ++ l)) none ∙ ap node_so (append-nil past)
-
   answer_served : (past told : List Entry) (item : Item) → AreTold (answer_to item) told → node_so (past ++ told) ≡ node_so past
-  answer_served past told (Good (Framed f)) are = answered past told Ack refl are
-  answer_served past told (Good Ack) are = unanswered past told are
-  answer_served past told (Good Nak) are = unanswered past told are
-  answer_served past told (Good Can) are = unanswered past told are
-  answer_served past told (refused_item (BadSum want got)) are = answered past told Nak refl are
-  answer_served past told (refused_item (BadKind x)) are = answered past told Nak refl are
-  answer_served past told (refused_item (Stray x)) are = unanswered past told are
-  answer_served past told (refused_item (BadLength n)) are = unanswered past told are
-  answer_served past told (refused_item Aborted) are = unanswered past told are
+  answer_served past told item are =
+      item_told (λ (l : List Entry). node_so (past ++ l) ≡ node_so past) (λ l is. answered past l Ack refl is) (λ l is. answered past l Nak refl is) (ap node_so (append-nil past)) item told are
 
   -- ---- what is submitted
 

@@ -1,20 +1,12 @@
 -- What an event makes of what a node has still to give: it runs only where it ran, with as many segments, and has no text that it had not.
-use Rattle.std.proofs.Common.{◌≡◌, ℕ, ◌+◌, ◌-◌, ◌==◌, ◌&&◌, nat_lt, Bool, true, false, if◌then◌else◌, Option, Some, None, List, [], ◌∷◌, refl, sym, ◌∙◌}
-use Rattle.std.specs.List.{AllByRecursion}
+use Rattle.std.proofs.Common.{◌≡◌, ℕ, ◌+◌, ◌-◌, ◌==◌, ◌&&◌, nat_lt, Bool, true, false, if◌then◌else◌, Option, Some, None, List, refl, sym, ◌∙◌}
 use Rattle.serial_link.specs.State.{tick_side}
 use Rattle.supervision.specs.Host.{told_of}
 use Rattle.supervision.specs.declared.host_node.Told.{Told}
 use Rattle.supervision.specs.declared.host_node.Told.TheVariants.{Final, Working, Old}
 use Rattle.host_requests.specs.Events.{end_at}
-use Rattle.host_requests.specs.Events.RequestsEvent.{Fails as request_fails}
-use Rattle.host_requests.specs.declared.end.End.{End}
-use Rattle.host_requests.specs.declared.end.How.{How}
-use Rattle.host_requests.specs.declared.task.Purpose.{Purpose}
-use Rattle.host_requests.specs.declared.task.Purpose.TheVariants.{Attempt, Housekeeping, Abort}
-use Rattle.host_requests.specs.declared.task.Task.{Task}
-use Rattle.host_requests.specs.declared.task.Task.TheVariants.{NoMore}
 use Rattle.host_node.specs.declared.attempt.Moment.{Moment}
-use Rattle.host_node.specs.declared.attempt.Moment.TheVariants.{BeforeItsTick, BetweenTicks}
+use Rattle.host_node.specs.declared.attempt.Moment.TheVariants.{BetweenTicks}
 use Rattle.host_node.specs.declared.no_more.NoMore.TheVariants.{Unasked}
 use Rattle.host_node.specs.declared.series.Series.TheVariants.{Idle, Due, Running}
 use Rattle.host_node.specs.State.{NodeState, has_waiting, is_idle, is_open, is_running, is_up}
@@ -23,9 +15,8 @@ use Rattle.host_node.specs.Events.{NodeEvent, after as after_node}
 use Rattle.host_node.specs.Events.NodeEvent.{Accepts as node_accepts, Begins as node_begins, Starts as node_starts, Gives_text as node_gives_text, Succeeds, Takes_nonce as node_takes_nonce, Restores_seen, Ends_attempt, Reports, Notifies as node_notifies, Sleeps, Ends_no_more, Ticks, Restarts as node_restarts}
 use Rattle.host_model.specs.State.{HostState}
 use Rattle.host_model.specs.After.{gives_up, is_held}
-use Rattle.host_model.specs.Ends.{PartEnd, Good, Passed_over, Bad, part_end}
 use Rattle.host_model.specs.Events.{HostEvent, Accepts, Cancels, Joins, Requests_do, Interviews, Works, Finishes, Takes_nonce, Notifies, Line_ticks, Node_ticks, Queues_no_more, Drops_no_more, Starts, Gives_text, Gives_segment, Begins, Begin_unkept}
-use Rattle.proof_giving.proofs.Doings.{Doing, did, does_at, end_does, failing_does, held_does, part_does, purpose_does, task_does}
+use Rattle.proof_giving.proofs.Doings.{AllDo, Doing, EndsDo, did, does_at, end_all, failing_all, held_all, kept_by_all}
 
 -- ---- nodes
 
@@ -167,14 +158,8 @@ module _ (given : Bool) where
 
   -- ---- the events of a host
 
-  abbrev AllGoOn : List Doing → Type 0
-  AllGoOn doings = AllByRecursion (λ (one : Doing). GoesOn one.event) doings
-
-  pub all_stay : (n : ℕ) (s : NodeState) (doings : List Doing) → AllGoOn doings → Stays given s (does_at n s doings)
-  all_stay n s [] all = stays_same s
-  all_stay n s (one ∷ more) all =
-      let next : NodeState = if one.node == n then after_node s one.event else s in
-      then_stays s next (does_at n next more) (either s (one.node == n) (after_node s one.event) s (node_stays s one.event all.0) (stays_same s)) (all_stay n next more all.1)
+  pub all_stay : (n : ℕ) (s : NodeState) (doings : List Doing) → AllDo GoesOn doings → Stays given s (does_at n s doings)
+  all_stay = kept_by_all (Stays given) GoesOn stays_same then_stays node_stays
 
   abbrev pub LeavesTexts : HostEvent → Type 0
   LeavesTexts (Starts n plan more payload) = ⊥
@@ -182,43 +167,20 @@ module _ (given : Bool) where
   LeavesTexts (Takes_nonce n seen text) = ⊥
   LeavesTexts event = Unit {0}
 
-  part_goes : (k : ℕ) (end : PartEnd) (moment : Moment) → AllGoOn (part_does k end moment)
-  part_goes k Good moment = (tt, tt)
-  part_goes k Passed_over moment = tt
-  part_goes k Bad moment = (tt, tt)
+  going_ends : EndsDo GoesOn
+  going_ends = record { answered = tt; attempt_over = λ moment. tt; let_sleep = tt; held = tt }
 
-  task_goes : (task : Task) → AllGoOn (task_does task)
-  task_goes (NoMore k) = (tt, tt)
-  task_goes task = tt
-
-  purpose_goes : (purpose : Purpose) (how : How) (moment : Moment) → AllGoOn (purpose_does purpose how moment)
-  purpose_goes (Attempt k more payload) how moment = part_goes k (part_end more how) moment
-  purpose_goes (Housekeeping task) how moment = task_goes task
-  purpose_goes Abort how moment = tt
-
-  end_goes : (end : Option End) (moment : Moment) → AllGoOn (end_does end moment)
-  end_goes None moment = tt
-  end_goes (Some end) moment = purpose_goes end.purpose end.how moment
-
-  failing_goes : (gives : Bool) (h : HostState) → AllGoOn (failing_does gives h)
-  failing_goes true h = end_goes (end_at h.requests request_fails) BeforeItsTick
-  failing_goes false h = tt
-
-  held_goes : (n : ℕ) (held : Bool) → AllGoOn (held_does n held)
-  held_goes n true = (tt, tt)
-  held_goes n false = tt
-
-  pub event_goes : (h : HostState) (event : HostEvent) → LeavesTexts event → AllGoOn (did h event)
+  pub event_goes : (h : HostState) (event : HostEvent) → LeavesTexts event → AllDo GoesOn (did h event)
   event_goes h (Accepts order carriage) none = (tt, (tt, tt))
   event_goes h (Cancels command) none = (tt, tt)
   event_goes h (Joins n) none = (tt, tt)
-  event_goes h (Requests_do event moment) none = end_goes (end_at h.requests event) moment
+  event_goes h (Requests_do event moment) none = end_all GoesOn going_ends (end_at h.requests event) moment
   event_goes h (Interviews n listens classes update) none = (tt, tt)
   event_goes h (Works n id) none = (tt, tt)
-  event_goes h (Finishes n session id command status wake_request) none = (tt, held_goes n (is_held h n wake_request))
+  event_goes h (Finishes n session id command status wake_request) none = (tt, held_all GoesOn going_ends n (is_held h n wake_request))
   event_goes h (Takes_nonce n seen text) none = absurd none
   event_goes h (Notifies n) none = (tt, tt)
-  event_goes h Line_ticks none = failing_goes (gives_up h.side.turn (tick_side h.side).turn) h
+  event_goes h Line_ticks none = failing_all GoesOn going_ends (gives_up h.side.turn (tick_side h.side).turn) h
   event_goes h (Node_ticks n) none = (tt, tt)
   event_goes h (Queues_no_more n) none = (tt, tt)
   event_goes h (Drops_no_more n) none = (tt, tt)

@@ -2,7 +2,7 @@
 use Rattle.std.proofs.Common.{◌≡◌, ◌⊎◌, ◌<◌, ◌≤◌, ℕ, ◌+◌, ◌==◌, ◌&&◌, ◌||◌, not, Bool, true, false, if◌then◌else◌, inl, inr, List, [], ◌∷◌, filter, take, refl, sym, ap, ◌∙◌, subst, arith}
 use Rattle.std.specs.Prelude.{nat_le, nat_lt}
 use Rattle.std.specs.List.{AllByRecursion, flat_map, list_all, list_any}
-use Rattle.std.proofs.lemmas.Bool.{and_from, and_parts, le-leb, lt-leb, ltb-true}
+use Rattle.std.proofs.lemmas.Bool.{and_from, le-leb, lt-leb}
 use Rattle.serial_frame.specs.Frame.{FrameParts}
 use Rattle.serial_frame.specs.declared.unit.Unit.{Unit as LineUnit}
 use Rattle.serial_frame.specs.declared.unit.Unit.TheVariants.{Ack, Nak, Can, Framed}
@@ -16,6 +16,7 @@ use Rattle.host_requests.specs.declared.under_way.Progress.TheVariants.{Submitte
 use Rattle.host_requests.specs.declared.under_way.UnderWay.{UnderWay}
 use Rattle.proof_giving.specs.proof_queue.proof_attempts.proof_requests.Standing.{Standing, counted, ending_in, failing_in, giving_up_in, responses_in, sent_in, silence_in, wait_in}
 use Rattle.proof_giving.specs.proof_queue.proof_attempts.proof_requests.Asking.{AsProgress, IsUnderWay, TieLine, to_come}
+use Rattle.proof_giving.proofs.proof_attempts_Ending.{not_silent}
 use Rattle.proof_giving.proofs.Line.{counted_copied, failing_few, failing_four, failing_sent, few_is, less_than_due}
 use Rattle.proof_giving.proofs.UnderWay.{line_held, over_all, progress_over}
 
@@ -77,17 +78,6 @@ all_fail s now count f rest turn Submitted line progress = busy_fails s now coun
 all_fail s now count f rest turn (Sent left) line (idle, none, other, sent, sent_is, since, some) = none_fails s now (count + 1) (failing_sent s sent sent_is)
 all_fail s now count f rest turn (Answered true left) line (other, one, more, are, since, some, few, (idle, sent, sent_is, time)) = none_fails s now (count + 1) (failing_sent s sent sent_is)
 all_fail s now count f rest turn (Answered false left) line (other, one, more, are, since, some, few, busy) = busy_fails s now count f rest turn busy line
-
-not_silent : (now : ℕ) (test : ℕ → Bool) (waits : List ℕ) → list_all (nat_lt now) waits ≡ true → list_any (λ tick. nat_le tick now) (filter test waits) ≡ false
-not_silent now test [] all = refl
-not_silent now test (wait ∷ waits) all =
-    let parts = and_parts (nat_lt now wait) (list_all (nat_lt now) waits) all in
-    by (test wait) (lt-leb wait now (ltb-true now wait parts.0)) (not_silent now test waits parts.1)
-  where
-    by : (b : Bool) → nat_le wait now ≡ false → list_any (λ tick. nat_le tick now) (filter test waits) ≡ false
-        → list_any (λ tick. nat_le tick now) (if b then wait ∷ filter test waits else filter test waits) ≡ false
-    by true later rest = ap (λ (c : Bool). c || list_any (λ tick. nat_le tick now) (filter test waits)) later ∙ rest
-    by false later rest = rest
 
 pub lasts_past : (s : Standing) (now count : ℕ) (f : FrameParts) (rest : List LineUnit) (turn : Turn) (id : ℕ) (u : UnderWay) → TieLine s now count (Framed f ∷ rest) turn → IsUnderWay s now turn id u → LastsPast s now count
 lasts_past s now count f rest turn id u line is =

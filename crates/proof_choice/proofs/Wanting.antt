@@ -1,5 +1,5 @@
 -- What waits in the host is known along each careful run where it submits, and where it rests.
-use Rattle.std.proofs.Common.{◌≡◌, ℕ, ◌+◌, ◌-◌, ◌&&◌, List, [], map, refl, sym, ap, ◌∙◌, arith}
+use Rattle.std.proofs.Common.{◌≡◌, ℕ, ◌+◌, ◌&&◌, List, [], map, refl, sym, ap, ◌∙◌}
 use Rattle.std.proofs.lemmas.Bool.{or_left}
 use Rattle.zw_words.specs.declared.side.Side.TheVariants.{Host}
 use Rattle.zw_text.specs.declared.entry.Entry.{Entry}
@@ -19,13 +19,11 @@ use Rattle.proof_giving.specs.proof_queue.proof_attempts.proof_requests.proof_al
 use Rattle.proof_giving.specs.proof_queue.Heeding.{AllSteps, HeedsAs, HeedsSo}
 use Rattle.proof_giving.specs.proof_queue.Waiting.{WaitsAtLooks, queue_of, want_of_task}
 use Rattle.proof_giving.proofs.Books.{last_is}
+use Rattle.proof_giving.proofs.Late.{less}
 use Rattle.proof_giving.specs.Walking.{KnowsAttempts}
 use Rattle.proof_choice.specs.Counting.{KnowsCounts}
 use Rattle.proof_choice.specs.Turning.{AllAlong}
 use Rattle.proof_choice.specs.Waits.{KnowsWants, WaitsAnew}
-
-less : (n : ℕ) → n + 1 - 1 ≡ n
-less n = omega arith
 
 module _ (start : HostMachine) (taken : List Entry → Carried → List Told) where
   abbrev heeds : Heeds

@@ -32,8 +32,9 @@ use Rattle.proof_choice.specs.Blocked.{BlocksAsTold}
 use Rattle.proof_choice.specs.Counting.{KnowsCounts, KnowsReady}
 use Rattle.proof_choice.specs.Plans.{PlansAreSo}
 use Rattle.proof_choice.specs.Served.{ServedAsTold}
-use Rattle.proof_choice.specs.Turning.{AllKnown, IsInRange, KnowsAll}
+use Rattle.proof_choice.specs.Turning.{AllKnown, KnowsAll}
 use Rattle.proof_choice.proofs.Owners.{OwnLaw, owner_joined}
+use Rattle.chip_functions.specs.Field.{IsNode}
 
 -- what is known whatever is heeded
 pub record Grounds (here : Phase) (past : List Entry) (m : HostMachine) : Type 0 where
@@ -52,7 +53,7 @@ OverAsTold =
     (heeds : Heeds) (n : ℕ) (past : List Entry) (now : ℕ) (came : List LineUnit) (h : HostState) → AreFrames came → TieAsked past now now came (doing_of h) → NodeFacts (node_of h n) → AttemptsSo heeds n past h now now
     → attempt_is_over heeds past (asked past) now (attempts_so_far heeds n past) ≡ is_over_by now (is_badly_over heeds n past h now) (attempts_so_far heeds n past)
 
-in_range : (n : ℕ) → HasJoined n → IsInRange n
+in_range : (n : ℕ) → HasJoined n → IsNode n
 in_range n joins = (joins.0, let to = joins.1 in omega (arith, to))
 
 module _ (over : OverAsTold) (taken : List Entry → Carried → List Told) where
@@ -83,7 +84,7 @@ module _ (over : OverAsTold) (taken : List Entry → Carried → List Told) wher
           blocked = ground.blocks n from to;
         };
     served = more.1;
-    range = all-weaker HasJoined IsInRange in_range (joined past) ground.sights.joins.nodes;
+    range = all-weaker HasJoined IsNode in_range (joined past) ground.sights.joins.nodes;
     owners = owner_joined past m.state ground.requests.0.0.0.0.0.facts ground.own;
   }
 
@@ -105,7 +106,7 @@ module _ (over : OverAsTold) (taken : List Entry → Carried → List Told) wher
           blocked = ground.blocks n from to;
         };
     served = more.1;
-    range = all-weaker HasJoined IsInRange in_range (joined past) ground.sights.joins.nodes;
+    range = all-weaker HasJoined IsNode in_range (joined past) ground.sights.joins.nodes;
     owners = owner_joined past m.state ground.requests.0.0.0.0.0.facts ground.own;
   }
 

@@ -12,7 +12,7 @@ use Rattle.law_time.specs.Attempts.{Serving, serving}
 use Rattle.law_time.specs.Choice.{has_turn, is_chosen, is_in_tick, is_to_begin, unbegun_when}
 use Rattle.law_time.specs.Ends.{is_abort_frame}
 use Rattle.law_time.specs.Heeds.{Heeds}
-use Rattle.law_time.specs.Moments.{Keeps, clock}
+use Rattle.law_time.specs.Moments.{clock}
 use Rattle.law_time.specs.Queue.{is_first, queue_before}
 use Rattle.law_time.specs.Requests.{are_none, asked, is_new}
 
@@ -28,6 +28,3 @@ may_choose heeds past (Written Host unit) =
     || list_any (is_chosen heeds past (serving heeds (joined past) past)) (sending_in unit)
 may_choose heeds past (Begin node session command) = begins_well heeds past (serving heeds (joined past) past) node command
 may_choose heeds past entry = true
-
-abbrev pub ChoosesInTurn : Heeds → List Entry → Type 0
-ChoosesInTurn heeds transcript = Keeps (may_choose heeds) transcript

@@ -9,5 +9,6 @@ pub mod Choosing
 pub mod Resting
 pub mod Counting
 pub mod Readying
-pub use Rattle.proof_ends.specs as proof_ends
+pub use Rattle.proof_following.specs.proof_ends as proof_ends
 pub use Rattle.proof_giving.specs as proof_giving
+pub use Rattle.proof_following.specs as proof_following

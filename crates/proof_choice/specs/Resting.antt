@@ -10,7 +10,7 @@ use Rattle.law_time.specs.Queue.{with_due}
 use Rattle.law_time.specs.Requests.{are_none, asked}
 use Rattle.law_time.specs.Rests.{owes_nothing}
 use Rattle.proof_giving.specs.proof_queue.proof_attempts.proof_requests.proof_alone.Runs.{Knowledge, both_know}
-use Rattle.proof_ends.specs.proof_rests.Known.{KnowsAll as KnowsDone}
+use Rattle.proof_following.specs.proof_ends.proof_rests.Known.{KnowsAll as KnowsDone}
 use Rattle.proof_choice.specs.Turning.{KnowsAll}
 use Rattle.proof_choice.specs.Waits.{KnowsWants}
 

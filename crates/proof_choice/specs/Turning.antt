@@ -15,15 +15,12 @@ use Rattle.proof_giving.specs.proof_queue.proof_attempts.Waking.{KnowsWork}
 use Rattle.proof_choice.specs.Nodes.{NodeKnown}
 use Rattle.proof_choice.specs.Served.{served_so_far}
 use Rattle.proof_choice.specs.Waits.{AskingGround}
-
--- the nodes that joined are nodes
-abbrev pub IsInRange : ℕ → Type 0
-IsInRange n = (1 ≤ n) × (n ≤ 232)
+use Rattle.chip_functions.specs.Field.{IsNode}
 
 pub record AllKnown (heeds : Heeds) (past : List Entry) (m : HostMachine) : Type 0 where
   pub nodes : (n : ℕ) → 1 ≤ n → n ≤ 232 → NodeKnown heeds past m.state m.clock n
   pub served : served_so_far heeds past ≡ m.state.served
-  pub range : AllByRecursion IsInRange (joined past)
+  pub range : AllByRecursion IsNode (joined past)
   pub owners : (n : ℕ) → has_work (node_of m.state n) ≡ true → list_any (λ one. one == n) (joined past) ≡ true
 
 abbrev pub KnowsAll : Heeds → Knowledge

@@ -6,8 +6,7 @@ ghost use Rattle.proof_giving.specs.proof_queue.proof_attempts.Since.{AlongRuns,
 ghost use Rattle.proof_choice.specs.Blocked.{BlocksAsTold};
 ghost use Rattle.proof_choice.specs.Plans.{PlansAreSo};
 
-use proof_ends::rests::attempts::hosts_know_their_work;
-use proof_ends::rests::attempts::requests::hosts_ask_as_told;
+use proof_following::{hosts_ask_as_told, hosts_know_their_work};
 use proof_giving::attempts_stay_with_the_request;
 
 /// In any run of a host alone, over a keeper that tells its records and has none at first: where a node is blocked the keeper has failed for it by the

@@ -19,20 +19,14 @@ ghost use Rattle.proof_choice.specs.Waits.{AskingGround};
 use crate::known::{hosts_block_as_told, hosts_give_as_carried};
 use host_keep::texts_give_one_thing;
 use host_model::attempts_have_what_they_give;
-use proof_ends::rests::attempts::requests::hosts_ask_as_told;
-use proof_ends::rests::attempts::{
-    hosts_hold_as_told, hosts_know_their_work, hosts_run_series_as_told, hosts_show_open_sessions,
-    hosts_tell_of_sleep,
+use proof_following::{
+    hosts_ask_as_told, hosts_hold_as_told, hosts_keep_what_is_said, hosts_know_their_work,
+    hosts_know_what_nodes_list, hosts_know_what_was_told, hosts_leave_nothing,
+    hosts_run_series_as_told, hosts_show_open_sessions, hosts_tell_of_sleep, tasks_end_in_order,
 };
-use proof_ends::rests::hosts_leave_nothing;
-use proof_ends::rests::nonces::work::tasks_end_in_order;
-use proof_ends::rests::notes::known::{
-    hosts_keep_what_is_said, hosts_know_what_nodes_list, hosts_know_what_was_told,
-};
-use proof_giving::queue::hosts_queue_as_told;
 use proof_giving::{
     attempts_grow_by_entries, attempts_leave_none_to_give_up, attempts_stay_with_the_request,
-    hosts_count_attempts,
+    hosts_count_attempts, hosts_queue_as_told,
 };
 
 /// In any careful run of a host alone, over a keeper that tells its records and has none at first, by messages that are heeded as the host took them: where

@@ -23,5 +23,10 @@ mod prompt;
 pub use known::{hosts_block_as_told, hosts_give_as_carried};
 pub use laws::{hosts_know_what_they_choose, hosts_rest_well, hosts_send_in_turn};
 pub use prompt::hosts_are_prompt;
-pub use proof_ends as ends;
-pub use proof_giving as giving;
+pub use proof_following::{
+    hosts_count_nonces, hosts_fall_asleep_as_told, hosts_hold_as_asked, hosts_note_ends,
+    hosts_note_in_full, hosts_say_what_is_not_kept, hosts_seal_once, lines_count_nonces,
+    lines_fall_asleep_as_told, lines_hold_as_asked, lines_leave_nothing, lines_note_ends,
+    lines_note_in_full, lines_say_what_is_not_kept, lines_seal_once,
+};
+pub use proof_giving::{hosts_count_attempts, hosts_give_up_as_told, hosts_go_by_messages};

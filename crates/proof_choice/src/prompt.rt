@@ -15,11 +15,10 @@ ghost use Rattle.proof_giving.specs.proof_queue.proof_attempts.proof_requests.pr
 ghost use Rattle.proof_giving.specs.proof_queue.proof_attempts.proof_requests.proof_alone.Careful.{Careful};
 ghost use Rattle.proof_giving.specs.proof_queue.proof_attempts.proof_requests.proof_alone.Runs.{Run};
 ghost use Rattle.proof_giving.specs.proof_queue.Heeding.{AllSteps, HeedsAs, HeedsSo};
-ghost use Rattle.proof_ends.specs.proof_rests.proof_nonces.proof_known.Known.{AreForHost};
+ghost use Rattle.proof_following.specs.proof_ends.proof_rests.proof_nonces.proof_known.Known.{AreForHost};
 
 use crate::laws::{hosts_rest_well, hosts_send_in_turn};
-use proof_giving::hosts_give_up_after_three;
-use proof_giving::queue::hosts_queue_as_told;
+use proof_giving::{hosts_give_up_after_three, hosts_queue_as_told};
 
 /// A host alone is prompt in any careful run, over a keeper that tells its records and has none at first, by messages that are heeded as the host took them
 /// (`hosts_go_by_messages` of `proof_queue` has some for each run), where no line is refused that is for others, and in the end too where the run ends at rest

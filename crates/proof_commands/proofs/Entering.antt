@@ -7,12 +7,11 @@ use Rattle.zw_text.specs.declared.entry.Entry.TheVariants.{Time}
 use Rattle.host_model.specs.State.{HostState}
 use Rattle.host_model.specs.Events.{HostEvent, Accepts, Cancels}
 use Rattle.host_model.specs.After.{after}
-use Rattle.host_model.specs.Outs.{outs, answers}
+use Rattle.host_model.specs.Outs.{outs, answers, Silent}
 use Rattle.host_model.specs.May.{May as MayHost}
 use Rattle.host_model.specs.Did.{MayAll as MayAllHost, after_all, outs_all}
 use Rattle.host_model.specs.declared.out.HostOut.{HostOut}
 use Rattle.host_model.specs.declared.out.HostOut.TheVariants.{Write, Note}
-use Rattle.host_model.proofs.Silence.{Silent}
 use Rattle.proof_host.specs.Entries.{IsAside, notes_of, entries_at}
 use Rattle.proof_host.specs.Facts.{Facts}
 use Rattle.proof_answers.proofs.FactsKept.{after_keeps}

@@ -12,6 +12,7 @@ pub mod Unentered
 pub mod Further
 pub mod Tables
 pub mod AsSaid
+mod Legally
 mod Meshed
 pub mod ReadBack
 mod KeptRules

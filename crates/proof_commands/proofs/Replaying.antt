@@ -9,6 +9,7 @@ use Rattle.zw_text.specs.declared.line.ReplayLine.{ReplayLine}
 use Rattle.zw_text.specs.declared.line.ReplayLine.TheVariants.{Plain, Chip}
 use Rattle.zw_text.specs.declared.entry.Entry.{Entry}
 use Rattle.zw_text.specs.declared.entry.Entry.TheVariants.{Refused}
+use Rattle.host_model.specs.Outs.{Silent}
 use Rattle.host_model.specs.State.{HostState}
 use Rattle.host_model.specs.Events.{HostEvent}
 use Rattle.host_model.specs.After.{after}
@@ -21,7 +22,7 @@ use Rattle.run_lines.specs.declared.running.LinesEnd.{LinesEnd}
 use Rattle.run_lines.specs.declared.running.LinesEnd.TheVariants.{All, Bad, ReadFailed, TooMuch, WriteFailed, NoMemory}
 use Rattle.run_lines.specs.Lines.{TextLine, AllRan, RanLines}
 use Rattle.world_model.specs.Events.{Event as MachineEvent, Host_does, Refuses as refuses, Shows_values as shows_values, shown_values}
-use Rattle.host_model.proofs.Silence.{Silent, judged_silent, pump_silent, silent-append, tick_silent}
+use Rattle.host_model.proofs.Silence.{judged_silent, pump_silent, silent-append, tick_silent}
 use Rattle.run_all.specs.run_replay.Machine.{Lone, Event, Does_itself, Does_asked, Takes, Ticks, Refuses, Shows_values, happens, entries, May, happens_all, entries_all, MayAll, Then}
 use Rattle.run_all.specs.run_replay.Lines.{by_host, IsEffect, IsPump, IsTaking, IsTick, AreTicks, IsPlain, IsLine}
 use Rattle.run_all.specs.run_replay.Replay.{Point, LineRan, PartRan, said}

@@ -20,6 +20,7 @@ use Rattle.run_all.specs.port_run.Schedule.{Telling, is_quiet}
 use Rattle.run_all.specs.port_run.Serving.{Halts}
 use Rattle.run_all.specs.port_run.Ending.{Desk, start_of, RanAll, RanSome, Ended, HostRan, IsUntouched, status_of}
 use Rattle.proof_commands.specs.Port.{Story, ToldAll, ToldSome, Tells, StillOr, outs_by}
+use Rattle.proof_replay.proofs.Serving.{added}
 
 -- what happened from one place to another
 abbrev Goes : Place → Place → List HostOut → Type 0
@@ -42,18 +43,6 @@ step (Takes bytes) old new outs ran = (ran.events, ran.did)
 step Rests old new outs ran = subst (λ (p : Place). Goes old p outs) (sym ran.0) (stands old outs ran.1)
 step Ticks old new outs ran = (ran.0.events, ran.0.did)
 step Pumps old new outs ran = (ran.0.events, ran.0.did)
-
--- outs that were added to others
-added : (events : List HostEvent) (old new : Place) (before outs : List HostOut) → Did events old.host.state new.host.state [] outs old.shelf new.shelf
-    → Did events old.host.state new.host.state before (before ++ outs) old.shelf new.shelf
-added events old new before outs did = record {
-  may = did.may;
-  state = did.state;
-  outs = ap (λ (l : List HostOut). before ++ l) did.outs;
-  records = did.records;
-  rose = did.rose;
-  never_falls = did.never_falls;
-}
 
 both : (old mid new : Place) (outs more : List HostOut) → Goes old mid outs → Goes mid new more → Goes old new (outs ++ more)
 both old mid new outs more (a, first) (b, later) =

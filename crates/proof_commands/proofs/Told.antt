@@ -1,5 +1,5 @@
 -- A story over a keeper that tells its records and had none at first. Where no line is `restart`, every story goes over such a keeper as it went.
-use Rattle.std.proofs.Common.{◌≡◌, ℕ, Bool, true, false, List, [], ◌∷◌, Option, Some, refl, sym, ap, subst}
+use Rattle.std.proofs.Common.{◌≡◌, ℕ, Bool, true, false, List, [], ◌∷◌, ◌++◌, Option, Some, refl, sym, ap, subst, ◌∙◌, append-nil}
 use Rattle.std.specs.List.{list_any}
 use Rattle.run_all.specs.host_core.Network.{keys_of}
 use Rattle.host_model.specs.State.{first_host}
@@ -14,7 +14,7 @@ use Rattle.law_transcript.specs.Restarts.{is_restart}
 use Rattle.proof_host.specs.Facts.{Facts}
 use Rattle.proof_answers.specs.proof_chip.proof_world.Restarts.{AllKeepWell, AllStartWell, BeginsEmpty, IsHeld}
 use Rattle.run_all.specs.Around.{Around}
-use Rattle.proof_commands.specs.Laws.{Ran, AreBegun, AreSchedules, IsStory, KeepsRecords, TellsAtRestarts, events_of, first, has_restart, last, lines_of, transcript, transcript_from}
+use Rattle.proof_commands.specs.Laws.{Ran, AreBegun, AreSchedules, IsStory, KeepsRecords, TellsAtRestarts, events_of, first, has_restart, kept_anew, last, lines_of, transcript, transcript_from}
 use Rattle.proof_audit.proofs.BegunChanges.{may-front as may_prefix}
 use Rattle.proof_commands.proofs.Unread.{all_keep_over, all_may_over, all_over, all_start_unread, begun_over, over, schedules_over, story_unread, transcript_over}
 
@@ -76,6 +76,13 @@ pub story_told : (key : List ℕ) (old new : Around) (story : List Ran) (unenter
     → TellsAtRestarts old story → ToldStory key old story
 story_told key old new story unentered is tells =
     told_story key old story tells is.begun (may_prefix (first key old) (events_of story) unentered is.may)
+
+-- where the keeper was such a one and all is entered, what it holds are the records at exit
+pub records_left : (key : List ℕ) (old new : Around) (story : List Ran) (unentered : List Event) → IsStory key old new story unentered → unentered ≡ []
+    → old.records ≡ Some [] → kept_anew key old story ≡ new.records
+records_left key old new story unentered is entered none =
+    ap (λ (records : Option (List (List ℕ))). (happens_all (first_machine (keys_of key) records old.devices) (events_of story)).records) (sym none)
+    ∙ sym (is.records ∙ ap (λ (l : List Event). (happens_all (first key old) l).records) (ap (λ (l : List Event). events_of story ++ l) entered ∙ append-nil (events_of story)))
 
 -- the same lines restart as often
 pub same_restarts : (old : Around) (a b : List Ran) → lines_of a ≡ lines_of b → TellsAtRestarts old b → TellsAtRestarts old a

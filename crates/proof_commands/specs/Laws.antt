@@ -1,6 +1,6 @@
 -- What a run of `sim` or `generate` keeps true (this project's own): its story is the lines that were run, each with the events of the machine that it
 -- was, and the laws are of this story.
-use Rattle.std.specs.Prelude.{◌≡◌, ◌⊎◌, ℕ, Bool, true, List, [], ◌∷◌, ◌++◌, map, Option, Some, Ok}
+use Rattle.std.specs.Prelude.{◌≡◌, ◌⊎◌, ℕ, Bool, true, List, [], ◌∷◌, ◌++◌, map, Option, Some, None, Ok}
 use Rattle.std.specs.List.{AllByRecursion, list_any}
 use Rattle.zw_text.specs.Line.{line_at}
 use Rattle.zw_text.specs.declared.line.Line.{Line}
@@ -37,7 +37,7 @@ use Rattle.law_wire.specs.Arriving.{ForgetsDeadHops, LandsInTime, MeetsWhatIsDue
 use Rattle.law_wire.specs.Doings.{DoneByDevices}
 use Rattle.law_wire.specs.Pipes.{OverrunsWhenFull}
 use Rattle.law_wire.specs.Serial.{ended}
-use Rattle.law_host.specs.Legal.{DevicesDid, IsLegalOnAir, IsLegalOnLine}
+use Rattle.law_host.specs.Legal.{DevicesDid, IsLegal, IsLegalOnAir, IsLegalOnLine}
 use Rattle.law_wire.specs.Routes.{GoesByRoute}
 use Rattle.law_wire.specs.Shown.{ShowsDevices}
 use Rattle.law_wire.specs.Times.{TellsTime}
@@ -48,7 +48,8 @@ use Rattle.law_time.specs.Questions.{AnswersQuestions}
 use Rattle.law_time.specs.Holds.{HoldsAsAsked}
 use Rattle.law_time.specs.Waking.{FallsAsleep, WakesAsTold}
 use Rattle.law_host.specs.Heard.{heard_by_host}
-use Rattle.law_host.specs.HostLegal.{ShowsValues}
+use Rattle.law_host.specs.HostLegal.{IsLegalAlone, ShowsValues}
+use Rattle.law_host.specs.Notes.{first_start}
 use Rattle.proof_answers.specs.Answered.{AnswersByLink}
 use Rattle.proof_replay.specs.Laws.{HostsKeepLaws}
 use Rattle.proof_replay.specs.proof_notes_Full.{NotesInFull}
@@ -449,6 +450,13 @@ HearsAsHosts key old new = AlwaysOf key old new
     (λ story. TellsAtRestarts old story → (whole : Bool) → (whole ≡ true → AreSchedules (first key old) story)
     → HostsKeepLaws (keys_of key) whole (heard_by_host (transcript key old story)) (kept_anew key old story))
 
+-- By what nodes listed in their interviews, and by the messages that it took up, it is legal and prompt as a host alone is: it answers, sends, stores, shows and notes what it
+-- should, and nothing else, each thing as soon as it can and in its turn.
+abbrev pub HasLegalHost : List ℕ → Around → Around → Type 0
+HasLegalHost key old new = AlwaysOf key old new
+    (λ story. TellsAtRestarts old story → (whole : Bool) → (whole ≡ true → AreSchedules (first key old) story)
+    → IsLegalAlone key first_start whole (heard_by_host (transcript key old story)) (kept_anew key old story))
+
 -- ---- ticks
 
 -- the number of a tick stands once, before its first entry, and nowhere else: so not at the end of a story that was run whole
@@ -460,6 +468,20 @@ NumbersTicks key old new = AlwaysOf key old new
 abbrev pub KeepsLine : List ℕ → Around → Around → Type 0
 KeepsLine key old new = AlwaysOf key old new
     (λ story. TellsAtRestarts old story → (whole : Bool) → (whole ≡ true → AreSchedules (first key old) story) → IsLegalOnLine whole old.devices (transcript key old story))
+
+-- ---- the whole
+
+-- the records at exit, where the keeper told that it had none at first
+abbrev pub told_anew : Option (List (List ℕ)) → Option (List (List ℕ)) → Option (List (List ℕ))
+told_anew (Some []) left = left
+told_anew had left = None
+
+-- The run is legal: what it shows, and how it left its devices and those records, is what the laws of lines, devices, air, serial line, chip and host allow; of one that an
+-- allocation failure cut short, as far as it went.
+abbrev pub IsLegalRun : List ℕ → Around → Around → Type 0
+IsLegalRun key old new = Always key old new
+    (λ story unentered. IsFairWorld key old story → (whole : Bool) → (whole ≡ true → IsWhole key old story unentered)
+    → IsLegal key old.devices new.devices whole (transcript key old story) (told_anew old.records new.records))
 
 -- ---- the headline
 
@@ -514,6 +536,7 @@ pub record KeepsHostLaws (key : List ℕ) (old new : Around) : Type 0 where
   pub noted : NotesPayloads key old new
   pub unkept : SaysWhatIsNotKept key old new
   pub heard : HearsAsHosts key old new
+  pub alone : HasLegalHost key old new
 
 -- what the devices do
 pub record KeepsDeviceLaws (key : List ℕ) (old new : Around) : Type 0 where
@@ -558,6 +581,7 @@ pub record StoriesKeepLaws (key : List ℕ) (old new : Around) : Type 0 where
   pub headline : HasHeadline key old new
   pub after_change : ReportsAfterChange key old new
   pub whole_headline : HasWholeHeadline key old new
+  pub legal : IsLegalRun key old new
   pub of_host : KeepsHostLaws key old new
   pub of_devices : KeepsDeviceLaws key old new
   pub of_air : KeepsAirLaws key old new

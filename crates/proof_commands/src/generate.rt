@@ -6,7 +6,7 @@ ghost use Rattle.run_all.specs.Around.{Around};
 ghost use Rattle.proof_commands.specs.Generate.{GenerateKeepsLaws};
 
 use crate::lines_are_read_as_said;
-use proof_audit::transcript::tables_are_what_is_shown;
+use proof_audit::tables_are_what_is_shown;
 
 /// Every run of `generate` has a story, whose lines are those of the scenario, and writes the summary of its transcript. Where it runs out of memory
 /// the lines are the first of these.

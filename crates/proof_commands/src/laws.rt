@@ -23,9 +23,11 @@ ghost use Rattle.proof_commands.specs.Laws.{
   GivesNonces,
   GroupsChanges,
   HasHeadline,
+  HasLegalHost,
   HasWholeHeadline,
   HearsAsHosts,
   HoldsNodes,
+  IsLegalRun,
   KeepsAir,
   KeepsBothLinks,
   KeepsDevices,
@@ -66,25 +68,18 @@ ghost use Rattle.proof_commands.specs.Laws.{
 };
 
 use crate::lines_are_read_as_said;
-use proof_answers::chip::world::{
-    lines_keep_and_ask_well, restarts_go_on, runs_take_once, the_machine_keeps_facts,
+use proof_answers::{
+    chips_answer_in_order, dead_hops_are_forgotten, dead_hops_are_forgotten_in_the_end,
+    devices_did, frames_go_by_route, lines_are_done_by_devices, lines_bring_what_was_heard,
+    lines_keep_and_ask_well, lines_land_in_time, lines_meet_what_is_due,
+    lines_repeat_what_is_asked, restarts_go_on, runs_take_once, the_machine_keeps_facts,
 };
-use proof_answers::chips_answer_in_order;
-use proof_answers::devices::air::{
-    lines_are_done_by_devices, lines_bring_what_was_heard, lines_land_in_time,
-};
-use proof_answers::devices::routes::{
-    dead_hops_are_forgotten, dead_hops_are_forgotten_in_the_end, frames_go_by_route,
-};
-use proof_answers::devices::{devices_did, lines_meet_what_is_due, lines_repeat_what_is_asked};
-use proof_audit::headline::{
-    askable_nodes_have_the_headline, devices_as_made_begin_courses, nodes_have_the_headline,
-    nodes_report_after_the_change, supervised_nodes_are_plain_or_locks,
-};
-use proof_audit::transcript::{
-    all_frames_land_in_the_end, commands_are_taken_back_when_asked, lines_are_answered,
+use proof_audit::{
+    all_frames_land_in_the_end, askable_nodes_have_the_headline,
+    commands_are_taken_back_when_asked, devices_as_made_begin_courses, lines_are_answered,
     lines_carry_units, lines_lose_marked_frames, lines_number_frames, lines_show_what_is_kept,
-    records_are_what_is_shown, sessions_begin_with_their_unit, ticks_decide_each_frame,
+    nodes_have_the_headline, nodes_report_after_the_change, records_are_what_is_shown,
+    sessions_begin_with_their_unit, supervised_nodes_are_plain_or_locks, ticks_decide_each_frame,
     values_are_stored_as_asked,
 };
 use proof_host::{asides_keep_facts, laws_follow};
@@ -95,7 +90,7 @@ use proof_replay::{
     lines_leave_nothing, lines_mark_units, lines_note_ends, lines_note_in_full,
     lines_overrun_only_when_full, lines_overrun_when_full, lines_say_how_done,
     lines_say_what_is_not_kept, lines_seal_once, lines_send_what_is_due, lines_that_ran_are_heard,
-    lines_wake_as_told, ticks_are_told,
+    lines_that_ran_are_legal, lines_wake_as_told, ticks_are_told,
 };
 
 /// Every story from what a command was given to what it leaves keeps the laws.
@@ -120,6 +115,7 @@ pub fn every_story_keeps_laws()
     stories_note_in_full();
     stories_are_heard();
     stories_do_as_shown();
+    stories_are_legal();
 }
 
 /// A story has the records that these laws assume, if the keeper tells them and had none at first, or no line is `restart`.
@@ -331,12 +327,14 @@ fn stories_note_in_full()
     lines_say_what_is_not_kept();
 }
 
-/// Over what their hosts heard of lines that were said, stories keep the laws of hosts.
+/// Over what their hosts heard of lines that were said, stories keep the laws of hosts, and these hosts are legal as ones alone.
 fn stories_are_heard()
-    ensures { (key : List ℕ) (old new : Around) → HearsAsHosts key old new }
+    ensures laws { (key : List ℕ) (old new : Around) → HearsAsHosts key old new }
+    ensures legal { (key : List ℕ) (old new : Around) → HasLegalHost key old new }
 {
     lines_are_read_as_said();
     lines_that_ran_are_heard();
+    lines_that_ran_are_legal();
 }
 
 /// The devices did what lines that were said show.
@@ -347,4 +345,19 @@ fn stories_do_as_shown()
     lines_are_read_as_said();
     lines_are_done_by_devices();
     devices_did();
+}
+
+/// Every run is legal, whole or cut short.
+fn stories_are_legal()
+    ensures { (key : List ℕ) (old new : Around) → IsLegalRun key old new }
+{
+    stories_keep_records();
+    stories_answer_lines();
+    stories_tell_of_commands();
+    stories_leave_records();
+    stories_are_legal_on_air();
+    stories_are_legal_on_line();
+    stories_send_what_is_due();
+    stories_are_heard();
+    stories_do_as_shown();
 }

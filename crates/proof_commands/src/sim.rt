@@ -8,13 +8,11 @@ ghost use Rattle.proof_commands.specs.RestartReads.{ReadsAtRestarts};
 
 use crate::laws::every_story_keeps_laws;
 use crate::{lines_are_read_as_said, said_lines_are_entries};
-use proof_audit::transcript::{
-    lines_are_answered, lines_carry_units, lines_show_what_is_kept, tables_are_what_is_shown,
-};
 use proof_audit::{
     accepted_orders_were_asked, changes_are_entered_whole, entries_are_legible,
-    frames_keep_the_rule_of_the_air, kept_rules_answer_yes, laws_keep_every_rule, lines_show_texts,
-    sessions_begin_before_changes, values_are_stored_directly,
+    frames_keep_the_rule_of_the_air, kept_rules_answer_yes, laws_keep_every_rule,
+    lines_are_answered, lines_carry_units, lines_show_texts, lines_show_what_is_kept,
+    sessions_begin_before_changes, tables_are_what_is_shown, values_are_stored_directly,
 };
 
 /// Every run of `sim` has a story, and one that ends well writes its table, and is in order as `audit` judges.

@@ -8,13 +8,12 @@ use Rattle.host_orders.specs.Refusals.{classes_of}
 use Rattle.host_orders.specs.Errands.{send_text, get_text}
 use Rattle.host_model.specs.State.{node_of}
 use Rattle.host_model.specs.May.{known_of}
-use Rattle.host_model.specs.Events.{HostEvent, Accepts, Queues, Requests_do, Finishes, Offers, Gives, Spends, Spends_unread, Takes_nonce, Resends}
+use Rattle.host_model.specs.Events.{HostEvent, Accepts, Queues, Requests_do, Finishes, Offers, Gives, Spends, Spends_unread, Takes_nonce, Resends, IsOwn}
 use Rattle.world_model.specs.State.{Machine}
 use Rattle.world_model.specs.Events.{Event, Host_does}
 use Rattle.world_model.specs.Did.{AllAlong}
 use Rattle.world_model.specs.Lines.{IsEffect}
 use Rattle.world_model.specs.Prefixes.{IsLineBefore}
-use Rattle.host_model.proofs.Own.{IsOwn}
 use Rattle.world_model.proofs.Pieces.{Of, Law, Pieces, of_none, of_then, of_line_before}
 use Rattle.world_model.proofs.Along.{IsAskedBy, IsOfPart, IsOfEffect, along, pieces_along, effect_along, anywhere}
 use Rattle.proof_world.specs.proof_serial.Line.{AreLines}

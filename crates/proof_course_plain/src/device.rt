@@ -10,11 +10,11 @@ ghost use Rattle.proof_course_plain.specs.Meaning.{Asked, HostMeans};
 ghost use Rattle.proof_course_plain.specs.Making.{Makes, Names, HearsNone};
 ghost use Rattle.proof_course_plain.specs.Device.{AtDevice, IsIdle, GoesAs, HearsAs};
 
-use proof_once::messages::{
+use proof_once::{
     devices_end_sessions, messages_do_what_is_asked, messages_follow_the_course, messages_open,
     others_are_no_messages, reports_tell, segments_tell,
 };
-use proof_traffic::device::devices_stay_the_same;
+use proof_traffic::devices_stay_the_same;
 
 /// A device that takes what is not sealed goes on as the course has it: it hears a payload of the host for it, whole or one segment, it
 /// ticks, wakes up or is set by hand. What it says then is a report of the last session that it took, with the status that it has by then;

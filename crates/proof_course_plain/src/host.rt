@@ -24,8 +24,9 @@ ghost use Rattle.proof_course_plain.specs.Told.{HasPast};
 ghost use Rattle.proof_course_plain.specs.HostGoing.{HostFollows, HostGoes, EndsNone, AllWell};
 
 use proof_course::courses_keep_facts;
-use proof_once::host::{events_keep_facts, laws_follow, what_is_over_stays};
-use proof_once::messages::{others_are_no_messages, reports_tell};
+use proof_once::{
+    events_keep_facts, laws_follow, others_are_no_messages, reports_tell, what_is_over_stays,
+};
 use proof_traffic::frames_fly_in_order;
 
 /// What the host does makes steps of the course of a node whose commands go unsealed: it begins a session; it writes the message of the

@@ -30,11 +30,15 @@ pub use host::hosts_follow_the_course;
 pub use lines::chips_carry_reports;
 pub use mesh::arrivals_follow_the_course;
 pub use outside::outsides_follow_the_course;
-pub use proof_once::host as host_proofs;
-pub use proof_traffic as traffic;
-pub use proof_traffic::device as device_proofs;
-pub use proof_world as worlds;
-pub use proof_world::serial;
+pub use proof_once::{
+    events_keep_facts, first_facts_hold, laws_follow, restarts_keep_facts, what_is_over_stays,
+};
+pub use proof_traffic::{
+    at_most_two_are_on_the_air, devices_go_on, devices_stay_the_same, frames_fly_in_order,
+};
+pub use proof_world::{
+    hosts_write_well, lines_keep_and_ask_well, restarts_go_on, units_are_judged_whole,
+};
 pub use truth::{hosts_are_told_the_truth, lines_tell_the_truth, worlds_tell_the_truth};
 pub use ways::ways_may_thin;
 pub use world::{lines_ask_plainly, lines_have_a_course, worlds_follow_the_course};

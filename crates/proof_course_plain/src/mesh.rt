@@ -18,8 +18,7 @@ ghost use Rattle.proof_course_plain.specs.Mesh.{InMesh, MeshGoes, brought};
 use crate::air::frames_follow_the_course;
 use crate::device::{devices_follow_the_course, idle_devices_stay_idle};
 use proof_course::{courses_keep_facts, ids_name_one_session};
-use proof_traffic::device::devices_stay_the_same;
-use proof_traffic::frames_fly_in_order;
+use proof_traffic::{devices_stay_the_same, frames_fly_in_order};
 
 /// The next frame arrives, or one is heard again that may be: by the device of the node, by another, by the chip or by nobody. What a
 /// device answers goes on the air. The first device of a node has an event of its own, and what it sends goes on the air, where it is

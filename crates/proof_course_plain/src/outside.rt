@@ -18,8 +18,7 @@ ghost use Rattle.proof_course_plain.specs.Outside.{Follows, OuterGoes, Rests};
 use crate::air::frames_follow_the_course;
 use crate::device::devices_follow_the_course;
 use crate::mesh::arrivals_follow_the_course;
-use proof_traffic::at_most_two_are_on_the_air;
-use proof_traffic::device::devices_stay_the_same;
+use proof_traffic::{at_most_two_are_on_the_air, devices_stay_the_same};
 
 /// At first the course of a node is where the outside is, and every event outside the host makes steps of it: the chip judges the host's
 /// items and puts messages on the air; frames arrive, are lost or are heard again; the device answers, works and wakes up; what the chip

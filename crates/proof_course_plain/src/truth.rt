@@ -29,11 +29,11 @@ ghost use Rattle.proof_course_plain.specs.World.{WorldFollows, IsPlainly, EndsBy
 
 use crate::world::{lines_ask_plainly, lines_have_a_course, worlds_follow_the_course};
 use proof_course::{courses_keep_facts, ids_name_one_session};
-use proof_once::host::{events_keep_facts, laws_follow, what_is_over_stays};
-use proof_once::messages::{others_are_no_messages, reports_tell};
+use proof_once::{
+    events_keep_facts, laws_follow, others_are_no_messages, reports_tell, what_is_over_stays,
+};
 use proof_traffic::{at_most_two_are_on_the_air, frames_fly_in_order};
-use proof_world::restarts_go_on;
-use proof_world::serial::{hosts_write_well, units_are_judged_whole};
+use proof_world::{hosts_write_well, restarts_go_on, units_are_judged_whole};
 
 /// As the host judges a report that ends a session of the node with success, the node's device has ended that session so, and each of its changes by sessions
 /// made what the host's table of commands asks for.

@@ -23,13 +23,12 @@ use crate::host::hosts_follow_the_course;
 use crate::outside::outsides_follow_the_course;
 use host_keep::texts_give_one_thing;
 use proof_course::{courses_keep_facts, what_is_told_was_done};
-use proof_once::host::{
-    events_keep_facts, first_facts_hold, laws_follow, restarts_keep_facts, what_is_over_stays,
+use proof_once::{
+    events_keep_facts, first_facts_hold, laws_follow, others_are_no_messages, restarts_keep_facts,
+    what_is_over_stays,
 };
-use proof_once::messages::others_are_no_messages;
 use proof_traffic::at_most_two_are_on_the_air;
-use proof_world::restarts_go_on;
-use proof_world::serial::{hosts_write_well, units_are_judged_whole};
+use proof_world::{hosts_write_well, restarts_go_on, units_are_judged_whole};
 
 /// Every event of the whole machine makes steps of the course of a node, and so do events one after another. Where the host starts again, the keeper tells its
 /// records, and they are those of the host before.

@@ -14,7 +14,7 @@ ghost use Rattle.proof_course_sealed.specs.Courses.{Courses, first_courses};
 ghost use Rattle.proof_course_sealed.specs.Meaning.{Past, first_past, Grows};
 ghost use Rattle.proof_course_sealed.specs.Air.{MeansBy, OnAir, SameAir, Puts, Lands, WasThere};
 
-use proof_course_plain::traffic::frames_fly_in_order;
+use proof_course_plain::frames_fly_in_order;
 use proof_messages::the_air_counts_nonces;
 
 /// A frame goes on the air as the courses have it; the oldest lands; a session begins, of the node or of another; and one that may be heard

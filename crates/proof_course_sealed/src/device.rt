@@ -13,7 +13,7 @@ ghost use Rattle.proof_course_sealed.specs.Meaning.{Past, first_past, HostMeans}
 ghost use Rattle.proof_course_sealed.specs.Lock.{AtLock};
 ghost use Rattle.proof_course_sealed.specs.Device.{HearsAs, NamesNonce};
 
-use proof_course_plain::device_proofs::devices_stay_the_same;
+use proof_course_plain::devices_stay_the_same;
 use proof_messages::{
     accounts_give_as_the_courses_do, accounts_spend_as_the_courses_do, devices_end_sessions,
     locks_answer_sealed_messages, locks_hear_by_numbers, messages_do_what_is_asked,

@@ -30,8 +30,7 @@ use proof_course::{
     courses_keep_facts, first_bytes_name_one_of_the_host, first_bytes_name_one_of_the_node,
     ids_name_one_session, nonces_of_nodes_keep_facts, nonces_of_the_host_keep_facts,
 };
-use proof_course_plain::host_proofs::{events_keep_facts, laws_follow, what_is_over_stays};
-use proof_course_plain::traffic::frames_fly_in_order;
+use proof_course_plain::{events_keep_facts, frames_fly_in_order, laws_follow, what_is_over_stays};
 use proof_messages::{
     accounts_give_as_the_courses_do, hosts_leave_nonces, hosts_open_what_was_sealed,
     hosts_seal_what_waits, messages_do_what_is_asked, others_are_no_messages,

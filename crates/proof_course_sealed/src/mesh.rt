@@ -20,9 +20,9 @@ use proof_course::{
     first_bytes_name_one_of_the_host, first_bytes_name_one_of_the_node, ids_name_one_session,
     nonces_of_nodes_keep_facts,
 };
-use proof_course_plain::device_proofs::devices_stay_the_same;
-use proof_course_plain::traffic::frames_fly_in_order;
-use proof_course_plain::{devices_follow_the_course, idle_devices_stay_idle};
+use proof_course_plain::{
+    devices_follow_the_course, devices_stay_the_same, frames_fly_in_order, idle_devices_stay_idle,
+};
 
 /// The next frame arrives, or one is heard again that may be: by the lock of the node, by another device, by the chip or by nobody. What a
 /// device answers goes on the air where it is joined; so does what the first device of a node says at an event of its own, at which a lock

@@ -19,7 +19,7 @@ ghost use Rattle.proof_course_sealed.specs.Outside.{Follows, OuterGoes};
 use crate::air::frames_follow_the_courses;
 use crate::mesh::arrivals_follow_the_courses;
 use proof_course::nonces_of_the_host_keep_facts;
-use proof_course_plain::traffic::at_most_two_are_on_the_air;
+use proof_course_plain::at_most_two_are_on_the_air;
 
 /// At first the courses of a lock are where the outside is, and every event outside the host makes steps of them: the chip judges the
 /// host's items and puts messages and nonces on the air; frames arrive, are lost or are heard again; the lock answers; what the chip hears

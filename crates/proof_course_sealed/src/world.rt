@@ -29,13 +29,11 @@ use proof_course::{
     courses_keep_facts, nonces_of_nodes_keep_facts, nonces_of_the_host_keep_facts,
     what_is_told_was_done,
 };
-use proof_course_plain::host_proofs::{
-    events_keep_facts, first_facts_hold, laws_follow, restarts_keep_facts, what_is_over_stays,
+use proof_course_plain::{
+    at_most_two_are_on_the_air, events_keep_facts, first_facts_hold, hosts_write_well, laws_follow,
+    lines_ask_plainly, restarts_go_on, restarts_keep_facts, units_are_judged_whole,
+    what_is_over_stays,
 };
-use proof_course_plain::lines_ask_plainly;
-use proof_course_plain::serial::{hosts_write_well, units_are_judged_whole};
-use proof_course_plain::traffic::at_most_two_are_on_the_air;
-use proof_course_plain::worlds::restarts_go_on;
 use proof_messages::{
     accounts_give_as_the_courses_do, others_are_no_messages, others_carry_no_nonce,
 };

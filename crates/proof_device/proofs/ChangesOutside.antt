@@ -8,21 +8,21 @@ use Rattle.std.proofs.lemmas.Grind.{flat_map-append}
 use Rattle.std.proofs.Math.Seq.{drop-length}
 use Rattle.zw_base.specs.declared.property.Setting.{Setting}
 use Rattle.zw_base.specs.declared.property.By.{By}
-use Rattle.zw_text.specs.declared.entry.Entry.TheVariants as entry
-use Rattle.zw_text.specs.Transcript.{Made, made, where_same}
+use Rattle.law_transcript.specs.zw_text.declared.entry.Entry.TheVariants as entry
+use Rattle.law_transcript.specs.zw_text.Transcript.{Made, made, where_same}
 use Rattle.route_table.specs.declared.route.Route.{Route}
 use Rattle.law_transcript.specs.device_kinds.declared.change.Change.{Change}
-use Rattle.device_sim.specs.State.{State}
-use Rattle.device_sim.specs.Event.{DeviceEvent, device_after, device_replies}
+use Rattle.law_transcript.specs.device_sim.State.{State}
+use Rattle.law_transcript.specs.device_sim.Event.{DeviceEvent, device_after, device_replies}
 use Rattle.air_frames.specs.declared.frame.Heading.{Heading}
 use Rattle.air_frames.specs.declared.frame.Heading.TheVariants.{Outward, Homeward}
-use Rattle.mesh_sim.specs.declared.fate.Fate.TheVariants.{Lost, AtChip, AtDevice}
-use Rattle.mesh_sim.specs.declared.event.AirEvent.{AirEvent}
-use Rattle.mesh_sim.specs.declared.event.AirEvent.TheVariants as air_event
-use Rattle.mesh_sim.specs.Air.{AirState, is_joined, departing}
-use Rattle.mesh_sim.specs.Fates.{place_of, is_awake, awake_at, listener_of, fate_by}
-use Rattle.mesh_sim.specs.Routes.{backwards}
-use Rattle.mesh_sim.specs.Steps.{changed, answers as air_answers, answers_if, outs_hearing}
+use Rattle.world_model.specs.mesh_sim.declared.fate.Fate.TheVariants.{Lost, AtChip, AtDevice}
+use Rattle.world_model.specs.mesh_sim.declared.event.AirEvent.{AirEvent}
+use Rattle.world_model.specs.mesh_sim.declared.event.AirEvent.TheVariants as air_event
+use Rattle.world_model.specs.mesh_sim.Air.{AirState, is_joined, departing}
+use Rattle.world_model.specs.mesh_sim.Fates.{place_of, is_awake, awake_at, listener_of, fate_by}
+use Rattle.world_model.specs.mesh_sim.Routes.{backwards}
+use Rattle.world_model.specs.mesh_sim.Steps.{changed, answers as air_answers, answers_if, outs_hearing}
 use Rattle.world_model.specs.outside_model.State.{OuterState, each}
 use Rattle.world_model.specs.outside_model.Air.{change_entries, change_at, deals}
 use Rattle.world_model.specs.outside_model.Results.{device_at}

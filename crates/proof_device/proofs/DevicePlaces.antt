@@ -1,12 +1,12 @@
 -- Devices go on, each at its place.
 use Rattle.std.proofs.Common.{◌≡◌, ℕ, zero, suc, inl, inr, List, [], ◌∷◌, ◌++◌, Some, refl, ap, sym, ◌∙◌, subst}
 use Rattle.std.specs.Prelude.{slice_get, slice_set}
-use Rattle.device_sim.specs.State.{State}
-use Rattle.device_sim.specs.Event.{DeviceEvent, device_after}
-use Rattle.device_sim.specs.Laws.{IsInOrder}
+use Rattle.law_transcript.specs.device_sim.State.{State}
+use Rattle.law_transcript.specs.device_sim.Event.{DeviceEvent, device_after}
+use Rattle.law_transcript.specs.device_sim.Laws.{IsInOrder}
 use Rattle.law_transcript.specs.Devices.{after_events}
 use Rattle.world_model.specs.outside_model.State.{Outside}
-use Rattle.zw_text.specs.declared.entry.Entry.TheVariants.{Refused}
+use Rattle.law_transcript.specs.zw_text.declared.entry.Entry.TheVariants.{Refused}
 use Rattle.world_model.specs.host_model.Did.{outs_all}
 use Rattle.world_model.specs.host_model.Outs.{answers}
 use Rattle.world_model.specs.outside_model.Events.{OuterEvent, Host_takes as host_takes, Host_notes, happens as happens_outside}

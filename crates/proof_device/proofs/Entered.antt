@@ -5,18 +5,18 @@ use Rattle.std.specs.Prelude.{Option, Some, None}
 use Rattle.std.specs.List.{flat_map, AllByRecursion}
 use Rattle.zw_base.proofs.Each.{all-append}
 use Rattle.zw_base.specs.declared.property.Setting.{Setting}
-use Rattle.serial_pipes.specs.State.{fits, garbled}
-use Rattle.serial_pipes.specs.Events.{told_by}
-use Rattle.serial_pipes.specs.declared.marks.Mark.{Mark}
-use Rattle.serial_pipes.specs.declared.marks.Mark.TheVariants.{Free, Lost, Changed}
+use Rattle.world_model.specs.serial_pipes.State.{fits, garbled}
+use Rattle.world_model.specs.serial_pipes.Events.{told_by}
+use Rattle.world_model.specs.serial_pipes.declared.marks.Mark.{Mark}
+use Rattle.world_model.specs.serial_pipes.declared.marks.Mark.TheVariants.{Free, Lost, Changed}
 use Rattle.law_transcript.specs.device_kinds.declared.change.Change.{Change}
-use Rattle.device_sim.specs.State.{State}
+use Rattle.law_transcript.specs.device_sim.State.{State}
 use Rattle.zw_words.specs.declared.side.Side.{Side}
-use Rattle.zw_text.specs.declared.entry.Entry.{Entry}
-use Rattle.zw_text.specs.declared.entry.Entry.TheVariants as entry
+use Rattle.law_transcript.specs.zw_text.declared.entry.Entry.{Entry}
+use Rattle.law_transcript.specs.zw_text.declared.entry.Entry.TheVariants as entry
 use Rattle.world_model.specs.outside_model.Air.{change_entries}
 use Rattle.world_model.specs.outside_model.Devices.{changes_entries, shown_entries}
-use Rattle.world_model.specs.outside_model.Events.{cleared_entries}
+use Rattle.world_model.specs.outside_model.Events.{cleared_entries, IsCleared}
 
 -- ---- a unit
 
@@ -37,10 +37,6 @@ told_by_marks side bytes Lost text = (tt, tt)
 told_by_marks side bytes (Changed garble) text = (tt, overrun_marks side (fits bytes (garbled garble text)))
 
 -- ---- a pipe
-
-abbrev pub IsCleared : Entry → Type 0
-IsCleared (entry.Cleared side count) = Unit {0}
-IsCleared _ = ⊥
 
 pub all_cleared : (side : Side) (count : ℕ) → AllByRecursion IsCleared (cleared_entries side count)
 all_cleared side count = by (nat_lt 0 count)

@@ -8,34 +8,34 @@ use Rattle.zw_base.specs.declared.property.Setting.{Setting}
 use Rattle.serial_frame.specs.declared.unit.Unit.{Unit as LineUnit}
 use Rattle.serial_frame.specs.Items.{unit_text}
 use Rattle.serial_frame.specs.Stream.{after_tick}
-use Rattle.serial_pipes.specs.State.{WayState, mark_for}
-use Rattle.serial_pipes.specs.Events.{told}
-use Rattle.serial_pipes.specs.Events as way
+use Rattle.world_model.specs.serial_pipes.State.{WayState, mark_for}
+use Rattle.world_model.specs.serial_pipes.Events.{told}
+use Rattle.world_model.specs.serial_pipes.Events as way
 use Rattle.zw_words.specs.declared.side.Side.{Side}
 use Rattle.zw_words.specs.declared.side.Side.TheVariants.{Host as by_host, Chip as by_chip}
 use Rattle.route_table.specs.declared.route.Route.{Route}
 use Rattle.chip_functions.specs.Notice.{status_of}
 use Rattle.chip_functions.specs.declared.notice.TransmitStatus.TheVariants.{Fail}
-use Rattle.chip_sim.specs.Events.{ChipEvent, Heard as chip_hears, Ticked, after, outs}
-use Rattle.chip_sim.specs.Did.{judged_all}
-use Rattle.chip_sim.specs.declared.out.ChipOut.{ChipOut}
-use Rattle.chip_sim.specs.declared.out.ChipOut.TheVariants.{Write, OnAir, NoRoute, AskInfo, Full}
+use Rattle.world_model.specs.chip_sim.Events.{ChipEvent, Heard as chip_hears, Ticked, after, outs}
+use Rattle.world_model.specs.chip_sim.Did.{judged_all}
+use Rattle.world_model.specs.chip_sim.declared.out.ChipOut.{ChipOut}
+use Rattle.world_model.specs.chip_sim.declared.out.ChipOut.TheVariants.{Write, OnAir, NoRoute, AskInfo, Full}
 use Rattle.law_transcript.specs.device_kinds.declared.change.Change.{Change}
-use Rattle.device_sim.specs.State.{State}
-use Rattle.device_sim.specs.Event.{DeviceEvent, Ticks, Wakes, Sets, device_after, device_replies}
+use Rattle.law_transcript.specs.device_sim.State.{State}
+use Rattle.law_transcript.specs.device_sim.Event.{DeviceEvent, Ticks, Wakes, Sets, device_after, device_replies}
 use Rattle.air_frames.specs.declared.ages.Refusal.{Refusal}
 use Rattle.air_frames.specs.declared.ages.Refusal.TheVariants.{NeverSent, Forgotten, Stale}
 use Rattle.air_frames.specs.declared.frame.Heading.TheVariants.{Homeward}
 use Rattle.air_frames.specs.Ages.{refusal_of}
-use Rattle.mesh_sim.specs.declared.event.AirEvent.{AirEvent}
-use Rattle.mesh_sim.specs.declared.event.AirEvent.TheVariants as air_event
-use Rattle.mesh_sim.specs.Air.{AirState, departing, is_joined, no_route}
-use Rattle.mesh_sim.specs.Fates.{Mesh, place_of}
-use Rattle.mesh_sim.specs.Routes.{backwards}
-use Rattle.mesh_sim.specs.Steps.{AirStep, answers, answers_if, changed, mesh_after, mesh_outs, outs_again, outs_at}
-use Rattle.mesh_sim.specs.Steps as mesh
-use Rattle.zw_text.specs.declared.entry.Entry.{Entry}
-use Rattle.zw_text.specs.declared.entry.Entry.TheVariants as entry
+use Rattle.world_model.specs.mesh_sim.declared.event.AirEvent.{AirEvent}
+use Rattle.world_model.specs.mesh_sim.declared.event.AirEvent.TheVariants as air_event
+use Rattle.world_model.specs.mesh_sim.Air.{AirState, departing, is_joined, no_route}
+use Rattle.world_model.specs.mesh_sim.Fates.{Mesh, place_of}
+use Rattle.world_model.specs.mesh_sim.Routes.{backwards}
+use Rattle.world_model.specs.mesh_sim.Steps.{AirStep, answers, answers_if, changed, mesh_after, mesh_outs, outs_again, outs_at}
+use Rattle.world_model.specs.mesh_sim.Steps as mesh
+use Rattle.law_transcript.specs.zw_text.declared.entry.Entry.{Entry}
+use Rattle.law_transcript.specs.zw_text.declared.entry.Entry.TheVariants as entry
 use Rattle.law_transcript.specs.Nodes.{controller}
 use Rattle.world_model.specs.outside_model.declared.waits.Due.{Due}
 use Rattle.world_model.specs.outside_model.State.{OuterState, Outside, Outcome, and_then, each, with_chip}
@@ -43,8 +43,8 @@ use Rattle.world_model.specs.outside_model.Chip.{put_out, chip_does, chip_takes,
 use Rattle.world_model.specs.outside_model.Results.{call_back, device_at, frame_ends, gives, leading, no_routes}
 use Rattle.world_model.specs.outside_model.Air.{change_at, change_entries, deals, sent_entries, to_chip}
 use Rattle.world_model.specs.outside_model.Devices.{acts, acts_at, acts_by_hand, changes_entries, new_changes, sends, shown_entries}
-use Rattle.world_model.specs.outside_model.Events.{OuterEvent, Host_writes, Host_takes, Host_notes, Chip_takes, Arrives, Gives, Device_ticks, Chip_ticks, Repeats, Wakes_device, Sets_device, Shows, Marks_loss, Marks_change, Clears_pipe, Stalls, Cuts, cleared_entries, is_own, mesh_of, outcome, repeats, stamp, steps, ticked_entry, way_of}
-use Rattle.proof_device.proofs.Entered.{IsMark, told_by_marks, IsCleared, all_cleared, IsShown, all_shown}
+use Rattle.world_model.specs.outside_model.Events.{OuterEvent, Host_writes, Host_takes, Host_notes, Chip_takes, Arrives, Gives, Device_ticks, Chip_ticks, Repeats, Wakes_device, Sets_device, Shows, Marks_loss, Marks_change, Clears_pipe, Stalls, Cuts, cleared_entries, is_own, mesh_of, outcome, repeats, stamp, steps, ticked_entry, way_of, IsCleared}
+use Rattle.proof_device.proofs.Entered.{IsMark, told_by_marks, all_cleared, IsShown, all_shown}
 use Rattle.proof_device.proofs.Results.{Calls, calls_go, due_goes, end_goes, payload_goes}
 
 -- ---- lists

@@ -2,9 +2,9 @@
 use Rattle.std.proofs.Common.{ℕ, Option, Some, None, List, [], ◌∷◌, sym, subst}
 use Rattle.zw_base.proofs.Each.{all-append, all-weaker}
 use Rattle.serial_frame.specs.declared.unit.Unit.{Unit as LineUnit}
-use Rattle.serial_pipes.specs.Events.{told}
+use Rattle.world_model.specs.serial_pipes.Events.{told}
 use Rattle.zw_words.specs.declared.side.Side.TheVariants.{Host as by_host}
-use Rattle.zw_text.specs.declared.entry.Entry.{Entry}
+use Rattle.law_transcript.specs.zw_text.declared.entry.Entry.{Entry}
 use Rattle.world_model.specs.host_model.State.{HostState}
 use Rattle.world_model.specs.host_model.Events.{HostEvent, Accepts}
 use Rattle.world_model.specs.host_model.Did.{outs_all}

@@ -3,10 +3,10 @@ use Rattle.std.proofs.Common.{ℕ, Bool, true, false, Option, Some, None, List, 
 use Rattle.std.specs.List.{AllByRecursion}
 use Rattle.zw_base.proofs.Each.{all-append}
 use Rattle.zw_base.specs.declared.property.Setting.{Setting}
-use Rattle.zw_text.specs.declared.entry.Done.{Done}
-use Rattle.zw_text.specs.declared.entry.Ended.TheVariants as ended
-use Rattle.zw_text.specs.declared.entry.Entry.{Entry}
-use Rattle.zw_text.specs.declared.entry.Entry.TheVariants as entry
+use Rattle.law_transcript.specs.zw_text.declared.entry.Done.{Done}
+use Rattle.law_transcript.specs.zw_text.declared.entry.Ended.TheVariants as ended
+use Rattle.law_transcript.specs.zw_text.declared.entry.Entry.{Entry}
+use Rattle.law_transcript.specs.zw_text.declared.entry.Entry.TheVariants as entry
 use Rattle.chip_functions.specs.declared.response.Response.TheVariants.{GetRoutingInfo, IsFailedNode as failed_node}
 use Rattle.serial_frame.specs.Frame.{FrameParts}
 use Rattle.serial_frame.specs.declared.item.Item.{Item}
@@ -23,9 +23,9 @@ use Rattle.world_model.specs.host_requests.declared.task.Task.{Task}
 use Rattle.world_model.specs.host_requests.declared.task.Task.TheVariants.{Plain, NoMore, Second, Neighbours, IsFailed}
 use Rattle.world_model.specs.host_requests.Events.{end_at}
 use Rattle.world_model.specs.host_requests.Events.RequestsEvent.{Fails as request_fails}
-use Rattle.host_node.specs.Steps.{tick_end, attempt_end, falls_asleep}
-use Rattle.host_node.specs.declared.attempt.AttemptEnd.{AttemptEnd}
-use Rattle.host_node.specs.declared.attempt.AttemptEnd.TheVariants.{NoneRan, Again, Unanswered}
+use Rattle.world_model.specs.host_node.Steps.{tick_end, attempt_end, falls_asleep}
+use Rattle.world_model.specs.host_node.declared.attempt.AttemptEnd.{AttemptEnd}
+use Rattle.world_model.specs.host_node.declared.attempt.AttemptEnd.TheVariants.{NoneRan, Again, Unanswered}
 use Rattle.world_model.specs.host_model.State.{HostState, node_of, command_at}
 use Rattle.world_model.specs.host_model.Sessions.{open_command, settings_with}
 use Rattle.world_model.specs.host_model.Ends.{PartEnd, Good as part_good, Passed_over, Bad, part_end, done_of, asleep_entry, out_entry, attempt_entries, part_entries, neighbours_entry, failed_entry, task_entries, end_entries, end_entries_if}

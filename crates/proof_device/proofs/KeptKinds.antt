@@ -29,7 +29,7 @@ use Rattle.law_transcript.specs.device_stack.Effects.{effect_of, takes, after_ef
 use Rattle.law_transcript.specs.device_kinds.Segments.{segment_session}
 use Rattle.law_transcript.specs.device_stack.Hearing.{Answered, answers, answers_opened, answers_bytes, hears_openly, nonce_named, sent_sealed, hears_inside, hears_plain, hears_for, hears_sealed, seals_for, hears_nonces, hears_securely, assembles, repeats_segment, hears_segment, hears_in_segments, hears_by, active, hears}
 use Rattle.law_transcript.specs.device_stack.Ticking.{aged, works_out, ticked, woken, set_by_hand}
-use Rattle.device_sim.specs.Event.{DeviceEvent, Hears, Ticks, Wakes, Sets as SetsByHand, outcome_of, device_after}
+use Rattle.law_transcript.specs.device_sim.Event.{DeviceEvent, Hears, Ticks, Wakes, Sets as SetsByHand, outcome_of, device_after}
 use Rattle.proof_device.specs.GoingOn.{IsSame}
 
 pub same : (device : State) → IsSame device device

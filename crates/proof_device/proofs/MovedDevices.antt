@@ -2,19 +2,19 @@
 use Rattle.std.proofs.Common.{◌≡◌, ℕ, inl, inr, List, Option, Some, None, refl}
 use Rattle.std.specs.Prelude.{slice_get}
 use Rattle.route_table.specs.declared.route.Route.{Route}
-use Rattle.device_sim.specs.State.{State}
-use Rattle.device_sim.specs.Event.{DeviceEvent, Hears, Ticks, Wakes, Sets}
+use Rattle.law_transcript.specs.device_sim.State.{State}
+use Rattle.law_transcript.specs.device_sim.Event.{DeviceEvent, Hears, Ticks, Wakes, Sets}
 use Rattle.air_frames.specs.declared.frame.Heading.{Heading}
 use Rattle.air_frames.specs.declared.frame.Heading.TheVariants.{Outward, Homeward}
 use Rattle.air_frames.specs.Flown.{Flown}
 use Rattle.air_frames.specs.Frames.{next_of, remembered}
 use Rattle.air_frames.specs.Ages.{refusal_of}
 use Rattle.air_frames.specs.declared.ages.Refusal.{Refusal}
-use Rattle.mesh_sim.specs.declared.fate.Fate.{Fate}
-use Rattle.mesh_sim.specs.declared.fate.Fate.TheVariants.{Lost, Dead, Missed, AtChip, AtDevice}
-use Rattle.mesh_sim.specs.Fates.{Mesh, place_of, listener_of, fate_of}
-use Rattle.mesh_sim.specs.Steps.{heard_at, heard_again, landed, acknowledged, arriving_as, arriving, repeating_by, repeating, mesh_after}
-use Rattle.mesh_sim.specs.Steps as mesh
+use Rattle.world_model.specs.mesh_sim.declared.fate.Fate.{Fate}
+use Rattle.world_model.specs.mesh_sim.declared.fate.Fate.TheVariants.{Lost, Dead, Missed, AtChip, AtDevice}
+use Rattle.world_model.specs.mesh_sim.Fates.{Mesh, place_of, listener_of, fate_of}
+use Rattle.world_model.specs.mesh_sim.Steps.{heard_at, heard_again, landed, acknowledged, arriving_as, arriving, repeating_by, repeating, mesh_after}
+use Rattle.world_model.specs.mesh_sim.Steps as mesh
 use Rattle.world_model.specs.outside_model.State.{Outside}
 use Rattle.world_model.specs.outside_model.Devices.{device_set, set_by_hand}
 use Rattle.world_model.specs.outside_model.Events.{OuterEvent, Arrives, Device_ticks, Repeats, Wakes_device, Sets_device, mesh_of, devices_repeated, devices_after}

@@ -4,9 +4,9 @@ use Rattle.std.specs.List.{AllByRecursion}
 use Rattle.zw_base.specs.declared.property.By.{By}
 use Rattle.zw_base.specs.declared.property.By.TheVariants.{Session, Plain, Local}
 use Rattle.law_transcript.specs.device_kinds.declared.change.Change.{Change}
-use Rattle.device_sim.specs.State.{State}
-use Rattle.device_sim.specs.Laws.{numbers, with_number, Rises as RisesTo, done, IsInOrder}
-use Rattle.zw_text.specs.Transcript.{by_session}
+use Rattle.law_transcript.specs.device_sim.State.{State}
+use Rattle.law_transcript.specs.device_sim.Laws.{numbers, with_number, Rises as RisesTo, done, IsInOrder}
+use Rattle.law_transcript.specs.zw_text.Transcript.{by_session}
 use Rattle.law_transcript.specs.Lists.{Rises}
 use Rattle.law_transcript.specs.Once.{sessions_by}
 use Rattle.proof_device.specs.GoingOn.{TakesOnce, AreInOrder, TakeOnce}

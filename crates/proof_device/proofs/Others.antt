@@ -4,15 +4,15 @@ use Rattle.std.specs.List.{AllByRecursion}
 use Rattle.std.specs.Option.{option_map}
 use Rattle.std.proofs.lemmas.Grind.{flat_map-append}
 use Rattle.zw_base.proofs.Each.{all-weaker}
-use Rattle.zw_text.specs.declared.entry.Entry.{Entry}
-use Rattle.zw_text.specs.declared.entry.Entry.TheVariants as entry
-use Rattle.zw_text.specs.Transcript.{Made, made, made_at}
+use Rattle.law_transcript.specs.zw_text.declared.entry.Entry.{Entry}
+use Rattle.law_transcript.specs.zw_text.declared.entry.Entry.TheVariants as entry
+use Rattle.law_transcript.specs.zw_text.Transcript.{Made, made, made_at}
 use Rattle.route_table.specs.declared.route.Route.{Route}
-use Rattle.mesh_sim.specs.Air.{is_joined}
-use Rattle.mesh_sim.specs.Routes.{backwards}
-use Rattle.mesh_sim.specs.Steps.{answers_if}
-use Rattle.mesh_sim.specs.declared.event.AirEvent.{AirEvent}
-use Rattle.mesh_sim.specs.declared.event.AirEvent.TheVariants as air_event
+use Rattle.world_model.specs.mesh_sim.Air.{is_joined}
+use Rattle.world_model.specs.mesh_sim.Routes.{backwards}
+use Rattle.world_model.specs.mesh_sim.Steps.{answers_if}
+use Rattle.world_model.specs.mesh_sim.declared.event.AirEvent.{AirEvent}
+use Rattle.world_model.specs.mesh_sim.declared.event.AirEvent.TheVariants as air_event
 use Rattle.world_model.specs.outside_model.State.{OuterState, Outside}
 use Rattle.world_model.specs.outside_model.Results.{frame_ends}
 use Rattle.world_model.specs.outside_model.Air.{to_chip, sent_entries}

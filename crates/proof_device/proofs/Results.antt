@@ -8,9 +8,9 @@ use Rattle.route_table.specs.Network.{linked}
 use Rattle.chip_functions.specs.Notice.{status_of}
 use Rattle.chip_functions.specs.declared.notice.TransmitStatus.{TransmitStatus}
 use Rattle.chip_functions.specs.declared.notice.TransmitStatus.TheVariants.{Fail, NoRoute as no_route_status}
-use Rattle.chip_sim.specs.Events.{ChipEvent, Done, Heard as chip_hears, Informed, Forgets, after}
-use Rattle.device_sim.specs.State.{State}
-use Rattle.zw_text.specs.declared.entry.Entry.TheVariants as entry
+use Rattle.world_model.specs.chip_sim.Events.{ChipEvent, Done, Heard as chip_hears, Informed, Forgets, after}
+use Rattle.law_transcript.specs.device_sim.State.{State}
+use Rattle.law_transcript.specs.zw_text.declared.entry.Entry.TheVariants as entry
 use Rattle.world_model.specs.outside_model.declared.waits.Due.{Due}
 use Rattle.world_model.specs.outside_model.declared.waits.Due.TheVariants.{Info, NoRoute as no_route_due}
 use Rattle.world_model.specs.outside_model.State.{OuterState, Outcome, silent, tells, and_then, with_chip}

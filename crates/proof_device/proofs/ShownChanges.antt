@@ -9,13 +9,13 @@ use Rattle.zw_base.proofs.Each.{all-append}
 use Rattle.zw_base.specs.declared.property.By.{By}
 use Rattle.zw_base.specs.declared.property.By.TheVariants.{Session, Plain, Local}
 use Rattle.zw_base.specs.declared.property.Setting.{Setting}
-use Rattle.zw_text.specs.declared.entry.Entry.{Entry}
-use Rattle.zw_text.specs.declared.entry.Entry.TheVariants.{Refused}
-use Rattle.zw_text.specs.Transcript.{Made, made, applied, by_session}
+use Rattle.law_transcript.specs.zw_text.declared.entry.Entry.{Entry}
+use Rattle.law_transcript.specs.zw_text.declared.entry.Entry.TheVariants.{Refused}
+use Rattle.law_transcript.specs.zw_text.Transcript.{Made, made, applied, by_session}
 use Rattle.law_transcript.specs.device_kinds.declared.change.Change.{Change}
-use Rattle.device_sim.specs.State.{State}
-use Rattle.device_sim.specs.Event.{DeviceEvent, Hears, Ticks, Wakes, Sets, device_after}
-use Rattle.device_sim.specs.Laws.{IsHeard, IsTicked, IsChanged, IsMade}
+use Rattle.law_transcript.specs.device_sim.State.{State}
+use Rattle.law_transcript.specs.device_sim.Event.{DeviceEvent, Hears, Ticks, Wakes, Sets, device_after}
+use Rattle.law_transcript.specs.device_sim.Laws.{IsHeard, IsTicked, IsChanged, IsMade}
 use Rattle.law_transcript.specs.device_kinds.declared.verdict.Verdict.{Verdict}
 use Rattle.law_transcript.specs.device_kinds.declared.verdict.Verdict.TheVariants.{NoSupport, Fails, Makes, Works}
 use Rattle.world_model.specs.host_model.Did.{outs_all}

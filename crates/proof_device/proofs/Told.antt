@@ -2,11 +2,11 @@
 use Rattle.std.proofs.Common.{◌≡◌, ℕ, ◌+◌, inl, List, [], ◌∷◌, ◌++◌, true, false, Option, Some, None, refl, ap, sym, append-nil}
 use Rattle.std.specs.Prelude.{slice_get, slice_set}
 use Rattle.std.specs.List.{flat_map}
-use Rattle.zw_text.specs.declared.entry.Entry.{Entry}
-use Rattle.zw_text.specs.Transcript.{Made, made}
+use Rattle.law_transcript.specs.zw_text.declared.entry.Entry.{Entry}
+use Rattle.law_transcript.specs.zw_text.Transcript.{Made, made}
 use Rattle.route_table.specs.declared.route.Route.{Route}
-use Rattle.device_sim.specs.State.{State}
-use Rattle.device_sim.specs.Event.{DeviceEvent, Hears, Ticks, Wakes, Sets, device_after}
+use Rattle.law_transcript.specs.device_sim.State.{State}
+use Rattle.law_transcript.specs.device_sim.Event.{DeviceEvent, Hears, Ticks, Wakes, Sets, device_after}
 use Rattle.air_frames.specs.declared.frame.Heading.{Heading}
 use Rattle.air_frames.specs.declared.frame.Heading.TheVariants.{Outward, Homeward}
 use Rattle.air_frames.specs.Flown.{Flown}
@@ -14,13 +14,13 @@ use Rattle.air_frames.specs.Frames.{next_of, remembered}
 use Rattle.air_frames.specs.Ages.{refusal_of}
 use Rattle.air_frames.specs.declared.ages.Refusal.{Refusal}
 use Rattle.air_frames.specs.declared.ages.Refusal.TheVariants.{NeverSent, Forgotten, Stale}
-use Rattle.mesh_sim.specs.declared.fate.Fate.{Fate}
-use Rattle.mesh_sim.specs.declared.fate.Fate.TheVariants.{Lost, Dead, Missed, AtChip, AtDevice}
-use Rattle.mesh_sim.specs.declared.event.AirEvent.{AirEvent}
-use Rattle.mesh_sim.specs.declared.event.AirEvent.TheVariants as air_event
-use Rattle.mesh_sim.specs.Fates.{Mesh, place_of, listener_of, fate_of, dead_hop_of}
-use Rattle.mesh_sim.specs.Steps.{AirStep, done_of, status_of, heard_at, outs_at, landed, acknowledged, arriving_as, arriving, arrival_outs_as, arrival_outs, heard_again, outs_again, repeating_by, repeating, repeat_outs_by, repeat_outs, mesh_after, mesh_outs}
-use Rattle.mesh_sim.specs.Steps as mesh
+use Rattle.world_model.specs.mesh_sim.declared.fate.Fate.{Fate}
+use Rattle.world_model.specs.mesh_sim.declared.fate.Fate.TheVariants.{Lost, Dead, Missed, AtChip, AtDevice}
+use Rattle.world_model.specs.mesh_sim.declared.event.AirEvent.{AirEvent}
+use Rattle.world_model.specs.mesh_sim.declared.event.AirEvent.TheVariants as air_event
+use Rattle.world_model.specs.mesh_sim.Fates.{Mesh, place_of, listener_of, fate_of, dead_hop_of}
+use Rattle.world_model.specs.mesh_sim.Steps.{AirStep, done_of, status_of, heard_at, outs_at, landed, acknowledged, arriving_as, arriving, arrival_outs_as, arrival_outs, heard_again, outs_again, repeating_by, repeating, repeat_outs_by, repeat_outs, mesh_after, mesh_outs}
+use Rattle.world_model.specs.mesh_sim.Steps as mesh
 use Rattle.world_model.specs.outside_model.State.{OuterState, Outside}
 use Rattle.world_model.specs.outside_model.Devices.{acts_at, device_set, acts_by_hand, set_by_hand}
 use Rattle.world_model.specs.outside_model.Events.{OuterEvent, Host_notes, Arrives, Device_ticks, Repeats, Wakes_device, Sets_device, is_own, mesh_of, steps, repeats, devices_repeated, outcome, devices_after, entries}

@@ -1,9 +1,9 @@
 -- What becomes of the devices, whatever happens (this project's own): each goes on by events of its own, at its place in the list.
 use Rattle.std.specs.Prelude.{◌≡◌, ◌⊎◌, ℕ, ◌≤◌, List, Some, slice_get, slice_set}
 use Rattle.std.specs.List.{AllByRecursion, AllZip}
-use Rattle.device_sim.specs.State.{State}
-use Rattle.device_sim.specs.Event.{DeviceEvent, device_after}
-use Rattle.device_sim.specs.Laws.{IsInOrder, done}
+use Rattle.law_transcript.specs.device_sim.State.{State}
+use Rattle.law_transcript.specs.device_sim.Event.{DeviceEvent, device_after}
+use Rattle.law_transcript.specs.device_sim.Laws.{IsInOrder, done}
 use Rattle.law_transcript.specs.Devices.{after_events}
 use Rattle.law_transcript.specs.Lists.{Rises}
 use Rattle.law_transcript.specs.Once.{sessions_by}

@@ -2,20 +2,20 @@
 
 ghost use Rattle.std.specs.Prelude.{List, ◌++◌};
 ghost use Rattle.std.specs.List.{AllByRecursion};
-ghost use Rattle.device_sim.specs.State.{State};
-ghost use Rattle.device_sim.specs.Event.{DeviceEvent, device_after};
+ghost use Rattle.law_transcript.specs.device_sim.State.{State};
+ghost use Rattle.law_transcript.specs.device_sim.Event.{DeviceEvent, device_after};
 ghost use Rattle.world_model.specs.outside_model.State.{Outside};
 ghost use Rattle.world_model.specs.outside_model.Events.{OuterEvent, devices_after};
 ghost use Rattle.world_model.specs.outside_model.Did.{happens_all as happens_all_outside};
 ghost use Rattle.world_model.specs.State.{Machine};
-ghost use Rattle.zw_text.specs.declared.entry.Entry.{Entry};
-ghost use Rattle.zw_text.specs.Transcript.{applied};
+ghost use Rattle.law_transcript.specs.zw_text.declared.entry.Entry.{Entry};
+ghost use Rattle.law_transcript.specs.zw_text.Transcript.{applied};
 ghost use Rattle.world_model.specs.Events.{Event, happens, entries, May};
 ghost use Rattle.world_model.specs.Did.{happens_all, entries_all, MayAll};
 ghost use Rattle.proof_device.specs.GoingOn.{MovesOne, GoOn, IsSame, AreSame, AreInOrder, TakesOnce, TakeOnce};
 ghost use Rattle.proof_device.specs.Showing.{AreApart, AllShow, AreUnchanged, IsShown, IsShownAmong, NeverFalls};
 
-use device_sim::{sessions_rise, when_changes_come};
+use law_transcript::{sessions_rise, when_changes_come};
 
 /// An event outside the host moves at most one device, by one event of the device. So whatever happens to the machine, each device goes on at its
 /// place by events of its own, and none is added or lost.

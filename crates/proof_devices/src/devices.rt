@@ -26,9 +26,7 @@ ghost use Rattle.proof_air.specs.proof_device.Showing.{AreApart};
 ghost use Rattle.proof_devices.specs.LastLine.{with_last};
 ghost use Rattle.proof_devices.specs.Living.{MayAny, Acts, Lived, Rested, KnowDevices, AllLivedAsShown, IsNow};
 
-use proof_air::device::changes_are_shown;
-use proof_air::history_goes_on;
-use proof_air::walk::time_goes_on;
+use proof_air::{changes_are_shown, history_goes_on, time_goes_on};
 use proof_routes::networks_go_on;
 
 /// At each phase of a line, where the history of the air and time are known, the first device of each node but the controller's has had just what the

@@ -18,8 +18,7 @@ ghost use Rattle.proof_devices.specs.Living.{MayAny};
 ghost use Rattle.proof_devices.specs.Meeting.{Ground};
 
 use crate::{devices_listen_as_shown, devices_live_on};
-use proof_air::history_goes_on;
-use proof_air::walk::time_goes_on;
+use proof_air::{history_goes_on, time_goes_on};
 use proof_routes::{frames_go_on, networks_go_on};
 
 /// Over any lines from the first on, the last of which an allocation failure may have cut short, a frame is heard directly after a line that repeats it, where

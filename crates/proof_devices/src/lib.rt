@@ -23,5 +23,11 @@ pub use devices::{
 };
 pub use did::devices_did;
 pub use fates::{acks_go_on, lines_meet_what_is_due, lines_repeat_what_is_asked};
-pub use proof_air as air;
-pub use proof_routes as routes;
+pub use proof_air::{
+    history_goes_on, landings_go_on, lines_are_done_by_devices, lines_bring_what_was_heard,
+    lines_land_in_time, time_goes_on,
+};
+pub use proof_routes::{
+    dead_hops_are_forgotten, dead_hops_are_forgotten_in_the_end, frames_go_by_route, frames_go_on,
+    networks_go_on,
+};

@@ -47,6 +47,7 @@ use Rattle.host_model.specs.Sessions.{open_command}
 use Rattle.host_model.specs.Ends.{PartEnd, Good, Passed_over, Bad, asleep_entry, attempt_entries, done_of, end_entries, failed_entry, neighbours_entry, out_entry, part_end, part_entries}
 use Rattle.proof_rests.specs.proof_requests.law_host.Ends.{answer_to, sleep_note, sleep_notes}
 use Rattle.proof_rests.specs.proof_requests.Carrying.{CarriesSo}
+pub use Rattle.proof_rests.specs.proof_requests.Ends.{IsLate}
 use Rattle.proof_rests.specs.proof_requests.Ends.{EndsHere, IsUntold as Untold_purpose, OwesNoEnd, TellsEnd}
 use Rattle.proof_rests.specs.proof_requests.Ends.OwesNoEnd.{Aborted, Apart, Unended, Untold}
 use Rattle.proof_rests.proofs.EndsDone.{ends_as_done}
@@ -127,15 +128,10 @@ second_of false b is = absurd (let bad : false ≡ true = is in cc)
 pub answered_ends : (past : List Entry) → is_answered_here past ≡ true → is_ending_here past ≡ true
 answered_ends past is = second_of _ (is_ending_here past) is
 
--- in which ways it ends outside of a tick, and in one
+-- in which ways it ends outside of a tick
 abbrev pub IsLoud : How → Type 0
 IsLoud Silent = ⊥
 IsLoud how = Unit {0}
-
-abbrev pub IsLate : How → Type 0
-IsLate Silent = Unit {0}
-IsLate LinkFailed = Unit {0}
-IsLate how = ⊥
 
 abbrev ends_now : List Entry → Bool
 ends_now past = is_ending_here past || is_given_up past

@@ -2,6 +2,7 @@
 use Rattle.std.proofs.Common.{◌≡◌, ℕ, ◌&&◌, Bool, true, false, if◌then◌else◌, inl, inr, List, [], ◌∷◌, ◌++◌, refl, sym, ap, ◌∙◌, subst, append-nil, append_assoc}
 use Rattle.std.specs.List.{AllByRecursion, flat_map}
 use Rattle.std.proofs.lemmas.List.{append_cancel_right}
+use Rattle.std.proofs.lemmas.Bool.{and_parts}
 use Rattle.zw_base.proofs.Each.{all-append, all-right}
 use Rattle.chip_functions.specs.declared.request.Request.{Request}
 use Rattle.chip_functions.specs.declared.request.Request.TheVariants as requests
@@ -29,14 +30,10 @@ abbrev pub stand_all : Bool → List Entry → List Entry → Bool
 stand_all over past [] = true
 stand_all over past (e ∷ told) = may_stand over past e && stand_all over (past ++ e ∷ []) told
 
-both_true : (a b : Bool) → (a && b) ≡ true → (a ≡ true) × (b ≡ true)
-both_true true b is = (refl, is)
-both_true false b is = absurd (let bad : false ≡ true = is in cc)
-
 pub read_on : (over : Bool) (past told : List Entry) → stand_all over past told ≡ true → Reads over past → Reads over (past ++ told)
 read_on over past [] all reads = nothing_read over past [] refl reads
 read_on over past (e ∷ told) all reads =
-    let (one, rest) = both_true (may_stand over past e) (stand_all over (past ++ e ∷ []) told) all in
+    let (one, rest) = and_parts (may_stand over past e) (stand_all over (past ++ e ∷ []) told) all in
     subst (Reads over) (append_assoc past (e ∷ []) told) (read_on over (past ++ e ∷ []) told rest (Stands e refl one reads))
 
 -- ---- the last entry

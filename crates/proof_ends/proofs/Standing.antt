@@ -2,8 +2,6 @@
 use Rattle.std.proofs.Common.{◌≡◌, ◌&&◌, ◌||◌, not, ℕ, Bool, true, false, List, [], ◌∷◌, ◌++◌, refl, sym, ap, ◌∙◌, subst, append-nil, append_assoc}
 use Rattle.std.specs.List.{AllByRecursion}
 use Rattle.std.proofs.lemmas.Bool.{and_from, and_left, or_right}
-use Rattle.zw_base.proofs.Each.{all-append}
-use Rattle.zw_base.specs.declared.property.Setting.{Setting}
 use Rattle.zw_words.specs.declared.side.Side.TheVariants.{Host, Chip}
 use Rattle.zw_text.specs.declared.entry.Entry.{Entry}
 use Rattle.zw_text.specs.declared.entry.Entry.TheVariants as entry
@@ -13,17 +11,15 @@ use Rattle.law_time.specs.Ends.{is_ending_here}
 use Rattle.law_time.specs.Requests.{asked, is_new, request_last}
 use Rattle.host_keep.specs.declared.final_status.FinalStatus.{FinalStatus}
 use Rattle.host_keep.specs.declared.final_status.FinalStatus.TheVariants as final
-use Rattle.host_model.specs.State.{HostState, command_at}
-use Rattle.host_model.specs.Sessions.{settings_with}
-use Rattle.host_model.specs.After.{is_full, is_held}
+use Rattle.host_model.specs.State.{HostState}
 use Rattle.host_model.specs.Events.{HostEvent, Accepts, Cancels, Queues, Hears, Requests_do, Interviews, Interview_unkept, Unreads, Is_unkept, Reports_old, Finishes, Offers, Gives, Spends_unread, Notifies, Resends, Hears_value, Has_no_room, Line_ticks, Node_ticks, Drops_no_more, Submits_abort, Submits_front, Starts as starts_attempt, Gives_text, Gives_segment, Begins, Begin_unkept}
-use Rattle.host_model.specs.declared.out.HostOut.{HostOut}
-use Rattle.host_model.specs.Outs.{answers, dropped_if, ended_of, held_entries, noted, outs, stored_entries}
+use Rattle.host_model.specs.Outs.{answers, ended_of, outs}
 use Rattle.proof_rests.specs.proof_requests.Ends.{TellsNoEnd}
 use Rattle.proof_rests.specs.proof_requests.proof_alone.Steps.{AreTold, DidNotCome, IsOfOthers, IsOfUnit}
 use Rattle.proof_rests.proofs.Doing.{IsBeside as LeavesRequest}
 use Rattle.proof_rests.specs.proof_attempts.Since.{IsOfItem}
-use Rattle.proof_rests.proofs.KeptAwake.{noted_told}
+use Rattle.proof_rests.proofs.proof_device_HostOuts.{MayPut, outs_put}
+use Rattle.proof_rests.proofs.proof_waking_Parts.{NotesAlone, alone_writes, notes_told, writes_nothing}
 use Rattle.proof_rests.proofs.Requested.{Unsubmitted}
 use Rattle.proof_ends.specs.Ends.{Reads, is_late, is_of_end, is_turn, may_stand, owes_end, owes_none, tells_end}
 use Rattle.proof_ends.specs.Ends.Reads.{Stands}
@@ -104,82 +100,45 @@ unit_read over past told marks rest unit old is all none owes reads =
 
 -- and end no attempt, and submit nothing
 abbrev pub NotesNoEnd : HostEvent → Type 0
-NotesNoEnd (Hears item) = ⊥
-NotesNoEnd (Requests_do event moment) = ⊥
 NotesNoEnd (Interviews n listens classes update) = ⊥
 NotesNoEnd (Interview_unkept n update) = ⊥
-NotesNoEnd Line_ticks = ⊥
-NotesNoEnd (Node_ticks n) = ⊥
-NotesNoEnd Submits_abort = ⊥
-NotesNoEnd Submits_front = ⊥
-NotesNoEnd (starts_attempt n plan more payload) = ⊥
-NotesNoEnd (Gives_text n payload) = ⊥
-NotesNoEnd (Gives_segment n more payload) = ⊥
-NotesNoEnd event = Unit {0}
+NotesNoEnd event = NotesAlone event
 
-record Notes (h : HostState) (event : HostEvent) : Type 0 where
-  notes : List Entry
-  are : outs h event ≡ noted notes
-  aside : AllByRecursion IsAside notes
-
-one_aside : (h : HostState) (event : HostEvent) (e : Entry) → outs h event ≡ noted (e ∷ []) → IsAside e → Notes h event
-one_aside h event e are aside = record { notes = e ∷ []; are = are; aside = (aside, tt) }
-
-dropped_aside : (full : Bool) (n : ℕ) → AllByRecursion IsAside (dropped_if full n)
-dropped_aside true n = ((refl, λ past. refl, λ past. refl, λ b. refl), tt)
-dropped_aside false n = tt
-
-held_aside : (n : ℕ) (held : Bool) → AllByRecursion IsAside (held_entries n held)
-held_aside n true = ((refl, λ past. refl, λ past. refl, λ b. refl), tt)
-held_aside n false = tt
-
-stored_aside : (n : ℕ) (settings : List Setting) → AllByRecursion IsAside (stored_entries n settings)
-stored_aside n [] = tt
-stored_aside n (setting ∷ settings) = ((refl, λ past. refl, λ past. refl, λ b. refl), stored_aside n settings)
+notes_alone : (event : HostEvent) → NotesNoEnd event → NotesAlone event
+notes_alone (Interviews n listens classes update) none = absurd none
+notes_alone (Interview_unkept n update) none = absurd none
+notes_alone event none = none
 
 out_aside : (command : ℕ) (status : FinalStatus) → IsAside (entry.Out command (ended_of status))
 out_aside command final.NoSupport = (refl, λ past. refl, λ past. refl, λ b. refl)
 out_aside command final.Fail = (refl, λ past. refl, λ past. refl, λ b. refl)
 out_aside command final.Success = (refl, λ past. refl, λ past. refl, λ b. refl)
 
-event_notes : (h : HostState) (event : HostEvent) → NotesNoEnd event → Notes h event
-event_notes h (Hears item) none = absurd none
-event_notes h (Requests_do event moment) none = absurd none
-event_notes h (Interviews n listens classes update) none = absurd none
-event_notes h (Interview_unkept n update) none = absurd none
-event_notes h Line_ticks none = absurd none
-event_notes h (Node_ticks n) none = absurd none
-event_notes h Submits_abort none = absurd none
-event_notes h Submits_front none = absurd none
-event_notes h (starts_attempt n plan more payload) none = absurd none
-event_notes h (Gives_text n payload) none = absurd none
-event_notes h (Gives_segment n more payload) none = absurd none
-event_notes h (Unreads n payload) none = one_aside h _ (entry.Unread n payload) refl (refl, λ past. refl, λ past. refl, λ b. refl)
-event_notes h (Is_unkept n) none = one_aside h _ (entry.Unkept n) refl (refl, λ past. refl, λ past. refl, λ b. refl)
-event_notes h (Reports_old n id) none = one_aside h _ (entry.Old n id) refl (refl, λ past. refl, λ past. refl, λ b. refl)
-event_notes h (Finishes n session id command status wake) none =
-    let stored : List Entry = stored_entries n (settings_with status (command_at h.commands command)) in
-    let held : List Entry = held_entries n (is_held h n wake) in
-    record {
-      notes = entry.Out command (ended_of status) ∷ (stored ++ held);
-      are = refl;
-      aside = (out_aside command status, all-append IsAside stored held (stored_aside n (settings_with status (command_at h.commands command))) (held_aside n (is_held h n wake)));
-    }
-event_notes h (Offers n) none = record { notes = dropped_if (is_full h) n; are = refl; aside = dropped_aside (is_full h) n }
-event_notes h (Gives n drawn) none = record { notes = dropped_if (is_full h) n; are = refl; aside = dropped_aside (is_full h) n }
-event_notes h (Spends_unread n payload) none = one_aside h _ (entry.Unread n payload) refl (refl, λ past. refl, λ past. refl, λ b. refl)
-event_notes h (Notifies n) none = one_aside h _ (entry.Awake n) refl (refl, λ past. refl, λ past. refl, λ b. refl)
-event_notes h (Resends n payload) none = record { notes = dropped_if (is_full h) n; are = refl; aside = dropped_aside (is_full h) n }
-event_notes h (Hears_value n setting) none = one_aside h _ (entry.Report n setting) refl (refl, λ past. refl, λ past. refl, λ b. refl)
-event_notes h (Has_no_room n property) none = one_aside h _ (entry.Unstored n property) refl (refl, λ past. refl, λ past. refl, λ b. refl)
-event_notes h (Drops_no_more n) none = one_aside h _ (entry.QueueFull n) refl (refl, λ past. refl, λ past. refl, λ b. refl)
-event_notes h (Begins n session command) none = one_aside h _ (entry.Begin n session command) refl (refl, λ past. refl, λ past. refl, λ b. refl)
-event_notes h (Begin_unkept n) none = one_aside h _ (entry.Unkept n) refl (refl, λ past. refl, λ past. refl, λ b. refl)
-event_notes h event none = record { notes = []; are = refl; aside = tt }
+aside_put : (event : HostEvent) → NotesNoEnd event → MayPut IsAside event
+aside_put (Requests_do event moment) none = absurd none
+aside_put (Interviews n listens classes update) none = absurd none
+aside_put (Interview_unkept n update) none = absurd none
+aside_put Line_ticks none = absurd none
+aside_put (Node_ticks n) none = absurd none
+aside_put (Finishes n session id command status wake) none = (out_aside command status, (λ setting. (refl, λ past. refl, λ past. refl, λ b. refl)), (refl, λ past. refl, λ past. refl, λ b. refl))
+aside_put (Unreads n payload) none = (refl, λ past. refl, λ past. refl, λ b. refl)
+aside_put (Is_unkept n) none = (refl, λ past. refl, λ past. refl, λ b. refl)
+aside_put (Reports_old n id) none = (refl, λ past. refl, λ past. refl, λ b. refl)
+aside_put (Offers n) none = (refl, λ past. refl, λ past. refl, λ b. refl)
+aside_put (Gives n drawn) none = (refl, λ past. refl, λ past. refl, λ b. refl)
+aside_put (Spends_unread n payload) none = (refl, λ past. refl, λ past. refl, λ b. refl)
+aside_put (Notifies n) none = (refl, λ past. refl, λ past. refl, λ b. refl)
+aside_put (Resends n payload) none = (refl, λ past. refl, λ past. refl, λ b. refl)
+aside_put (Hears_value n setting) none = (refl, λ past. refl, λ past. refl, λ b. refl)
+aside_put (Has_no_room n property) none = (refl, λ past. refl, λ past. refl, λ b. refl)
+aside_put (Drops_no_more n) none = (refl, λ past. refl, λ past. refl, λ b. refl)
+aside_put (Begins n session command) none = (refl, λ past. refl, λ past. refl, λ b. refl)
+aside_put (Begin_unkept n) none = (refl, λ past. refl, λ past. refl, λ b. refl)
+aside_put event none = tt
 
 pub event_aside : (h : HostState) (event : HostEvent) (told : List Entry) → NotesNoEnd event → AreTold (outs h event) told → AllByRecursion IsAside told
 event_aside h event told none are =
-    let it = event_notes h event none in subst (AllByRecursion IsAside) (sym (noted_told it.notes told (subst (λ (l : List HostOut). AreTold l told) it.are are))) it.aside
+    notes_told IsAside (outs h event) told (writes_nothing h event (alone_writes event (notes_alone event none))) (outs_put IsAside h event (aside_put event none)) are
 
 -- behind an item such an event leaves the request
 pub behind_leaves : (event : HostEvent) → TellsNoEnd event → IsOfItem event → Unsubmitted event → LeavesRequest event × NotesNoEnd event

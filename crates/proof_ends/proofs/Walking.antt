@@ -1,8 +1,8 @@
 -- At each step of a host alone its transcript is read so far, with its last request over just where none is under way in it.
 use Rattle.std.proofs.Common.{◌≡◌, ◌⊎◌, ◌<◌, ◌≤◌, ℕ, zero, suc, map, filter, ◌+◌, ◌-◌, ◌==◌, ◌&&◌, ◌||◌, not, Bool, true, false, if◌then◌else◌, inl, inr, List, [], ◌∷◌, ◌++◌, Option, Some, None, refl, sym, ap, ap₂, ◌∙◌, subst, append-nil, append_assoc, arith}
 use Rattle.std.specs.Prelude.{is_none}
-use Rattle.std.specs.List.{AllByRecursion, list_any, range_with_len}
-use Rattle.std.proofs.lemmas.Bool.{both_ways, eq-eqb, eqb-true, or_right}
+use Rattle.std.specs.List.{AllByRecursion, range_with_len}
+use Rattle.std.proofs.lemmas.Bool.{both_ways, or_right}
 use Rattle.zw_base.proofs.Each.{all-weaker}
 use Rattle.serial_frame.specs.Frame.{FrameParts}
 use Rattle.serial_frame.specs.Items.{unit_text}
@@ -40,7 +40,7 @@ use Rattle.law_time.specs.Sessions.{is_open}
 use Rattle.law_time.specs.Waking.{is_awake_sleeper}
 use Rattle.host_requests.specs.Events.{RequestsEvent, end_at, interviewed_by, interviewed_from}
 use Rattle.host_requests.specs.Events.RequestsEvent.{CallsBack, Fails, IsSent, Responds, Ticks as request_ticks, Updates}
-use Rattle.host_requests.specs.Next.{at_callback, at_response, at_sent, at_tick, at_update, counted_down, end_from, end_of, ends_at_update, is_answered, judged as judged_by, next_from, on_with, purpose_ends_at_update, sent_from, went_on}
+use Rattle.host_requests.specs.Next.{at_callback, at_response, at_sent, at_tick, at_update, counted_down, end_from, end_of, ends_at_update, is_answered, judged as judged_by, next_from, on_with, sent_from, went_on}
 use Rattle.host_requests.specs.Frames.{function_of}
 use Rattle.host_requests.specs.State.{RequestsState}
 use Rattle.host_requests.specs.declared.end.How.{How}
@@ -82,16 +82,17 @@ use Rattle.proof_rests.specs.proof_requests.proof_alone.Runs.{Knowledge, Walk, b
 use Rattle.proof_rests.proofs.Doing.{IsBeside as LeavesRequest, beside_same, end_if_asks}
 use Rattle.proof_rests.proofs.EndsHere.{answers_it, cannot_end, ends_if, ends_same}
 use Rattle.proof_rests.proofs.EndsLate.{silent_so}
-use Rattle.proof_rests.proofs.EndsTold.{given_up_at, silent_at}
-use Rattle.proof_rests.proofs.Judging.{or_false}
+use Rattle.proof_rests.proofs.Asleep.{asks_of, requested, slept, tables as facts_of, telling, well, work_of}
+pub use Rattle.proof_rests.proofs.EndsTold.{Informs}
+use Rattle.proof_rests.proofs.EndsTold.{asked_so, given_so, given_up_at, second_is, silent_at}
 use Rattle.proof_rests.proofs.Queueing.{opened_asks}
 use Rattle.proof_rests.proofs.Stepping.{IsSubmission, left_same, asked_beside, submissions, time_told}
 use Rattle.proof_rests.proofs.proof_requests_Walking.{line_outs}
 use Rattle.proof_rests.proofs.proof_waking_Judging.{asked_on, nothing_on}
 use Rattle.proof_rests.specs.proof_attempts.Asleep.{KnowsSleep, TicksNode}
-use Rattle.proof_rests.specs.proof_attempts.Carried.{CarriesOthers, UnderWayWell}
+use Rattle.proof_rests.specs.proof_attempts.Carried.{UnderWayWell}
 use Rattle.proof_rests.specs.proof_attempts.Since.{IsElse, IsOfItem, WalkBoth}
-use Rattle.proof_rests.specs.proof_attempts.Slept.{KnowsTelling, SleepsIfTold, TieSlept}
+use Rattle.proof_rests.specs.proof_attempts.Slept.{SleepsIfTold}
 use Rattle.proof_rests.specs.proof_attempts.Waking.{CountsAwake, KnowsWork}
 use Rattle.proof_rests.proofs.KeptAwake.{noted_told}
 use Rattle.proof_rests.proofs.Lasting.{numbered_else, rest_of}
@@ -104,6 +105,7 @@ use Rattle.proof_rests.proofs.Wrote.Wrote.{Quietly, Again, Anew}
 use Rattle.proof_ends.specs.Ends.{EndNotes, GiveUps, GivesUp, Reads, is_late, is_ticking, owes_end, owes_none, ticking_from, ticking_step}
 use Rattle.proof_ends.specs.Ends.GiveUps.{None_yet, One_more}
 use Rattle.proof_ends.specs.Ends.Reads.{Stands, Asks, Ends, Passes, Restarts, Refuses, Ticks, Ticks_late}
+use Rattle.proof_ends.specs.Ascending.{Ascends}
 use Rattle.proof_ends.proofs.Noting.{EndOf, IsLate, IsLoud, NodesSo, Noted, end_noted, interview_noted, late_so, loud_so, node_noted, owes_by}
 use Rattle.proof_ends.proofs.Standing.{IsAside, NotesNoEnd, answers_aside, aside_read, behind_leaves, broken, event_aside, marks_read, may_by, missed_aside, none_owed, nothing_read, others_aside, unit_read}
 
@@ -123,14 +125,6 @@ pub record ReadsSaid (line : Line) (past : List Entry) (m : HostMachine) : Type 
 abbrev pub LateReads : Bool → List Entry → List Entry → Type 0
 LateReads over start ending =
     (Reads over start × (ending ≡ [])) ⊎ ((over ≡ true) × Reads false start × EndNotes start ending × ((is_silent start || is_given_up start) ≡ true) × (ending ≡ [] → ⊥))
-
--- the events that are left are of nodes above this one, in their order
-abbrev pub Ascends : ℕ → List HostEvent → Type 0
-Ascends last [] = Unit {0}
-Ascends last (Line_ticks ∷ left) = Ascends last left
-Ascends last (Requests_do event moment ∷ left) = Ascends last left
-Ascends last (Node_ticks n ∷ left) = (last < n) × Ascends n left
-Ascends last (event ∷ left) = ⊥
 
 -- nothing was noted before the line's part, and before that of the request no command was given up
 abbrev pub IsFresh : List HostEvent → List Entry → List Entry → Type 0
@@ -414,52 +408,34 @@ TellsWalk = Walk TellsEnd (both_know (both_know RequestsGround KnowsAsked) Knows
 items_of : (left : List HostEvent) (past : List Entry) (m : HostMachine) → KnowsWork (Behind left) past m → AllByRecursion IsOfItem left
 items_of left past m work = work.0.1
 
-module _ (here : Phase) (past : List Entry) (m : HostMachine) (ground : KnowsSleep here past m) where
-  telling : KnowsTelling here past m
-  telling = ground.0.0.0
+module _ (here : Phase) (past : List Entry) (m : HostMachine) (ground : KnowsSleep here past m) (other : IsElse here) where
+  sleeper_is : (n : ℕ) → IsNode n → is_awake_sleeper n past ≡ falls_asleep (node_of m.state n)
+  sleeper_is n (from, to) =
+      let tells = telling here past m ground in
+      ap₂ (λ (a b : Bool). a && not b) (sym (rest_of CountsAwake here past m other tells.0.0.1 n from to)) (tells.0.0.0.1 n to)
+      ∙ ap (λ (b : Bool). (node_of m.state n).awake && b) (not_is (node_of m.state n).listens)
 
-  work_of : KnowsWork here past m
-  work_of = telling.0.0.0.0
+  pub nodes_so : ShowsOpen → NodesSo past m.state
+  nodes_so shows =
+      let facts = facts_of here past m ground in record {
+        begun = λ n. facts.begun n;
+        facts = λ n. facts.host.nodes.facts n;
+        sleeper = sleeper_is;
+        opened = λ n. shows past m.state n facts;
+      }
 
-  facts_of : Facts past m.state
-  facts_of = work_of.0.0.0.0.facts
-
-  requested : RequestsGround here past m
-  requested = telling.1.0
-
-  asks_of : KnowsAsked here past m
-  asks_of = telling.1.1
-
-  module _ (other : IsElse here) where
-    slept : TieSlept past m.state.requests
-    slept = rest_of SleepsIfTold here past m other ground.0.0.1
-
-    well : UnderWayWell m.state.requests.under_way
-    well = (rest_of CarriesOthers here past m other telling.0.1).asks.under_way
-
-    sleeper_is : (n : ℕ) → IsNode n → is_awake_sleeper n past ≡ falls_asleep (node_of m.state n)
-    sleeper_is n (from, to) =
-        ap₂ (λ (a b : Bool). a && not b) (sym (rest_of CountsAwake here past m other telling.0.0.1 n from to)) (telling.0.0.0.1 n to)
-        ∙ ap (λ (b : Bool). (node_of m.state n).awake && b) (not_is (node_of m.state n).listens)
-
-    pub nodes_so : ShowsOpen → NodesSo past m.state
-    nodes_so shows = record {
-      begun = λ n. facts_of.begun n;
-      facts = λ n. facts_of.host.nodes.facts n;
-      sleeper = sleeper_is;
-      opened = λ n. shows past m.state n facts_of;
-    }
-
-    -- what is known of an end of the request under way
-    pub end_of_it : (told : List Entry) (u : UnderWay) (how : How) → m.state.requests.under_way ≡ Some u → CarriesSo u.purpose
-        → ((e : Entry) (more : List Entry) → told ≡ e ∷ more → EndsHere past m.state.requests.last_id u.purpose how) → EndOf past told m.state.requests.last_id u.purpose how
-    end_of_it told u how is carries ends = record {
-      request = slept.request u is;
-      carries = carries;
-      well = subst UnderWayWell is well;
-      tells_so = frame_tells past m.state.requests u is well (slept.request u is);
-      ends = ends;
-    }
+  -- what is known of an end of the request under way
+  pub end_of_it : (told : List Entry) (u : UnderWay) (how : How) → m.state.requests.under_way ≡ Some u → CarriesSo u.purpose
+      → ((e : Entry) (more : List Entry) → told ≡ e ∷ more → EndsHere past m.state.requests.last_id u.purpose how) → EndOf past told m.state.requests.last_id u.purpose how
+  end_of_it told u how is carries ends =
+      let request = (slept here past m ground other).request u is in
+      let wells = well here past m ground other in record {
+        request = request;
+        carries = carries;
+        well = subst UnderWayWell is wells;
+        tells_so = frame_tells past m.state.requests u is wells request;
+        ends = ends;
+      }
 
 pub requests_nodes : (past : List Entry) (h : HostState) (requests : RequestsState) → NodesSo past h → NodesSo past (record h { requests = requests })
 requests_nodes past h requests nodes = record { begun = nodes.begun; facts = nodes.facts; sleeper = nodes.sleeper; opened = nodes.opened }
@@ -487,39 +463,9 @@ abort_tells : (g : HostState) (p : Purpose) (how : How) → p ≡ Abort → end_
 abort_tells g p how is = ap (λ (q : Purpose). end_entries g (record { purpose = q; how = how })) is
 
 -- the end of an interview whose information came
-pub record Informs (o : Option UnderWay) (first : Option ℕ) (update : Update) (capability : ℕ) : Type 0 where
-  pub u : UnderWay
-  pub under_way : o ≡ Some u
-  pub ends : ends_at_update update u ≡ true
-  pub brought : first ≡ Some capability
-
-none_some : (capability : ℕ) → None ≡ Some capability → ⊥
-none_some capability is = cc
-
 pub informs_so : (o : Option UnderWay) (first : Option ℕ) (n basic generic specific : ℕ) (classes : List ℕ) (capability : ℕ)
     → interviewed_from first (Received n basic generic specific classes) o ≡ Some capability → Informs o first (Received n basic generic specific classes) capability
-informs_so None first n basic generic specific classes capability is = absurd (none_some capability is)
-informs_so (Some u) first n basic generic specific classes capability is = by (ends_at_update (Received n basic generic specific classes) u) refl is
-  where
-    by : (b : Bool) → ends_at_update (Received n basic generic specific classes) u ≡ b → (if b then first else None) ≡ Some capability
-        → Informs (Some u) first (Received n basic generic specific classes) capability
-    by true ends is = record { u = u; under_way = refl; ends = ends; brought = is }
-    by false ends is = absurd (none_some capability is)
-
-pub second_is : (p : Purpose) (n basic generic specific : ℕ) (classes : List ℕ) → purpose_ends_at_update (Received n basic generic specific classes) p ≡ true → p ≡ Housekeeping (Second n)
-second_is (Housekeeping (Second m)) n basic generic specific classes is = ap (λ (k : ℕ). Housekeeping (Second k)) (sym (eqb-true n m is))
-second_is (Housekeeping task) n basic generic specific classes is = absurd (let bad : false ≡ true = is in cc)
-second_is (Attempt m more payload) n basic generic specific classes is = absurd (let bad : false ≡ true = is in cc)
-second_is Abort n basic generic specific classes is = absurd (let bad : false ≡ true = is in cc)
-
--- the line gives it up at this time
-pub given_so : (past : List Entry) (now id : ℕ) (purpose : Purpose) → clock past ≡ now → GivenUp past now id purpose → EndsHere past id purpose LinkFailed
-given_so past now id purpose time gone = record {
-  request = gone.request;
-  follows = gone.follows;
-  carries = gone.carries;
-  so = ap (λ (l : List ℕ). list_any (λ tick. tick == clock past) l) gone.gives_up ∙ or_false (now == clock past) ∙ eq-eqb now (clock past) (sym time);
-}
+informs_so o first n basic generic specific classes capability is = asked_so first (Received n basic generic specific classes) o capability is
 
 pub failed_how : (how : How) → ends_with LinkFailed ≡ ends_with how → LinkFailed ≡ how
 failed_how how is = cc
@@ -1085,9 +1031,9 @@ module _ (shows : ShowsOpen) (walk : TellsWalk) where
       leads next Open (past ++ shown_values m.state node ∷ []) m may.2
       (aside_read (is_none m.state.requests.under_way) past (shown_values m.state node ∷ []) ((refl, λ p. refl, λ p. refl, λ b. refl), tt) (asked_owes here (lines.Store node) past m may.0 ground) reads)
   step_reads here next past m (starts_again state) may ground known =
-      let asked_so : RequestsGround (Asked lines.Restart) past m = subst (λ (p : Phase). RequestsGround p past m) may.0 (requested here past m ground) in
+      let asks_so : RequestsGround (Asked lines.Restart) past m = subst (λ (p : Phase). RequestsGround p past m) may.0 (requested here past m ground) in
       let reads : Reads true past = (as_known here (Asked lines.Restart) past m may.0 known).anew refl in
-      let none : state.requests.under_way ≡ None = ap (λ (p : Side × RequestsState). p.1.under_way) (opened_asks m.keys m.records state asked_so.0.0.0.0.0.told may.1) in
+      let none : state.requests.under_way ≡ None = ap (λ (p : Side × RequestsState). p.1.under_way) (opened_asks m.keys m.records state asks_so.0.0.0.0.0.told may.1) in
       leads next Open (past ++ []) (happens m (starts_again state)) may.2
       (as_over (past ++ []) state.requests.under_way None none (nothing_read true past [] refl reads))
   step_reads here next past m (Begins_tick left) may ground known =

@@ -1,4 +1,5 @@
 pub mod Ends
+pub mod Ascending
 pub use Rattle.proof_rests.specs.proof_requests as proof_requests
 pub use Rattle.proof_rests.specs.proof_attempts as proof_attempts
 pub use Rattle.proof_rests.specs.proof_nonces as proof_nonces

@@ -5,18 +5,19 @@ ghost use Rattle.s0_crypto.specs.declared.key_pair.Keys.{Keys};
 ghost use Rattle.device_sim.specs.State.{State};
 ghost use Rattle.zw_text.specs.declared.entry.Entry.{Entry};
 ghost use Rattle.world_model.specs.State.{first_machine};
-ghost use Rattle.world_lines.specs.Spoken.{Spoken, transcript_of};
-ghost use Rattle.world_lines.specs.Done.{AreDone};
-ghost use Rattle.world_lines.specs.Whole.{AreWhole};
+ghost use Rattle.proof_rests.specs.world_lines.Spoken.{Spoken, transcript_of};
+ghost use Rattle.proof_rests.specs.world_lines.Done.{AreDone};
+ghost use Rattle.proof_rests.specs.world_lines.Whole.{AreWhole};
 ghost use Rattle.proof_rests.specs.proof_requests.law_host.Heard.{heard_by_host};
 ghost use Rattle.proof_rests.specs.proof_requests.proof_alone.State.{HostMachine, first_alone};
 ghost use Rattle.proof_rests.specs.proof_requests.proof_alone.Phases.{Resting};
 ghost use Rattle.proof_rests.specs.proof_requests.proof_alone.Runs.{Run, Told};
 ghost use Rattle.proof_ends.specs.Ends.{NotesOfEnds};
 
-use proof_rests::attempts::{hosts_show_open_sessions, hosts_tell_of_sleep};
-use proof_rests::requests::hosts_tell_of_ends;
-use proof_rests::requests::waking::alone::{lines_are_a_hosts, what_is_heard_is_a_hosts};
+use proof_rests::{
+    hosts_show_open_sessions, hosts_tell_of_ends, hosts_tell_of_sleep, lines_are_a_hosts,
+    what_is_heard_is_a_hosts,
+};
 
 /// In any run of a host alone, over a keeper that tells its records and has none at first: the notes of each end of a request stand together, once and in
 /// order, and so do those of a command that is given up; none of them stands elsewhere. A request is asked where the last one is over, and where a line or a

@@ -56,10 +56,6 @@ module _ (heeds : Heeds) (past : List Entry) where
       nothing d none well =
           ap₂ (λ (l : List Entry) (b : Bool). record d { fits = b && are_none l; due = [] }) none well ∙ ap₂ (λ (l : List Entry) (b : Bool). record d { fits = b; due = l }) (sym none) (sym well)
 
-  pub calm_says : (words : List ℕ) (c : Course) → c.due ≡ [] → c.fits ≡ true → Calm heeds past (now_at past (entry.Said words)) c
-      → comes_to heeds past (entry.Said words) c ≡ record c { ticked = now_at past (entry.Said words) }
-  calm_says words c none fits calm = calm_passes (entry.Said words) c none fits calm
-
   pub calm_numbers : (tick : ℕ) (c : Course) → c.due ≡ [] → c.fits ≡ true → Calm heeds past (now_at past (entry.Time tick)) c
       → comes_to heeds past (entry.Time tick) c ≡ record c { ticked = now_at past (entry.Time tick) }
   calm_numbers tick c none fits calm = calm_passes (entry.Time tick) c none fits calm

@@ -30,7 +30,8 @@ use Rattle.proof_ends.specs.proof_requests.law_host.Ends.{ends_by_frame}
 use Rattle.proof_ends.specs.proof_requests.proof_alone.Phases.{Behind}
 use Rattle.proof_ends.specs.proof_requests.proof_alone.State.{HostMachine}
 use Rattle.proof_ends.proofs.Interviews.{interviews_may}
-use Rattle.proof_ends.proofs.Walking.{ShowsOpen, informs_so, second_is}
+use Rattle.proof_ends.proofs.EndsTold.{second_is}
+use Rattle.proof_ends.proofs.Walking.{ShowsOpen, informs_so}
 use Rattle.proof_following.specs.Ended.{EndingOf}
 use Rattle.proof_following.proofs.Ending.{frame_ends_it}
 use Rattle.proof_following.proofs.Framing.{informed_goes, informed_note, one_ends}

@@ -16,3 +16,8 @@ pub use Rattle.proof_ends.proofs.Noting as proof_ends_Noting
 pub use Rattle.proof_ends.proofs.proof_rests_Sleeping
 pub use Rattle.proof_ends.proofs.EndsTold
 pub use Rattle.proof_ends.proofs.Interviews
+pub use Rattle.proof_ends.proofs.Done
+pub use Rattle.proof_ends.proofs.Freeing
+pub use Rattle.proof_ends.proofs.Times
+pub use Rattle.proof_ends.proofs.HostNotes
+pub use Rattle.proof_ends.proofs.AtRests

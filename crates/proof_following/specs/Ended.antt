@@ -14,7 +14,7 @@ use Rattle.host_requests.specs.Events.{RequestsEvent}
 use Rattle.host_requests.specs.Events.RequestsEvent.{CallsBack, Responds, Updates}
 use Rattle.host_requests.specs.Frames.{request_of}
 use Rattle.host_requests.specs.declared.end.How.{How}
-use Rattle.host_requests.specs.declared.end.How.TheVariants.{AtCallback, AtResponse, AtUpdate, Refused, Silent, LinkFailed}
+use Rattle.host_requests.specs.declared.end.How.TheVariants.{AtCallback, AtResponse, AtUpdate, Refused}
 use Rattle.host_requests.specs.declared.next.Next.TheVariants.{Ends}
 use Rattle.host_requests.specs.declared.task.Task.TheVariants.{Plain, NoMore, Second, Neighbours, IsFailed}
 use Rattle.host_requests.specs.declared.task.Purpose.{Purpose}
@@ -27,6 +27,7 @@ use Rattle.host_model.specs.Ends.{asleep_entry, done_of, end_entries, failed_ent
 use Rattle.proof_ends.specs.Ends.{errands_of}
 use Rattle.proof_ends.specs.proof_attempts.Carried.{CarriesWell, nodes_of}
 use Rattle.proof_ends.specs.proof_requests.Ends.{next_at}
+pub use Rattle.proof_ends.specs.proof_requests.Ends.{IsLate}
 use Rattle.proof_ends.specs.proof_requests.law_host.Course.{Course, each_in_turn, with_notes, without_texts}
 use Rattle.proof_ends.specs.proof_requests.law_host.Ends.{ends_sealing, given_up_notes, gives_up_late, to_give_up_by_end}
 use Rattle.proof_ends.specs.proof_requests.law_host.Ticks.{nodes_in_order, ticks}
@@ -38,12 +39,6 @@ IsByFrame (AtResponse response) = Unit {0}
 IsByFrame (AtUpdate update first) = Unit {0}
 IsByFrame Refused = Unit {0}
 IsByFrame how = ⊥
-
--- one in which it may end without a frame
-abbrev pub IsLate : How → Type 0
-IsLate Silent = Unit {0}
-IsLate LinkFailed = Unit {0}
-IsLate how = ⊥
 
 -- ---- what each end notes, by its purpose
 

@@ -27,8 +27,7 @@ ghost use Rattle.proof_ends.specs.proof_requests.proof_alone.Runs.{Run};
 ghost use Rattle.proof_following.specs.Ended.{GivesUpAsHost, IsFrameEvent, NotedSo};
 ghost use Rattle.proof_following.specs.Quiet.{Calm, acknowledges, begun};
 
-use proof_ends::rests::attempts::{hosts_show_open_sessions, hosts_tell_of_sleep};
-use proof_ends::rests::requests::hosts_tell_of_ends;
+use proof_ends::{hosts_show_open_sessions, hosts_tell_of_ends, hosts_tell_of_sleep};
 
 /// In each run of a host alone, over a keeper that tells its records and has none at first: after a frame that the request under way hears of, the course of
 /// notes has due what the host notes there, in order, and has a request under way where the host does. What the last request carries of what lines asked for

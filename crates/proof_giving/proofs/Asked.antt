@@ -1,5 +1,5 @@
 -- What a line asks of a host leaves each node tied to its attempts: a command that is accepted, or cancelled while it waits, a node that joins, and requests that are to wait.
-use Rattle.std.proofs.Common.{◌≡◌, ℕ, ◌+◌, ◌≤◌, ◌<◌, Bool, false, if◌then◌else◌, List, [], ◌∷◌, ◌++◌, length, refl, sym, ap, ◌∙◌, subst, append-nil, arith}
+use Rattle.std.proofs.Common.{◌≡◌, ℕ, ◌+◌, ◌≤◌, ◌<◌, Bool, false, if◌then◌else◌, List, [], ◌∷◌, ◌++◌, length, sym, ap, ◌∙◌, subst, append-nil, arith}
 use Rattle.std.specs.List.{AllByRecursion}
 use Rattle.zw_text.specs.declared.entry.Ended.TheVariants.{Cancelled}
 use Rattle.zw_text.specs.declared.entry.Entry.{Entry}
@@ -17,7 +17,7 @@ use Rattle.host_model.specs.After.{after, node_for}
 use Rattle.host_model.specs.Events.{HostEvent, Accepts, Cancels, Joins, Queues, Queues_interview, Queues_probe}
 use Rattle.host_model.specs.Facts.{HostFacts}
 use Rattle.host_model.specs.May.{May}
-use Rattle.host_model.specs.Outs.{answers, outs}
+use Rattle.host_model.specs.Outs.{answers}
 use Rattle.host_model.specs.declared.out.HostOut.{HostOut}
 use Rattle.proof_host.specs.Entries.{notes_of}
 use Rattle.proof_host.specs.Facts.{Facts}
@@ -26,6 +26,7 @@ use Rattle.proof_queue.specs.proof_attempts.proof_walk.ByLine.{IsAsked}
 use Rattle.proof_queue.proofs.Doings.{did, does_at, node_after}
 use Rattle.proof_queue.proofs.SeriesTie.{waits_still}
 use Rattle.proof_queue.proofs.proof_requests_Telling.{IsQuiet, quiet_on}
+use Rattle.proof_queue.proofs.InOrder.{asked_puts}
 use Rattle.proof_giving.specs.Told.{attempts_so_far}
 use Rattle.proof_giving.specs.Stays.{ShowsSessions}
 use Rattle.proof_giving.specs.Tie.{AttemptsSo, NodeSo, anew_step, is_last_of}
@@ -53,16 +54,6 @@ asked_unsigned (Queues task) is = tt
 asked_unsigned (Queues_interview n) is = tt
 asked_unsigned Queues_probe is = tt
 asked_unsigned event is = absurd is
-
--- the answer stands in the transcript, and nothing is put out
-asked_outs : (h : HostState) (event : HostEvent) → IsAsked event → outs h event ≡ []
-asked_outs h (Accepts order carriage) is = refl
-asked_outs h (Cancels command) is = refl
-asked_outs h (Joins n) is = refl
-asked_outs h (Queues task) is = refl
-asked_outs h (Queues_interview n) is = refl
-asked_outs h Queues_probe is = refl
-asked_outs h event is = absurd is
 
 pub answers_quiet : (h : HostState) (event : HostEvent) → IsAsked event → AllByRecursion IsQuiet (answers h event)
 answers_quiet h (Accepts order carriage) is = (tt, tt)
@@ -115,5 +106,5 @@ module _ (taken : List Entry → Carried → List Told) (n : ℕ) (to : n ≤ 23
       }) false now (answers_leave event is may facts) so
       (λ badly tied.
       subst (λ (t : NodeState). NodeSo (so_far past) t now badly) (sym (node_after h event n within))
-      (subst (λ (l : List HostOut). NodeSo (folded (anew_step (is_last_of (node_of h n))) (so_far past) (notes_of l)) (does_at n (node_of h n) (did h event)) now badly) (asked_outs h event is)
+      (subst (λ (l : List HostOut). NodeSo (folded (anew_step (is_last_of (node_of h n))) (so_far past) (notes_of l)) (does_at n (node_of h n) (did h event)) now badly) (asked_puts h event is)
       (mild_goes h n facts.host (so_far past) now badly false event may (asked_unsigned event is) tied)))

@@ -64,6 +64,7 @@ use Rattle.proof_queue.proofs.Doings.{did, does_at, node_after}
 use Rattle.proof_queue.specs.proof_attempts.Attempts.{AreAttempts, has_ended_badly, is_over_by}
 use Rattle.proof_queue.specs.Waiting.{want_of_task}
 use Rattle.proof_queue.proofs.Books.{last_is}
+use Rattle.proof_queue.proofs.proof_requests_Judging.{or_false}
 use Rattle.proof_giving.specs.Told.{LeavesAttempts, attempts_so_far}
 use Rattle.proof_giving.specs.Stays.{KeepsSessions, NoSession, NothingBegins, ShowsSessions}
 use Rattle.proof_giving.specs.Tie.{AttemptsSo, IsNoAbort, IsRequest, IsSealing, NodeSo, SentAs, WaitsAsTold, WantsFit, has_text, is_badly_over, is_for}
@@ -76,10 +77,6 @@ use Rattle.proof_giving.proofs.Told.{attempts_asked, attempts_left, node_is}
 use Rattle.proof_giving.proofs.Begun.{sealed_goes, segments_go, starts_begin}
 
 -- ---- of whose attempt it is
-
-or_none : (b : Bool) → (b || false) ≡ b
-or_none true = refl
-or_none false = refl
 
 both_none : (b : Bool) → ((b || false) && true) ≡ b
 both_none true = refl
@@ -96,7 +93,7 @@ of_attempt heeds n past r unit Abort id read fits =
 
 goes_as : (unit : List ℕ) (n id : ℕ) (more : Bool) (payload : List ℕ) → request_in unit ≡ request_of (Attempt n more payload) id ∷ []
     → list_any (λ (carried : Carried). goes_on carried.payload) (sending_in unit) ≡ goes_on payload
-goes_as unit n id more payload read = ap (λ (l : List Request). list_any (λ (carried : Carried). goes_on carried.payload) (flat_map sending_of l)) read ∙ or_none (goes_on payload)
+goes_as unit n id more payload read = ap (λ (l : List Request). list_any (λ (carried : Carried). goes_on carried.payload) (flat_map sending_of l)) read ∙ or_false (goes_on payload)
 
 -- whether the last one is over, as it is said of the request of the host
 pub over_as : (heeds : Heeds) (n : ℕ) (past : List Entry) (last : Asked) (now : ℕ) (told : Attempts) → told.node ≡ n → attempt_is_over heeds past last now told ≡ is_over_by now (has_ended_badly heeds past last now n) told

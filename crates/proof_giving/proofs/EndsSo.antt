@@ -35,6 +35,7 @@ use Rattle.proof_queue.specs.proof_attempts.proof_requests.proof_alone.Steps.{Is
 use Rattle.proof_queue.specs.proof_attempts.proof_requests.proof_waking.Judged.{TieFrames}
 use Rattle.proof_queue.proofs.proof_requests_EndsHere.{frame_here}
 use Rattle.proof_queue.proofs.proof_requests_Judging.{ending_judged}
+use Rattle.proof_queue.proofs.proof_requests_Judging.{or_false}
 use Rattle.proof_giving.specs.Tie.{is_bad_part}
 use Rattle.proof_giving.proofs.Badly.{badly_in, by_ending, is_bad_end, last_true, mid_true}
 use Rattle.proof_giving.proofs.Stays.{judged_stands, judging_of}
@@ -108,10 +109,6 @@ bad_else : (more : Bool) → is_bad_part (part_end more Refused) ≡ true
 bad_else true = refl
 bad_else false = refl
 
-or_none : (b : Bool) → (b || false) ≡ b
-or_none true = refl
-or_none false = refl
-
 module _ (past marks : List Entry) (f : FrameParts) (rest : List LineUnit) (marked : AllByRecursion IsOfUnit marks) (frames : TieFrames past (Framed f ∷ rest)) (was : WasAsked past)
     (unended : first_ending (standing_of (asked past)) ≡ []) (now : ℕ) where
   abbrev later : List Entry
@@ -148,14 +145,14 @@ module _ (past marks : List Entry) (f : FrameParts) (rest : List LineUnit) (mark
       = sym (append-nil (notice_in (unit_text (Framed f)))) ∙ ap (λ (l : List (List ℕ)). flat_map notice_in l) (sym here) ∙ notices in
       ended_as more ends
       ∙ ap₂ (λ (b : Bool) (l : List Notice). b || list_any (is_bad more) l) (no_response (unit_text (Framed f)) (CalledBack id status) read) read
-      ∙ or_none (is_bad more (CalledBack id status)) ∙ bad_status more id status
+      ∙ or_false (is_bad more (CalledBack id status)) ∙ bad_status more id status
 
   -- a response
   answered : (inner : Bool) → is_answered_here later ≡ true → ends_badly (asked later) inner now ≡ true
   answered inner is =
       let parts = and_parts (list_any (is_response_to (asked later).frame) (judged_here later)) (is_ending_here later) is in
       let responds : is_response_to (asked later).frame (unit_text (Framed f)) ≡ true
-      = sym (or_none (is_response_to (asked later).frame (unit_text (Framed f)))) ∙ ap (λ (l : List (List ℕ)). list_any (is_response_to (asked later).frame) l) (sym here) ∙ parts.0 in
+      = sym (or_false (is_response_to (asked later).frame (unit_text (Framed f)))) ∙ ap (λ (l : List (List ℕ)). list_any (is_response_to (asked later).frame) l) (sym here) ∙ parts.0 in
       let response : is_frame (unit_text (Framed f)) 1 ≡ true
       = is_response (unit_text (Framed f)) (and_parts (function_in (unit_text (Framed f)) == function_in (asked later).frame) (not (are_none (response_in (unit_text (Framed f))))) responds).1 in
       ended_as inner parts.1 ∙ or_left (is_frame (unit_text (Framed f)) 1) _ response

@@ -1,7 +1,6 @@
 -- At an event at which no attempt begins none runs of a node that did not run before, and no text is there that was not; and the end of a request leaves its session open.
 use Rattle.std.proofs.Common.{◌≡◌, ℕ, ◌+◌, ◌-◌, ◌<◌, ◌==◌, ◌&&◌, Bool, true, false, if◌then◌else◌, List, [], ◌∷◌, length, Option, Some, None, refl, sym, ap, ◌∙◌, subst}
 use Rattle.std.specs.Prelude.{is_some, nat_lt}
-use Rattle.std.specs.List.{AllByRecursion}
 use Rattle.std.proofs.lemmas.Bool.{or_right}
 use Rattle.supervision.specs.Host.{HostBook, open_session, told_of}
 use Rattle.supervision.specs.declared.host_node.Told.{Told as TheTold}
@@ -25,10 +24,10 @@ use Rattle.host_model.specs.State.{HostState, node_of}
 use Rattle.host_model.specs.After.{after}
 use Rattle.host_model.specs.Ends.{PartEnd, Good, Passed_over, Bad, part_end}
 use Rattle.host_model.specs.Events.{HostEvent}
-use Rattle.proof_queue.proofs.Doings.{Doing, did, does_at, end_does, node_after, part_does, purpose_does, task_does}
+use Rattle.proof_queue.proofs.Doings.{AllDo, Doing, kept_by_all, did, does_at, end_does, node_after, part_does, purpose_does, task_does}
 use Rattle.proof_giving.specs.Stays.{NoneBegun, NothingBegins}
 use Rattle.proof_giving.specs.Tie.{has_text}
-use Rattle.proof_giving.proofs.Orders.{DoesSteadily, IsSteady, did_steady}
+use Rattle.proof_giving.proofs.Orders.{IsSteady, did_steady}
 
 -- ---- nodes
 
@@ -106,11 +105,8 @@ event_fewer s Ticks steady = tick_fewer s
 event_fewer s node_gives_text steady = record { runs = λ is. is; seals = λ has. or_right (is_some s.text) (is_some s.pending) has }
 event_fewer s event steady = record { runs = λ is. is; seals = λ has. has }
 
-does_fewer : (n : ℕ) (s : NodeState) (doings : List Doing) → AllByRecursion DoesSteadily doings → NoneBegun s (does_at n s doings)
-does_fewer n s [] all = same_fewer s
-does_fewer n s (d ∷ more) all =
-    let next : NodeState = if d.node == n then after_node s d.event else s in
-    fewer_on s next (does_at n next more) (either_fewer (d.node == n) s (after_node s d.event) s (event_fewer s d.event all.0) (same_fewer s)) (does_fewer n next more all.1)
+does_fewer : (n : ℕ) (s : NodeState) (doings : List Doing) → AllDo IsSteady doings → NoneBegun s (does_at n s doings)
+does_fewer = kept_by_all NoneBegun IsSteady same_fewer fewer_on event_fewer
 
 pub fewer_kept : (h : HostState) (event : HostEvent) (n : ℕ) → n < length h.nodes → NothingBegins event → NoneBegun (node_of h n) (node_of (after h event) n)
 fewer_kept h event n within none = subst (λ (s : NodeState). NoneBegun (node_of h n) s) (sym (node_after h event n within)) (does_fewer n (node_of h n) (did h event) (did_steady h event none))

@@ -2,7 +2,7 @@
 use Rattle.std.proofs.Common.{◌≡◌, ℕ, ◌≤◌, ◌<◌, ◌==◌, ◌&&◌, Bool, true, false, if◌then◌else◌, List, [], ◌∷◌, ◌++◌, length, Option, Some, None, refl, sym, ap, ap₂, ◌∙◌, subst, arith}
 use Rattle.std.specs.Prelude.{is_none}
 use Rattle.std.specs.List.{AllByRecursion}
-use Rattle.std.proofs.lemmas.Bool.{and_parts, both_ways, eqb-true, or_right}
+use Rattle.std.proofs.lemmas.Bool.{and_parts, both_ways, eqb-true, or_right, and_right}
 use Rattle.zw_text.specs.declared.entry.Entry.{Entry}
 use Rattle.zw_text.specs.declared.entry.Entry.TheVariants as entry
 use Rattle.zw_text.specs.Transcript.{folded}
@@ -38,10 +38,6 @@ use Rattle.proof_giving.proofs.Fewer.{fewer_kept}
 use Rattle.proof_giving.proofs.NodesGo.{badly_so}
 use Rattle.proof_giving.proofs.Orders.{event_keeps}
 use Rattle.proof_giving.proofs.Over.{along_goes}
-
-and_false : (b : Bool) → (b && false) ≡ false
-and_false true = refl
-and_false false = refl
 
 -- attempts that began anew have no request
 own_step : (last : ℕ → Bool) (a : Attempts) (e : Entry) → (anew_step last a e).own ≡ true → a.own ≡ true
@@ -101,7 +97,7 @@ module _ (ends : EndsWith) (taken : List Entry → Carried → List Told) (n : �
     own_not runs other = ap (λ (o : Bool). o && later) (so.own runs u under ∙ other)
 
     part_not : s.series ≡ Running → (more : Bool) (payload : List ℕ) → u.purpose ≡ Attempt n more payload → is_bad_part (part_end more how) ≡ false → (a.own && later) ≡ false
-    part_not runs more payload is good = ap (λ (l : Bool). a.own && l) (later_is ∙ badly more payload is runs ∙ good) ∙ and_false a.own
+    part_not runs more payload is good = ap (λ (l : Bool). a.own && l) (later_is ∙ badly more payload is runs ∙ good) ∙ and_right a.own false refl
 
     same_attempt : (k : ℕ) (more : Bool) (payload : List ℕ) → u.purpose ≡ Attempt k more payload → (k == n) ≡ true → u.purpose ≡ Attempt n more payload
     same_attempt k more payload is same = is ∙ ap (λ (m : ℕ). Attempt m more payload) (eqb-true k n same)

@@ -128,10 +128,6 @@ is_ok NotIdle false = refl
 is_ok NoRoute true = refl
 is_ok NoRoute false = refl
 
-or_none : (b : Bool) → (b || false) ≡ b
-or_none true = refl
-or_none false = refl
-
 neither : (own : Bool) → ((own && false) || false) ≡ false
 neither true = refl
 neither false = refl

@@ -2,17 +2,12 @@
 use Rattle.std.proofs.Common.{◌≡◌, ℕ, ◌+◌, ◌-◌, ◌≤◌, ◌==◌, ◌||◌, Bool, true, false, if◌then◌else◌, inl, inr, List, [], ◌∷◌, ◌++◌, Some, None, refl, sym, ap, ap₂, ◌∙◌, subst, arith}
 use Rattle.std.specs.List.{AllByRecursion}
 use Rattle.std.proofs.lemmas.Bool.{eq-eqb}
-use Rattle.zw_base.proofs.Each.{all-append}
-use Rattle.zw_base.specs.declared.property.Setting.{Setting}
-use Rattle.serial_frame.specs.declared.item.Item.{Item}
-use Rattle.serial_frame.specs.declared.item.Item.TheVariants.{Good, Refused as refused_item}
-use Rattle.serial_frame.specs.declared.item.Refusal.TheVariants.{Stray, BadLength, BadSum, BadKind, Aborted}
-use Rattle.serial_frame.specs.declared.unit.Unit.TheVariants.{Ack, Nak, Can, Framed}
 use Rattle.serial_link.specs.State.{pause_after, turn_ticked}
 use Rattle.serial_link.specs.declared.turn.Turn.{Turn}
 use Rattle.serial_link.specs.declared.turn.Turn.TheVariants.{Idle as TurnIdle, Copied, Paused}
 use Rattle.zw_words.specs.declared.side.Side.TheVariants.{Chip}
 use Rattle.chip_functions.specs.Field.{IsNode}
+use Rattle.host_keep.specs.declared.final_status.FinalStatus.{FinalStatus}
 use Rattle.host_keep.specs.declared.final_status.FinalStatus.TheVariants as final
 use Rattle.zw_text.specs.declared.entry.Entry.{Entry}
 use Rattle.zw_text.specs.declared.entry.Entry.TheVariants as entry
@@ -33,12 +28,12 @@ use Rattle.host_requests.specs.declared.task.Purpose.TheVariants.{Attempt}
 use Rattle.host_requests.specs.declared.under_way.UnderWay.{UnderWay}
 use Rattle.host_node.specs.Steps.{tick_end}
 use Rattle.host_node.specs.declared.attempt.Moment.TheVariants.{BeforeItsTick}
-use Rattle.host_model.specs.State.{HostState, command_at, node_of}
-use Rattle.host_model.specs.Sessions.{open_command, settings_with}
-use Rattle.host_model.specs.After.{after, failing_if, gives_up, is_full, is_held, line_ticked}
+use Rattle.host_model.specs.State.{HostState, node_of}
+use Rattle.host_model.specs.Sessions.{open_command}
+use Rattle.host_model.specs.After.{after, failing_if, gives_up, line_ticked}
 use Rattle.host_model.specs.Ends.{attempt_entries}
-use Rattle.host_model.specs.Events.{HostEvent, Accepts, Begin_unkept, Begins, Cancels, Drops_no_more, Finishes, Gives, Gives_segment, Gives_text, Has_no_room, Hears, Hears_value, Interview_unkept, Interviews, Is_unkept, Line_ticks, Node_ticks, Notifies, Offers, Reports_old, Requests_do, Resends, Spends_unread, Starts, Submits_abort, Submits_front, Unreads}
-use Rattle.host_model.specs.Outs.{answer_to, answers, copy_out, dropped_if, failing_entries, held_entries, noted, outs, request_entries, stored_entries}
+use Rattle.host_model.specs.Events.{HostEvent, Accepts, Cancels, Finishes, Hears, Line_ticks, Node_ticks, Requests_do}
+use Rattle.host_model.specs.Outs.{answers, copy_out, failing_entries, noted, outs, request_entries, ended_of}
 use Rattle.host_model.specs.Pumping.{no_more_event}
 use Rattle.host_model.proofs.Submitted.{SleepersAre, SubmittedAre, next_is, no_more_is}
 use Rattle.proof_host.specs.Facts.{Facts}
@@ -55,20 +50,22 @@ use Rattle.proof_queue.specs.proof_attempts.proof_requests.proof_alone.Runs.{Run
 use Rattle.proof_queue.specs.proof_attempts.proof_requests.proof_alone.Runs.Run.{Begins as run_begins, Turned, Stepped}
 use Rattle.proof_queue.specs.proof_attempts.proof_requests.proof_alone.State.{HostMachine}
 use Rattle.proof_queue.specs.proof_attempts.proof_requests.proof_alone.Steps.{AreTold, DidNotCome, IsOfOthers, Step, Tells, Comes, Misses, Says, Says_nothing, Asks, Refuses, Shows, Restarts, Begins_tick, Numbers, Judges, Does, entries}
-use Rattle.proof_queue.proofs.HostOuts.{OutsAre}
+use Rattle.proof_queue.proofs.HostOuts.{MayPut, OutsAre, outs_put}
 use Rattle.proof_queue.proofs.Stepping.{first_same, time_told}
 use Rattle.proof_queue.proofs.Telling.{told_so}
 use Rattle.proof_queue.proofs.proof_alone_Apart.{AreOfLine}
 use Rattle.proof_queue.proofs.proof_attempts_Walking.{event_quiet, line_outs, line_ticks_tie, noted_notes, request_ticks_tie}
 use Rattle.proof_queue.proofs.proof_requests_Telling.{IsQuiet}
+use Rattle.proof_queue.proofs.Wrote.{chip_told}
+use Rattle.proof_queue.proofs.proof_waking_Parts.{noted_told}
 use Rattle.proof_giving.specs.Stays.{ShowsSessions}
 use Rattle.proof_giving.specs.Tie.{AttemptsSo, is_for, is_inner_now}
 use Rattle.proof_giving.specs.Walking.{Grounds, KnowsAttempts}
-use Rattle.proof_giving.proofs.GivesUp.{IsOther, IsTiedTo, Well, noted_is, others_well, requests_well, tick_well}
+use Rattle.proof_giving.proofs.GivesUp.{IsOther, IsTiedTo, Well, others_well, requests_well, tick_well}
 use Rattle.proof_giving.proofs.Requesting.{event_ends, requests_are}
 use Rattle.proof_giving.proofs.Stays.{stays_quiet}
 use Rattle.proof_giving.proofs.Ticked.{badly_unframed, unended}
-use Rattle.proof_giving.proofs.Walked.{chip_told, ground, in_tick}
+use Rattle.proof_giving.proofs.Walked.{ground, in_tick}
 
 -- ---- entries
 
@@ -93,33 +90,6 @@ answers_other h (Accepts order carriage) = (tt, tt)
 answers_other h (Cancels command) = (tt, tt)
 answers_other h event = tt
 
-noted_other : (entries : List Entry) → AllByRecursion IsOther entries → OutsAre IsOther (noted entries)
-noted_other [] all = tt
-noted_other (e ∷ entries) all = (all.0, noted_other entries all.1)
-
-stored_other : (n : ℕ) (settings : List Setting) → AllByRecursion IsOther (stored_entries n settings)
-stored_other n [] = tt
-stored_other n (setting ∷ settings) = (tt, stored_other n settings)
-
-held_other : (n : ℕ) (held : Bool) → AllByRecursion IsOther (held_entries n held)
-held_other n true = (tt, tt)
-held_other n false = tt
-
-dropped_other : (full : Bool) (n : ℕ) → OutsAre IsOther (noted (dropped_if full n))
-dropped_other true n = (tt, tt)
-dropped_other false n = tt
-
-answer_other : (item : Item) → OutsAre IsOther (answer_to item)
-answer_other (Good (Framed f)) = (tt, tt)
-answer_other (Good Ack) = tt
-answer_other (Good Nak) = tt
-answer_other (Good Can) = tt
-answer_other (refused_item (BadSum want got)) = (tt, tt)
-answer_other (refused_item (BadKind x)) = (tt, tt)
-answer_other (refused_item (Stray x)) = tt
-answer_other (refused_item (BadLength n)) = tt
-answer_other (refused_item Aborted) = tt
-
 -- no request hears of anything, and no part of a tick comes
 abbrev IsPlainEvent : HostEvent → Type 0
 IsPlainEvent (Requests_do event moment) = ⊥
@@ -127,41 +97,17 @@ IsPlainEvent Line_ticks = ⊥
 IsPlainEvent (Node_ticks n) = ⊥
 IsPlainEvent event = Unit {0}
 
-plain_outs : (h : HostState) (event : HostEvent) → IsPlainEvent event → OutsAre IsOther (outs h event)
-plain_outs h (Requests_do event moment) plain = absurd plain
-plain_outs h Line_ticks plain = absurd plain
-plain_outs h (Node_ticks n) plain = absurd plain
-plain_outs h (Hears item) plain = answer_other item
-plain_outs h (Finishes n session id command final.NoSupport wake_request) plain =
-    let settings : List Setting = settings_with final.NoSupport (command_at h.commands command) in
-    (tt, noted_other (stored_entries n settings ++ held_entries n (is_held h n wake_request)) (all-append IsOther (stored_entries n settings) (held_entries n (is_held h n wake_request)) (stored_other n settings) (held_other n (is_held h n wake_request))))
-plain_outs h (Finishes n session id command final.Fail wake_request) plain =
-    let settings : List Setting = settings_with final.Fail (command_at h.commands command) in
-    (tt, noted_other (stored_entries n settings ++ held_entries n (is_held h n wake_request)) (all-append IsOther (stored_entries n settings) (held_entries n (is_held h n wake_request)) (stored_other n settings) (held_other n (is_held h n wake_request))))
-plain_outs h (Finishes n session id command final.Success wake_request) plain =
-    let settings : List Setting = settings_with final.Success (command_at h.commands command) in
-    (tt, noted_other (stored_entries n settings ++ held_entries n (is_held h n wake_request)) (all-append IsOther (stored_entries n settings) (held_entries n (is_held h n wake_request)) (stored_other n settings) (held_other n (is_held h n wake_request))))
-plain_outs h (Interviews n listens classes update) plain = (tt, tt)
-plain_outs h (Interview_unkept n update) plain = (tt, tt)
-plain_outs h (Unreads n payload) plain = (tt, tt)
-plain_outs h (Is_unkept n) plain = (tt, tt)
-plain_outs h (Reports_old n id) plain = (tt, tt)
-plain_outs h (Offers n) plain = dropped_other (is_full h) n
-plain_outs h (Gives n drawn) plain = dropped_other (is_full h) n
-plain_outs h (Spends_unread n payload) plain = (tt, tt)
-plain_outs h (Notifies n) plain = (tt, tt)
-plain_outs h (Resends n payload) plain = dropped_other (is_full h) n
-plain_outs h (Hears_value n setting) plain = (tt, tt)
-plain_outs h (Has_no_room n property) plain = (tt, tt)
-plain_outs h (Drops_no_more n) plain = (tt, tt)
-plain_outs h Submits_abort plain = (tt, tt)
-plain_outs h Submits_front plain = (tt, tt)
-plain_outs h (Starts n plan more payload) plain = (tt, tt)
-plain_outs h (Gives_text n payload) plain = (tt, tt)
-plain_outs h (Gives_segment n more payload) plain = (tt, tt)
-plain_outs h (Begins n session command) plain = (tt, tt)
-plain_outs h (Begin_unkept n) plain = (tt, tt)
-plain_outs h event plain = tt
+final_other : (command : ℕ) (status : FinalStatus) → IsOther (entry.Out command (ended_of status))
+final_other command final.NoSupport = tt
+final_other command final.Fail = tt
+final_other command final.Success = tt
+
+plain_put : (event : HostEvent) → IsPlainEvent event → MayPut IsOther event
+plain_put (Requests_do event moment) plain = absurd plain
+plain_put Line_ticks plain = absurd plain
+plain_put (Node_ticks n) plain = absurd plain
+plain_put (Finishes n session id command status wake_request) plain = (final_other command status, (λ setting. tt), tt)
+plain_put event plain = tt
 
 plainly_submitted : SubmittedAre IsPlainEvent
 plainly_submitted = record {
@@ -199,7 +145,7 @@ module _ (taken : List Entry → Carried → List Told) where
   GivesWell past told = EachAfter (Well heeds) past told
 
   plainly : (past told : List Entry) (h : HostState) (event : HostEvent) → IsPlainEvent event → AreTold (outs h event) told → GivesWell past told
-  plainly past told h event plain are = others_well heeds past told (told_so IsOther line_other (outs h event) told (plain_outs h event plain) are)
+  plainly past told h event plain are = others_well heeds past told (told_so IsOther line_other (outs h event) told (outs_put IsOther h event (plain_put event plain)) are)
 
   ticks_some : (left : List HostEvent) (past : List Entry) (m : HostMachine) → Ground (Ticking left) past m → 1 ≤ m.clock
   ticks_some left past m g = (in_tick (Ticking left) past m g).1
@@ -216,7 +162,7 @@ module _ (taken : List Entry → Carried → List Told) where
         → Know (Ticking (Requests_do Ticks BeforeItsTick ∷ left)) past m → GivesWell past told
     request_gives left g tie are known =
         requests_well taken past told m.state (facts_at here past m g) m.clock g.shows Ticks tt (λ n node. let so = known n node.0 node.1 in record { signs = false; time = m.clock - 1; now = m.clock; node = so.node; own = so.own })
-        (time_told here past told m (ground here past m g) numbered) (noted_is (request_entries m.state Ticks) told are) (carried_nodes m.state g.sleep.0.0.0.0.1)
+        (time_told here past told m (ground here past m g) numbered) (noted_told (request_entries m.state Ticks) told are) (carried_nodes m.state g.sleep.0.0.0.0.1)
         (λ u how under end_is ends k more payload purpose node runs bad at.
         let so : AttemptsSo heeds k past m.state (m.clock - 1) m.clock = known k node.0 node.1 in
         let asks = so.sends (so.own runs u under ∙ ap (λ (p : Purpose). is_for k p) purpose ∙ eq-eqb k k refl) in
@@ -272,7 +218,7 @@ module _ (taken : List Entry → Carried → List Told) where
 
         given : gives_up m.state.side.turn (turn_ticked m.state.side.turn) ≡ true → AreTold (noted (request_entries ticked Fails)) told → GivesWell past told
         given gives puts =
-            requests_well taken past told ticked facts m.clock shows Fails tt tied timely (noted_is (request_entries ticked Fails) told puts) (carried_nodes m.state g.sleep.0.0.0.0.1)
+            requests_well taken past told ticked facts m.clock shows Fails tt tied timely (noted_told (request_entries ticked Fails) told puts) (carried_nodes m.state g.sleep.0.0.0.0.1)
             (λ u how under end_is ends k more payload purpose node runs bad at.
             let so = known k node.0 node.1 in
             let asks = so.sends (so.own runs u under ∙ ap (λ (p : Purpose). is_for k p) purpose ∙ eq-eqb k k refl) in
@@ -307,7 +253,7 @@ module _ (taken : List Entry → Carried → List Told) where
   node_gives k left past told m numbered some g are known =
       let here : Phase = Ticking (Node_ticks k ∷ left) in
       let node : IsNode k = g.sleep.1.1.0 in
-      tick_well taken past told m.state (facts_at here past m g) m.clock k (g.shows k) (noted_is (attempt_entries k (tick_end (node_of m.state k)) (open_command (node_of m.state k))) told are)
+      tick_well taken past told m.state (facts_at here past m g) m.clock k (g.shows k) (noted_told (attempt_entries k (tick_end (node_of m.state k)) (open_command (node_of m.state k))) told are)
       (time_told here past told m (ground here past m g) numbered) (m.clock - 1) m.clock (omega (arith, some))
       (subst (λ (b : Bool). AttemptsSo heeds k past m.state (if b || is_to_tick k left then m.clock - 1 else m.clock) m.clock) (eq-eqb k k refl) (known k node.0 node.1))
 
@@ -332,7 +278,7 @@ module _ (taken : List Entry → Carried → List Told) where
       let here : Phase = Behind (Requests_do event moment ∷ left) in
       requests_well taken past told m.state (facts_at here past m g) m.clock g.shows event (chip_told event (ground here past m g).1.1.0)
       (λ n node. let so = known.0 n node.0 node.1 in record { signs = _; time = m.clock; now = m.clock; node = so.node; own = so.own })
-      (time_told here past told m (ground here past m g) numbered) (noted_is (request_entries m.state event) told are) (carried_nodes m.state g.sleep.0.0.0.0.1)
+      (time_told here past told m (ground here past m g) numbered) (noted_told (request_entries m.state event) told are) (carried_nodes m.state g.sleep.0.0.0.0.1)
       (λ u how under end_is ends k more payload purpose node runs bad at.
       let so = known.0 k node.0 node.1 in
       ap₂ (λ (b : Bool) (t : ℕ). ends_badly (asked past) b t) (so.inner runs u more payload under purpose) at ∙ (known.1.1 u k more payload how under purpose end_is).1 ∙ bad)

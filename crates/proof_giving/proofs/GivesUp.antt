@@ -44,12 +44,11 @@ use Rattle.host_model.specs.Sessions.{command_by, open_command}
 use Rattle.host_model.specs.After.{requests_do}
 use Rattle.host_model.specs.Ends.{Bad, Good as part_good, PartEnd, Passed_over, asleep_entry, attempt_entries, end_entries, end_entries_if, failed_entry, neighbours_entry, part_end, part_entries, task_entries}
 use Rattle.host_model.specs.Facts.{IsCommandOf}
-use Rattle.host_model.specs.Outs.{noted, request_entries}
+use Rattle.host_model.specs.Outs.{request_entries}
 use Rattle.proof_host.specs.Facts.{Facts}
 use Rattle.proof_queue.specs.proof_attempts.Attempts.{IsSign, begun_of, has_ended_badly}
 use Rattle.proof_queue.specs.proof_attempts.proof_requests.Ends.{next_at}
 use Rattle.proof_queue.specs.proof_attempts.proof_requests.law_host.Heard.{heeds_alone}
-use Rattle.proof_queue.specs.proof_attempts.proof_requests.proof_alone.Steps.{AreTold}
 use Rattle.proof_queue.specs.proof_attempts.proof_work.Doing.{IsTold}
 use Rattle.proof_host.specs.Tables.{nodes_by}
 use Rattle.proof_queue.proofs.AttemptsGo.{running_goes}
@@ -86,10 +85,6 @@ others_well heeds past [] all = tt
 others_well heeds past (e ∷ told) all = (one_well heeds past e all.0, others_well heeds (past ++ e ∷ []) told all.1)
 
 -- what is put out besides is entered as it is
-pub noted_is : (entries told : List Entry) → AreTold (noted entries) told → told ≡ entries
-noted_is [] told is = is
-noted_is (e ∷ entries) told (rest, is, more) = is ∙ ap (λ (l : List Entry). e ∷ l) (noted_is entries rest more)
-
 asleep_other : (fell : Bool) (n : ℕ) → AllByRecursion IsOther (asleep_entry fell n)
 asleep_other true n = (tt, tt)
 asleep_other false n = tt
@@ -257,9 +252,6 @@ module _ (taken : List Entry → Carried → List Told) (past told : List Entry)
           ends_by e.u e.under e.how (nodes e.u e.under) (badly e.u e.how e.under (is ∙ ap (λ (x : End). Some x) e.is) e.ends) e.u.purpose refl (all ∙ ap (λ (x : End). end_entries g x) e.is)
 
 -- ---- a tick of a node
-
-hold_attempts : (s : NodeState) → s.series ≡ Running → s.again_wait ≡ 0 → (after_again_tick (after_hold_tick s)).series ≡ Running
-hold_attempts s runs none = ap (λ (w : ℕ). (if w == 1 then after_again (with_again (after_hold_tick s) 0) else with_again (after_hold_tick s) (w - 1)).series) none ∙ runs
 
 waits_kept : (s : NodeState) → (after_again_tick (after_hold_tick s)).attempt_wait ≡ s.attempt_wait
 waits_kept s = by (s.again_wait == 1)

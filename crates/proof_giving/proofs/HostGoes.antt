@@ -1,6 +1,6 @@
 -- What the end of the request of a host makes of a node and of its attempts, as they are told.
 use Rattle.std.proofs.Common.{◌≡◌, ◌⊎◌, ℕ, ◌+◌, ◌==◌, ◌&&◌, nat_lt, not, Bool, true, false, if◌then◌else◌, inl, inr, List, Option, Some, None, refl, sym, ap, ◌∙◌, subst}
-use Rattle.std.proofs.lemmas.Bool.{cases_eq, eq-eqb, ne_eqb}
+use Rattle.std.proofs.lemmas.Bool.{cases_eq, eq-eqb, ne_eqb, and_right}
 use Rattle.zw_text.specs.declared.entry.Entry.{Entry}
 use Rattle.zw_text.specs.Transcript.{folded}
 use Rattle.law_time.specs.Attempts.{Attempts, anew}
@@ -49,10 +49,6 @@ attempt_told last a k NoneRan command = refl
 attempt_told last a k Again command = refl
 attempt_told last a k (Unanswered fell) None = asleep_still last a fell k
 attempt_told last a k (Unanswered fell) (Some command) = asleep_still last (if last command then anew a else a) fell k
-
-and_false : (b : Bool) → (b && false) ≡ false
-and_false true = refl
-and_false false = refl
 
 not_told : (a : Attempts) (b ends : Bool) → ends ≡ false → (if b && ends then anew a else a) ≡ a
 not_told a true ends none = ap (λ (c : Bool). if c then anew a else a) none
@@ -131,7 +127,7 @@ module _ (h : HostState) (n : ℕ) (facts : HostFacts h) (a : Attempts) (time : 
         by : (b : Bool) → (k == n) ≡ b → NodeSo a (if b then after_sign s else s) time later
         by true is = absurd (let bad : true ≡ false = sym (ap (λ (b : Bool). b && true) is) ∙ not_good in cc)
         by false is = kept (λ runs. none runs (ap (λ (b : Bool). b && false) is))
-    part_by k Passed_over moment not_good none over = kept (λ runs. none runs (and_false (k == n)))
+    part_by k Passed_over moment not_good none over = kept (λ runs. none runs (and_right (k == n) false refl))
     part_by k Bad moment not_good none over =
         attempts_by k moment (λ runs other. none runs (ap (λ (b : Bool). b && true) other)) (λ runs own. over runs (ap (λ (b : Bool). b && true) own))
 

@@ -1,5 +1,5 @@
 -- Whether a frame carries a segment that others follow, of the open session of a node: by the transcript as in the host, and so it stays until another session begins.
-use Rattle.std.proofs.Common.{◌≡◌, ◌⊎◌, ℕ, ◌-◌, ◌*◌, ◌/◌, ◌%◌, ◌||◌, not, Bool, true, false, inl, inr, List, [], ◌∷◌, ◌++◌, length, Option, Some, None, refl, sym, ap, ap₂, ◌∙◌, subst}
+use Rattle.std.proofs.Common.{◌≡◌, ◌⊎◌, ℕ, ◌-◌, ◌*◌, ◌/◌, ◌%◌, not, Bool, false, inl, inr, List, [], ◌∷◌, ◌++◌, length, Option, Some, None, refl, sym, ap, ap₂, ◌∙◌, subst}
 use Rattle.std.specs.Prelude.{bytes_eq}
 use Rattle.std.specs.List.{AllByRecursion, list_any}
 use Rattle.std.proofs.lemmas.List.Elements.{recursion_from_All}
@@ -29,6 +29,7 @@ use Rattle.proof_queue.specs.proof_attempts.proof_requests.law_host.Heard.{heeds
 use Rattle.proof_queue.proofs.Opening.{OpenLast, open_last}
 use Rattle.proof_queue.proofs.Kept.{BookKept}
 use Rattle.proof_queue.proofs.Segments.{Shows, open_is_last}
+use Rattle.proof_queue.proofs.proof_requests_Judging.{or_false}
 use Rattle.host_heard.specs.declared.told.Told.{Told}
 
 -- ---- of a session
@@ -89,10 +90,6 @@ module _ (taken : List Entry → Carried → List Told) where
       form : (session_of listing_heard past n at.command).form ≡ form_of command.carriage.outer
       form = ap (λ (o : Option Order). form_by (classes_for listing_heard past n at.command) o) taken_so.0 ∙ ap (λ (c : Carriage). form_of c.outer) (sym taken_so.1)
 
-      or_none : (b : Bool) → (b || false) ≡ b
-      or_none true = refl
-      or_none false = refl
-
       is_so : IsOpen past h n
       is_so = record {
         session = s;
@@ -102,7 +99,7 @@ module _ (taken : List Entry → Carried → List Told) where
         carried = carried;
         found = found;
         inner = λ unit.
-            ap (λ (l : List ℕ). list_any (is_of_inner heeds past n unit) l) (shows.last ∙ at.last) ∙ or_none (is_of_inner heeds past n unit at.command)
+            ap (λ (l : List ℕ). list_any (is_of_inner heeds past n unit) l) (shows.last ∙ at.last) ∙ or_false (is_of_inner heeds past n unit at.command)
             ∙ inner_as (session_of listing_heard past n at.command) (session_of listing_heard past n at.command).form unit
             ∙ ap₂ (λ (f : Form) (k : ℕ). inner_by f k (session_of listing_heard past n at.command).message unit) form count
             ∙ ap (λ (m : List ℕ). inner_by (form_of command.carriage.outer) s m unit) message;

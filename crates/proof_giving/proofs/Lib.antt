@@ -64,4 +64,8 @@ pub use Rattle.proof_queue.proofs.Ticking
 pub use Rattle.proof_queue.proofs.proof_waking_Judging
 pub use Rattle.proof_queue.proofs.Running
 pub use Rattle.proof_queue.proofs.UnderWay
+pub use Rattle.proof_queue.proofs.proof_known_Saying
+pub use Rattle.proof_queue.proofs.proof_attempts_Ending
 pub use Rattle.proof_queue.proofs.Late
+pub use Rattle.proof_queue.proofs.proof_requests_Judging
+pub use Rattle.proof_queue.proofs.proof_waking_Parts

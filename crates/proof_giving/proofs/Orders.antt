@@ -1,7 +1,6 @@
 -- What an event of a host leaves of the sessions of a node and of orders: all but where a session begins.
 use Rattle.std.proofs.Common.{◌≡◌, ℕ, zero, suc, ◌+◌, ◌-◌, ◌<◌, ◌==◌, Bool, true, false, if◌then◌else◌, List, [], ◌∷◌, length, Option, Some, None, refl, sym, ◌∙◌, subst, arith}
 use Rattle.std.specs.Prelude.{nat_lt}
-use Rattle.std.specs.List.{AllByRecursion}
 use Rattle.std.proofs.lemmas.Option.{slice_get_within}
 use Rattle.zw_base.proofs.Each.{all-weaker}
 use Rattle.supervision.specs.Host.{HostBook, open_session, told_of}
@@ -31,7 +30,7 @@ use Rattle.s0_session.specs.Nonces.{live_of}
 use Rattle.serial_link.specs.State.{tick_side}
 use Rattle.proof_host.proofs.Commands.{taken_pushed, taken_set}
 use Rattle.proof_host.specs.Tables.{taken_at}
-use Rattle.proof_queue.proofs.Doings.{Doing, did, does_at, end_does, failing_does, held_does, node_after, part_does, purpose_does, task_does}
+use Rattle.proof_queue.proofs.Doings.{AllDo, Doing, EndsDo, did, does_at, end_all, failing_all, held_all, kept_by_all, node_after}
 use Rattle.proof_giving.specs.Stays.{KeepsSessions, NoSession, NothingBegins}
 use Rattle.proof_queue.proofs.Kept.{BookKept, book_same, occasion_kept, room_keeps, sign_kept, told_kept}
 
@@ -99,14 +98,8 @@ event_kept s Ends_no_more none = sleep_kept s.book (after_no_more s Unasked) (sa
 event_kept s Ticks none = tick_kept s
 event_kept s event none = same_kept s
 
-abbrev NoneBegins : Doing → Type 0
-NoneBegins d = NotBegun d.event
-
-does_kept : (n : ℕ) (s : NodeState) (doings : List Doing) → AllByRecursion NoneBegins doings → BookKept s.book (does_at n s doings).book
-does_kept n s [] all = same_kept s
-does_kept n s (d ∷ more) all =
-    let next : NodeState = if d.node == n then after_node s d.event else s in
-    kept_on s.book next.book (does_at n next more).book (either_kept (d.node == n) s.book (after_node s d.event) s (event_kept s d.event all.0) (same_kept s)) (does_kept n next more all.1)
+does_kept : (n : ℕ) (s : NodeState) (doings : List Doing) → AllDo NotBegun doings → BookKept s.book (does_at n s doings).book
+does_kept = kept_by_all (λ (s t : NodeState). BookKept s.book t.book) NotBegun same_kept (λ (s t u : NodeState). kept_on s.book t.book u.book) event_kept
 
 -- ---- a host
 
@@ -118,46 +111,20 @@ IsSteady (node_starts plan) = ⊥
 IsSteady (node_takes_nonce seen text) = ⊥
 IsSteady event = Unit {0}
 
-abbrev pub DoesSteadily : Doing → Type 0
-DoesSteadily d = IsSteady d.event
+steady_ends : EndsDo IsSteady
+steady_ends = record { answered = tt; attempt_over = λ moment. tt; let_sleep = tt; held = tt }
 
-part_steady : (k : ℕ) (end : PartEnd) (moment : Moment) → AllByRecursion DoesSteadily (part_does k end moment)
-part_steady k Good moment = (tt, tt)
-part_steady k Passed_over moment = tt
-part_steady k Bad moment = (tt, tt)
-
-task_steady : (task : Task) → AllByRecursion DoesSteadily (task_does task)
-task_steady (NoMore k) = (tt, tt)
-task_steady task = tt
-
-purpose_steady : (purpose : Purpose) (how : How) (moment : Moment) → AllByRecursion DoesSteadily (purpose_does purpose how moment)
-purpose_steady (Attempt k more payload) how moment = part_steady k (part_end more how) moment
-purpose_steady (Housekeeping task) how moment = task_steady task
-purpose_steady Abort how moment = tt
-
-end_steady : (end : Option End) (moment : Moment) → AllByRecursion DoesSteadily (end_does end moment)
-end_steady None moment = tt
-end_steady (Some end) moment = purpose_steady end.purpose end.how moment
-
-failing_steady : (b : Bool) (h : HostState) → AllByRecursion DoesSteadily (failing_does b h)
-failing_steady true h = end_steady (end_at h.requests Fails) BeforeItsTick
-failing_steady false h = tt
-
-held_steady : (n : ℕ) (b : Bool) → AllByRecursion DoesSteadily (held_does n b)
-held_steady n true = (tt, tt)
-held_steady n false = tt
-
-pub did_steady : (h : HostState) (event : HostEvent) → NothingBegins event → AllByRecursion DoesSteadily (did h event)
+pub did_steady : (h : HostState) (event : HostEvent) → NothingBegins event → AllDo IsSteady (did h event)
 did_steady h (Accepts order carriage) none = (tt, (tt, tt))
 did_steady h (Cancels command) none = (tt, tt)
 did_steady h (Joins n) none = (tt, tt)
-did_steady h (Requests_do event moment) none = end_steady (end_at h.requests event) moment
+did_steady h (Requests_do event moment) none = end_all IsSteady steady_ends (end_at h.requests event) moment
 did_steady h (Interviews n listens classes update) none = (tt, tt)
 did_steady h (Works n id) none = (tt, tt)
-did_steady h (Finishes n session id command status wake_request) none = (tt, held_steady n (is_held h n wake_request))
+did_steady h (Finishes n session id command status wake_request) none = (tt, held_all IsSteady steady_ends n (is_held h n wake_request))
 did_steady h (Takes_nonce n seen text) none = absurd none
 did_steady h (Notifies n) none = (tt, tt)
-did_steady h Line_ticks none = failing_steady (gives_up h.side.turn (tick_side h.side).turn) h
+did_steady h Line_ticks none = failing_all IsSteady steady_ends (gives_up h.side.turn (tick_side h.side).turn) h
 did_steady h (Node_ticks n) none = (tt, tt)
 did_steady h (Queues_no_more n) none = (tt, tt)
 did_steady h (Drops_no_more n) none = (tt, tt)
@@ -173,11 +140,11 @@ steady_not_begun node_begins steady = absurd steady
 steady_not_begun node_restarts steady = absurd steady
 steady_not_begun event steady = tt
 
-did_none : (h : HostState) (event : HostEvent) → NoSession event → AllByRecursion NoneBegins (did h event)
+did_none : (h : HostState) (event : HostEvent) → NoSession event → AllDo NotBegun (did h event)
 did_none h (Begins n session command) none = absurd none
 did_none h (Starts n plan more payload) none = (tt, tt)
 did_none h (Takes_nonce n seen text) none = (tt, tt)
-did_none h event none = all-weaker DoesSteadily NoneBegins (λ d steady. steady_not_begun d.event steady) (did h event) (did_steady h event tt)
+did_none h event none = all-weaker (λ (d : Doing). IsSteady d.event) (λ (d : Doing). NotBegun d.event) (λ d steady. steady_not_begun d.event steady) (did h event) (did_steady h event tt)
 
 pub books_kept : (h : HostState) (event : HostEvent) (n : ℕ) → n < length h.nodes → NoSession event → BookKept (node_of h n).book (node_of (after h event) n).book
 books_kept h event n within none =

@@ -5,7 +5,6 @@ use Rattle.std.specs.List.{AllByRecursion}
 use Rattle.std.proofs.lemmas.Bool.{both_ways, or_right}
 use Rattle.zw_base.proofs.Each.{all-append, all-weaker}
 use Rattle.serial_frame.specs.Items.{unit_text}
-use Rattle.serial_frame.specs.Frame.{FrameParts}
 use Rattle.serial_frame.specs.declared.item.Item.{Item}
 use Rattle.serial_frame.specs.declared.item.Item.TheVariants.{Good, Refused as refused_item}
 use Rattle.serial_frame.specs.declared.item.Refusal.TheVariants.{Stray, BadLength, BadSum, BadKind, Aborted}
@@ -18,7 +17,6 @@ use Rattle.zw_text.specs.declared.line.Line.TheVariants as lines
 use Rattle.zw_text.specs.declared.entry.Ended.TheVariants as ended
 use Rattle.zw_text.specs.declared.entry.Entry.{Entry}
 use Rattle.zw_text.specs.declared.entry.Entry.TheVariants as entry
-use Rattle.zw_text.proofs.Views.{folded-append}
 use Rattle.host_heard.specs.declared.told.Told.{Told}
 use Rattle.law_transcript.specs.Lists.{EachAfter}
 use Rattle.law_transcript.specs.Units.{Carried}
@@ -45,16 +43,14 @@ use Rattle.host_model.specs.State.{HostState, node_of}
 use Rattle.host_model.specs.Sessions.{open_command}
 use Rattle.host_model.specs.After.{requests_do}
 use Rattle.host_model.specs.Ends.{Bad, Good as part_good, PartEnd, Passed_over, asleep_entry, attempt_entries, end_entries, end_entries_if, part_end, part_entries}
-use Rattle.host_model.specs.Events.{HostEvent, Accepts, Begin_unkept, Begins, Cancels, Drops_no_more, Finishes, Gives, Gives_segment, Gives_text, Has_no_room, Hears, Hears_value, Interview_unkept, Interviews, Is_unkept, Line_ticks, Node_ticks, Notifies, Offers, Reports_old, Requests_do, Resends, Spends_unread, Starts, Submits_abort, Submits_front, Unreads}
+use Rattle.host_model.specs.Events.{HostEvent, Accepts, Cancels, Interview_unkept, Interviews, Line_ticks, Node_ticks, Requests_do}
 use Rattle.host_model.specs.May.{May as May_event}
-use Rattle.host_model.specs.Outs.{answers, copy_out, noted, outs, request_entries}
+use Rattle.host_model.specs.Outs.{answers, outs, request_entries}
 use Rattle.host_model.specs.Pumping.{no_more_event}
 use Rattle.host_model.specs.Ticking.{tick_events}
-use Rattle.host_model.proofs.Submitted.{SleepersAre, SubmittedAre, next_is, no_more_is}
 use Rattle.host_model.specs.Taking.{InterviewEvents, told_requests}
 use Rattle.host_model.specs.declared.out.HostOut.{HostOut}
 use Rattle.host_model.specs.declared.out.HostOut.TheVariants.{Note, Write}
-use Rattle.serial_link.specs.State.{copy_due}
 use Rattle.proof_host.specs.Facts.{Facts}
 use Rattle.proof_host.proofs.Lists.{each-append}
 use Rattle.proof_queue.specs.Heeding.{AllSteps, HeedsAs, HeedsSo}
@@ -72,15 +68,17 @@ use Rattle.proof_queue.proofs.Holding.{clock_now}
 use Rattle.proof_queue.proofs.HostOuts.{OutsAre, OwnIs, SharedAre, outs_are}
 use Rattle.proof_queue.proofs.Opening.{OpenLast, open_last}
 use Rattle.proof_queue.proofs.Stepping.{behind_notes, first_same, not_awaiting}
-use Rattle.proof_queue.proofs.proof_waking_Parts.{IsNote as IsNoted}
+use Rattle.proof_queue.proofs.proof_waking_Parts.{HearsNothing, IsFrameOr, IsNote as IsNoted, puts_frames_or, next_nothing, no_more_nothing, noted_told}
+use Rattle.proof_queue.proofs.proof_waking_Settling.{directly_one}
+use Rattle.proof_queue.proofs.Wrote.{chip_told}
 use Rattle.proof_giving.specs.Tie.{AttemptsAs, is_for}
 use Rattle.proof_giving.specs.Walking.{Grounds, KnowsAttempts, gives_sign}
 use Rattle.proof_giving.proofs.Along.{is_opened}
-use Rattle.proof_giving.proofs.GivesUp.{IsUnanswered, Well, ends_third, noted_is}
+use Rattle.proof_giving.proofs.GivesUp.{IsUnanswered, Well, ends_third}
 use Rattle.proof_giving.proofs.Interviewed.{ends_other}
 use Rattle.proof_giving.proofs.Prompt.{behind_free, other_free, owes_apart}
 use Rattle.proof_giving.proofs.Requesting.{event_ends}
-use Rattle.proof_giving.proofs.Walked.{chip_told, ground}
+use Rattle.proof_giving.proofs.Walked.{ground}
 
 -- ---- entries that stand apart from a frame
 
@@ -119,9 +117,6 @@ stop_next (entry.Overrun Host) still = refl
 stop_next (entry.Overrun Chip) still = refl
 stop_next e still = refl
 
-directly_next : (past : List Entry) (e : Entry) → is_directly_after (past ++ e ∷ []) ≡ directly_step (is_directly_after past) e
-directly_next past e = folded-append directly_step false past (e ∷ [])
-
 module _ (heeds : Heeds) where
   abbrev MayGive : List Entry → Entry → Type 0
   MayGive past e = may_give_up heeds past e ≡ true
@@ -138,7 +133,7 @@ module _ (heeds : Heeds) where
   rest_may : (past told : List Entry) → is_directly_after past ≡ false → EachAfter (Well heeds) past told → AllByRecursion IsStill told → EachAfter MayGive past told × (is_directly_after (past ++ told) ≡ false)
   rest_may past [] apart well still = (tt, ap is_directly_after (append-nil past) ∙ apart)
   rest_may past (e ∷ told) apart well still =
-      let more = rest_may (past ++ e ∷ []) told (directly_next past e ∙ ap (λ (b : Bool). directly_step b e) apart ∙ stop_next e still.0) well.1 still.1 in
+      let more = rest_may (past ++ e ∷ []) told (directly_one past e ∙ ap (λ (b : Bool). directly_step b e) apart ∙ stop_next e still.0) well.1 still.1 in
       ((may_one past e well.0 (owes_apart heeds past apart), more.0), ap is_directly_after (sym (append_assoc past (e ∷ []) told)) ∙ more.1)
 
   nothing_may : (past told : List Entry) → told ≡ [] → IsFree (past ++ told) → EachAfter MayGive past told × IsFree (past ++ told)
@@ -147,7 +142,7 @@ module _ (heeds : Heeds) where
   first_may : (past : List Entry) (e : Entry) (told : List Entry) → MayGive past e → directly_step (is_directly_after past) e ≡ false → EachAfter (Well heeds) (past ++ e ∷ []) told → AllByRecursion IsStill told
       → EachAfter MayGive past (e ∷ told) × IsFree (past ++ e ∷ told)
   first_may past e told may stops well still =
-      let more = rest_may (past ++ e ∷ []) told (directly_next past e ∙ stops) well still in
+      let more = rest_may (past ++ e ∷ []) told (directly_one past e ∙ stops) well still in
       ((may, more.0), owes_apart heeds (past ++ e ∷ told) (ap is_directly_after (sym (append_assoc past (e ∷ []) told)) ∙ more.1))
 
   all_may : (past told : List Entry) → IsFree past → EachAfter (Well heeds) past told → Stops told → EachAfter MayGive past told × IsFree (past ++ told)
@@ -199,45 +194,13 @@ abbrev IsNoAck : HostOut → Type 0
 IsNoAck (Write Ack) = ⊥
 IsNoAck out = Unit {0}
 
-noted_no_ack : (entries : List Entry) → AllByRecursion IsNoAck (noted entries)
-noted_no_ack [] = tt
-noted_no_ack (e ∷ entries) = (tt, noted_no_ack entries)
+frame_no_ack : (put : HostOut) → IsFrameOr IsNote put → IsNoAck put
+frame_no_ack (Write Ack) is = absurd is
+frame_no_ack put is = tt
 
-abbrev HearsNot : HostEvent → Type 0
-HearsNot (Hears item) = ⊥
-HearsNot event = Unit {0}
-
-no_acks : (h : HostState) (event : HostEvent) → HearsNot event → AllByRecursion IsNoAck (outs h event)
-no_acks h (Hears item) not_hears = absurd not_hears
-no_acks h (Requests_do event moment) not_hears = noted_no_ack (request_entries h event)
-no_acks h (Finishes n session id command status wake_request) not_hears = (tt, noted_no_ack _)
-no_acks h (Offers n) not_hears = noted_no_ack _
-no_acks h (Gives n drawn) not_hears = noted_no_ack _
-no_acks h (Resends n payload) not_hears = noted_no_ack _
-no_acks h Line_ticks not_hears = all-append IsNoAck (copy_out (copy_due h.side.turn)) (noted _) (copies (copy_due h.side.turn)) (noted_no_ack _)
-  where
-    copies : (o : Option FrameParts) → AllByRecursion IsNoAck (copy_out o)
-    copies None = tt
-    copies (Some f) = (tt, tt)
-no_acks h (Node_ticks n) not_hears = noted_no_ack _
-no_acks h (Interviews n listens classes update) not_hears = (tt, tt)
-no_acks h (Interview_unkept n update) not_hears = (tt, tt)
-no_acks h (Unreads n payload) not_hears = (tt, tt)
-no_acks h (Is_unkept n) not_hears = (tt, tt)
-no_acks h (Reports_old n id) not_hears = (tt, tt)
-no_acks h (Spends_unread n payload) not_hears = (tt, tt)
-no_acks h (Notifies n) not_hears = (tt, tt)
-no_acks h (Hears_value n setting) not_hears = (tt, tt)
-no_acks h (Has_no_room n property) not_hears = (tt, tt)
-no_acks h (Drops_no_more n) not_hears = (tt, tt)
-no_acks h (Starts n plan more payload) not_hears = (tt, tt)
-no_acks h (Gives_text n payload) not_hears = (tt, tt)
-no_acks h (Gives_segment n more payload) not_hears = (tt, tt)
-no_acks h (Begins n session command) not_hears = (tt, tt)
-no_acks h (Begin_unkept n) not_hears = (tt, tt)
-no_acks h Submits_abort not_hears = (tt, tt)
-no_acks h Submits_front not_hears = (tt, tt)
-no_acks h event not_hears = tt
+no_acks : (h : HostState) (event : HostEvent) → HearsNothing event → AllByRecursion IsNoAck (outs h event)
+no_acks h event nothing =
+    all-weaker (IsFrameOr IsNote) IsNoAck frame_no_ack (outs h event) (puts_frames_or IsNote h event nothing (outs_are IsNote shared_notes h event (own_notes event)))
 
 mark_still : (e : Entry) → IsOfUnit e → IsStill e
 mark_still (entry.Dropped Host) mark = tt
@@ -263,8 +226,8 @@ noted_acks [] all = tt
 noted_acks (Note e ∷ puts) all = (tt, noted_acks puts all.1)
 noted_acks (Write unit ∷ puts) all = absurd all.0
 
-event_stops : (h : HostState) (event : HostEvent) (told : List Entry) → HearsNot event → AreTold (outs h event) told → Stops told
-event_stops h event told not_hears are = stops_told (outs h event) told (outs_are IsNote shared_notes h event (own_notes event)) (no_acks h event not_hears) are
+event_stops : (h : HostState) (event : HostEvent) (told : List Entry) → HearsNothing event → AreTold (outs h event) told → Stops told
+event_stops h event told nothing are = stops_told (outs h event) told (outs_are IsNote shared_notes h event (own_notes event)) (no_acks h event nothing) are
 
 others_stop : (e : Entry) → IsOfOthers e → Stops (e ∷ [])
 others_stop (entry.Written side unit) of = absurd of
@@ -286,26 +249,12 @@ answers_stop h (Cancels command) = (tt, tt, tt)
 answers_stop h event = tt
 
 -- events at which nothing is judged
-sleepers_not : SleepersAre HearsNot
-sleepers_not = record { queues = λ n. tt; drops = λ n. tt }
+hears_not : (first event : HostEvent) → HearsNothing first → event ≡ first → HearsNothing event
+hears_not first event nothing is = subst HearsNothing (sym is) nothing
 
-submitted_not : SubmittedAre HearsNot
-submitted_not = record {
-  abort = tt;
-  front = tt;
-  starts = λ n plan more payload. tt;
-  text = λ n payload. tt;
-  segment = λ n more payload. tt;
-  begins = λ n session command. tt;
-  unkept = λ n. tt;
-}
-
-hears_not : (first event : HostEvent) → HearsNot first → event ≡ first → HearsNot event
-hears_not first event not_hears is = subst HearsNot (sym is) not_hears
-
-ticks_not : (first : HostEvent) (left : List HostEvent) (past : List Entry) (m : HostMachine) → KnowsTick (first ∷ left) past m → HearsNot first
-ticks_not first left past m (inl (nodes, is, all, known)) = subst HearsNot (sym (first_same first Line_ticks left _ is)) tt
-ticks_not first left past m (inr (inl (nodes, is, all, known))) = subst HearsNot (sym (first_same first (Requests_do Ticks BeforeItsTick) left nodes is)) tt
+ticks_not : (first : HostEvent) (left : List HostEvent) (past : List Entry) (m : HostMachine) → KnowsTick (first ∷ left) past m → HearsNothing first
+ticks_not first left past m (inl (nodes, is, all, known)) = subst HearsNothing (sym (first_same first Line_ticks left _ is)) tt
+ticks_not first left past m (inr (inl (nodes, is, all, known))) = subst HearsNothing (sym (first_same first (Requests_do Ticks BeforeItsTick) left nodes is)) tt
 ticks_not (Node_ticks k) left past m (inr (inr (all, tied))) = tt
 ticks_not first left past m (inr (inr (all, tied))) = absurd all.0
 
@@ -467,7 +416,7 @@ module _ (taken : List Entry → Carried → List Told) where
     ended_by u under how Abort is all = other u under (λ n. ap (λ (p : Purpose). is_for n p) is)
 
     hears_well : IsTold event → Ends_well past told
-    hears_well of_told = by (end_at m.state.requests event) refl (noted_is (request_entries m.state event) told are)
+    hears_well of_told = by (end_at m.state.requests event) refl (noted_told (request_entries m.state event) told are)
       where
         by : (o : Option End) → end_at m.state.requests event ≡ o → told ≡ end_entries_if (requests_do m.state event) o → Ends_well past told
         by None is all = none_told all
@@ -517,10 +466,10 @@ module _ (taken : List Entry → Carried → List Told) where
   does_well Sleeping next past m event told may g known later knew well owes =
       let (node, wants, is, next_sleeps) = may.0 in
       let all = all_may heeds past told owes well
-      (event_stops m.state (no_more_event m.state node) told (no_more_is HearsNot sleepers_not m.state node) (subst (λ (e : HostEvent). AreTold (outs m.state e) told) is may.2)) in
+      (event_stops m.state (no_more_event m.state node) told (no_more_nothing m.state node) (subst (λ (e : HostEvent). AreTold (outs m.state e) told) is may.2)) in
       (all.0, owes_to next Sleeping (past ++ told) (done m event) next_sleeps all.1)
   does_well Submitting next past m event told may g known later knew well owes =
-      let all = all_may heeds past told owes well (event_stops m.state event told (next_is HearsNot submitted_not m.state event may.0.0) may.2) in (all.0, owes_to next Submitting (past ++ told) (done m event) may.0.1 all.1)
+      let all = all_may heeds past told owes well (event_stops m.state event told (next_nothing m.state event may.0.0) may.2) in (all.0, owes_to next Submitting (past ++ told) (done m event) may.0.1 all.1)
   does_well (Ticking []) next past m event told may g known later knew well owes = absurd may.0
   does_well (Behind []) next past m event told may g known later knew well owes = absurd may.0
   does_well Resting next past m event told may g known later knew well owes = absurd may.0

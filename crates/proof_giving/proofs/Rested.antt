@@ -29,14 +29,12 @@ use Rattle.proof_queue.specs.proof_attempts.proof_requests.proof_alone.State.{Ho
 use Rattle.proof_queue.specs.proof_attempts.proof_requests.proof_alone.Steps.{Step, Tells, Comes, Misses, Says, Says_nothing, Asks, Refuses, Shows, Restarts, Begins_tick, Numbers, Judges, Does, entries, happens}
 use Rattle.proof_giving.specs.Walking.{Grounds, KnowsAttempts}
 use Rattle.proof_giving.proofs.AtRest.{none_is_over}
+use Rattle.chip_functions.specs.Field.{IsNode}
 
 -- ---- the nodes that joined are nodes
 
-abbrev IsInRange : ℕ → Type 0
-IsInRange n = (1 ≤ n) × (n ≤ 232)
-
 abbrev JoinsNode : Line → Type 0
-JoinsNode (lines.Join n) = IsInRange n
+JoinsNode (lines.Join n) = IsNode n
 JoinsNode line = Unit {0}
 
 read_joins : (words : List ℕ) (read : Result (Option Line) LineFault) → line_at words ≡ read → AllByRecursion JoinsNode (read_as read)
@@ -61,12 +59,12 @@ all_join : (past : List Entry) (done : Doing) → JoinNodes done → JoinNodes (
 all_join [] done so = so
 all_join (e ∷ past) done so = all_join past (doing_step done e) (step_joins done e so)
 
-nodes_of : (done : List Line) → AllByRecursion JoinsNode done → AllByRecursion IsInRange (flat_map join_of done)
+nodes_of : (done : List Line) → AllByRecursion JoinsNode done → AllByRecursion IsNode (flat_map join_of done)
 nodes_of [] all = tt
 nodes_of (lines.Join n ∷ done) all = (all.0, nodes_of done all.1)
 nodes_of (line ∷ done) all = nodes_of done all.1
 
-pub joined_nodes : (past : List Entry) → AllByRecursion IsInRange (joined past)
+pub joined_nodes : (past : List Entry) → AllByRecursion IsNode (joined past)
 joined_nodes past =
     let nothing : Doing = record { earlier = []; last = [] } in
     let so : JoinNodes (folded doing_step nothing past) = all_join past nothing (record { earlier = tt; last = tt }) in
@@ -75,7 +73,7 @@ joined_nodes past =
 -- ---- at rest
 
 -- for each of them none is
-none_for : (heeds : Heeds) (past : List Entry) (now : ℕ) → ((n : ℕ) → 1 ≤ n → n ≤ 232 → to_give_up heeds past now n ≡ []) → (nodes : List ℕ) → AllByRecursion IsInRange nodes
+none_for : (heeds : Heeds) (past : List Entry) (now : ℕ) → ((n : ℕ) → 1 ≤ n → n ≤ 232 → to_give_up heeds past now n ≡ []) → (nodes : List ℕ) → AllByRecursion IsNode nodes
     → flat_map (to_give_up heeds past now) nodes ≡ []
 none_for heeds past now each [] all = refl
 none_for heeds past now each (n ∷ nodes) all =

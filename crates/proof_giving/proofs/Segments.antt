@@ -1,5 +1,5 @@
 -- Whether the segment at a place is followed by others is told by its bytes: no other place of the message has the same.
-use Rattle.std.proofs.Common.{◌≡◌, ◌⊎◌, ℕ, ◌+◌, ◌-◌, ◌*◌, ◌/◌, ◌%◌, ◌≤◌, ◌<◌, ◌==◌, ◌||◌, nat_lt, not, Bool, true, false, if◌then◌else◌, inl, inr, List, [], ◌∷◌, length, refl, sym, ap, ◌∙◌, arith}
+use Rattle.std.proofs.Common.{◌≡◌, ◌⊎◌, ℕ, ◌+◌, ◌-◌, ◌*◌, ◌/◌, ◌%◌, ◌≤◌, ◌<◌, ◌==◌, nat_lt, not, Bool, true, false, if◌then◌else◌, inl, inr, List, [], ◌∷◌, length, refl, sym, ap, ◌∙◌, arith}
 use Rattle.std.specs.Prelude.{bytes_eq, slice_index}
 use Rattle.std.specs.List.{list_any}
 use Rattle.std.proofs.lemmas.Bool.{cases_eq, eqb-true, false_from_ne_true, le-ltb, lt-ltb}
@@ -11,6 +11,7 @@ use Rattle.law_transcript.specs.Units.{Carried, sending_in}
 use Rattle.law_time.specs.Attempts.{is_inner}
 use Rattle.law_time.specs.Sessions.{Session}
 use Rattle.host_model.specs.Sessions.{segment_at, segment_count}
+use Rattle.proof_queue.proofs.proof_requests_Judging.{or_false}
 
 -- ---- two places
 
@@ -39,15 +40,11 @@ same_place session message k l is =
 last_is : (size : ℕ) → 1 ≤ size → (size + 38) / 39 ≡ (size - 1) / 39 + 1
 last_is size some = omega (arith, some)
 
-or_none : (b : Bool) → (b || false) ≡ b
-or_none true = refl
-or_none false = refl
-
 pub segment_inner : (session : Session) (k n : ℕ) (unit : List ℕ) → 1 ≤ length session.message → k < segment_count session.message
     → sending_in unit ≡ record { node = n; payload = segment_at session.number session.message k } ∷ [] → is_inner session Cut unit ≡ nat_lt (k + 1) (segment_count session.message)
 segment_inner session k n unit some within carries =
     ap (λ (l : List Carried). not (list_any (λ (carried : Carried). bytes_eq carried.payload (segment_at session.number session.message ((length session.message - 1) / 39))) l)) carries
-    ∙ ap not (or_none (bytes_eq (segment_at session.number session.message k) (segment_at session.number session.message ((length session.message - 1) / 39)))) ∙ by (cases_eq k ((length session.message - 1) / 39))
+    ∙ ap not (or_false (bytes_eq (segment_at session.number session.message k) (segment_at session.number session.message ((length session.message - 1) / 39)))) ∙ by (cases_eq k ((length session.message - 1) / 39))
   where
     count : segment_count session.message ≡ (length session.message - 1) / 39 + 1
     count = last_is (length session.message) some

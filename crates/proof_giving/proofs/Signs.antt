@@ -6,7 +6,7 @@ use Rattle.law_time.specs.Attempts.{Attempts, anew}
 use Rattle.host_node.specs.declared.series.Series.{Series}
 use Rattle.host_node.specs.declared.series.Series.TheVariants.{Idle, Due, Running}
 use Rattle.host_node.specs.State.{NodeState, is_idle, is_open, is_running, is_up}
-use Rattle.host_node.specs.Steps.{after_nonce, after_occasion, after_sleep, asleep, new_series, with_final, with_wait}
+use Rattle.host_node.specs.Steps.{after_nonce, after_occasion, new_series, with_final, with_wait}
 use Rattle.proof_giving.specs.Tie.{NodeSo, signed}
 use Rattle.proof_giving.proofs.NodesGo.{Parts, final_so, nonce_so, occasion_so, parts_of, same_so}
 
@@ -60,9 +60,6 @@ module _ (told : Attempts) (time : ℕ) (badly : Bool) where
       by Running is =
           let same : s ≡ after_occasion s = sym (ap (λ (c : Bool). if c then new_series s else s) (and_right (is_open s && is_up s) (is_idle s.series) (ap is_idle is))) in
           subst (λ (t : NodeState). So (signed b t)) same so
-
-  pub sleep_signed : (b : Bool) (s : NodeState) → So (signed b s) → So (signed b (after_sleep s))
-  sleep_signed b s so = either_signed b s.listens s (asleep s) so (same_signed b s (asleep s) refl so)
 
   -- a nonce is taken
   pub nonce_signed : (b : Bool) (s : NodeState) (seen : ℕ) (sealed plain : List ℕ) → s.pending ≡ Some plain → begins_with sealed 0x98 0x81 ≡ true → So (signed b s) → So (signed b (after_nonce s seen sealed))

@@ -29,7 +29,7 @@ use Rattle.law_time.specs.Heeds.{Heeds}
 use Rattle.law_time.specs.Moments.{clock}
 use Rattle.law_time.specs.Requests.{Asked as AskedLast, asked, is_answer}
 use Rattle.host_requests.specs.Events.{RequestsEvent, end_at}
-use Rattle.host_requests.specs.Events.RequestsEvent.{CallsBack, Fails, IsSent, Responds, Ticks, Updates}
+use Rattle.host_requests.specs.Events.RequestsEvent.{Fails, IsSent, Ticks}
 use Rattle.host_requests.specs.Next.{at_sent, sent_from}
 use Rattle.host_requests.specs.State.{RequestsState}
 use Rattle.host_requests.specs.declared.end.End.{End}
@@ -58,7 +58,7 @@ use Rattle.host_model.specs.Pumping.{IsNext, no_more_event}
 use Rattle.host_model.specs.Taking.{told_if}
 use Rattle.host_model.specs.Ticking.{tick_events, ticking_nodes}
 use Rattle.host_model.specs.declared.out.HostOut.TheVariants.{Write}
-use Rattle.host_model.proofs.Submitted.{SleepersAre, SubmittedAre, next_is, no_more_is}
+use Rattle.host_model.proofs.Submitted.{SleepersAre, next_is, no_more_is}
 use Rattle.world_model.specs.Events.{OpensFrom, shown_values}
 use Rattle.proof_host.specs.Facts.{Facts}
 use Rattle.proof_queue.specs.Heeding.{HeedsAs}
@@ -67,7 +67,7 @@ use Rattle.proof_queue.specs.proof_attempts.proof_requests.Asking.{TieAsked, doi
 use Rattle.proof_queue.specs.proof_attempts.proof_requests.Ends.{GivenUp}
 use Rattle.proof_queue.specs.proof_attempts.proof_requests.proof_waking.Judged.{TieFrames}
 use Rattle.proof_queue.specs.proof_attempts.proof_work.Doing.{IsTold}
-use Rattle.proof_queue.specs.proof_attempts.proof_requests.Walking.{AddsWell, Ground as RequestsGround, HalfTick, BeforeTick, IsNodeTick, IsOfChip, IsTied, KnowsAsked, KnowsTick}
+use Rattle.proof_queue.specs.proof_attempts.proof_requests.Walking.{AddsWell, Ground as RequestsGround, HalfTick, BeforeTick, IsNodeTick, IsTied, KnowsAsked, KnowsTick}
 use Rattle.proof_queue.specs.proof_attempts.proof_requests.law_host.Heard.{heeds_alone}
 use Rattle.proof_queue.specs.proof_attempts.proof_requests.proof_alone.State.{HostMachine, done}
 use Rattle.proof_queue.specs.proof_attempts.proof_requests.proof_alone.Steps.{AreTold, IsAskedBy, IsOfOthers, IsOfUnit, Step, Tells, Comes, Misses, Says, Says_nothing, Asks, Refuses, Shows, Restarts, Begins_tick, Numbers, Judges, Does, entries, happens}
@@ -78,10 +78,15 @@ use Rattle.proof_queue.proofs.Holding.{clock_now}
 use Rattle.proof_queue.proofs.InOrder.{is_asked}
 use Rattle.proof_queue.proofs.Queued.{PayloadsBring}
 use Rattle.proof_queue.proofs.Queueing.{opened_asks}
-use Rattle.proof_queue.proofs.Stepping.{asked_on, behind_notes, first_same, node_notes, none_on, not_awaiting, sleep_notes, time_told}
-use Rattle.proof_queue.proofs.proof_attempts_Walking.{event_quiet, marks_quiet, noted_notes, others_quiet}
+use Rattle.proof_queue.proofs.Stepping.{asked_on, behind_notes, first_same, node_notes, none_on, not_awaiting, sleep_notes, time_told, IsSubmission, all_nodes, left_same, submissions}
+use Rattle.proof_queue.proofs.proof_attempts_Walking.{event_quiet, noted_notes, others_quiet}
 use Rattle.proof_queue.proofs.proof_requests_EndsHere.{cannot_end, ends_same}
-use Rattle.proof_queue.proofs.proof_requests_Telling.{IsQuiet, quiet_on}
+use Rattle.proof_queue.proofs.proof_requests_Telling.{IsQuiet, quiet_on, mark_quiet}
+use Rattle.proof_queue.proofs.proof_requests_Judging.{or_false}
+use Rattle.proof_queue.proofs.Wrote.{chip_told}
+use Rattle.proof_queue.proofs.Late.{less}
+use Rattle.proof_queue.proofs.Lasting.{between_else}
+use Rattle.proof_queue.proofs.proof_waking_Parts.{unit_told}
 use Rattle.proof_giving.specs.Told.{LeavesAttempts}
 use Rattle.proof_giving.specs.Stays.{ShowsSessions}
 use Rattle.proof_giving.specs.Tie.{AttemptsAs, AttemptsSo, IsRequest, WaitsAsTold, is_bad_part, is_good_for, is_inner_now}
@@ -131,31 +136,7 @@ others_leave entry.ChipFull others = tt
 others_leave (entry.Cleared side count) others = tt
 others_leave e others = absurd others
 
-less : (n : ℕ) → n + 1 - 1 ≡ n
-less n = omega arith
-
 -- ---- which events come where
-
-abbrev IsSubmitted : HostEvent → Type 0
-IsSubmitted Submits_abort = Unit {0}
-IsSubmitted Submits_front = Unit {0}
-IsSubmitted (Starts n plan more payload) = Unit {0}
-IsSubmitted (Gives_text n payload) = Unit {0}
-IsSubmitted (Gives_segment n more payload) = Unit {0}
-IsSubmitted (Begins n session command) = Unit {0}
-IsSubmitted (Begin_unkept n) = Unit {0}
-IsSubmitted event = ⊥
-
-submitted : SubmittedAre IsSubmitted
-submitted = record {
-  abort = tt;
-  front = tt;
-  starts = λ n plan more payload. tt;
-  text = λ n payload. tt;
-  segment = λ n more payload. tt;
-  begins = λ n session command. tt;
-  unkept = λ n. tt;
-}
 
 abbrev IsSleeper : HostEvent → Type 0
 IsSleeper event = IsCalm event × IsNoSign event
@@ -168,8 +149,7 @@ IsNoFrame (Good (Framed f)) = ⊥
 IsNoFrame item = Unit {0}
 
 nak_quiet : (told : List Entry) → AreTold (Write Nak ∷ []) told → AllByRecursion IsQuiet told
-nak_quiet told (marks, rest, is, all, none) =
-    subst (AllByRecursion IsQuiet) (sym is) (refl, all-append IsQuiet marks rest (marks_quiet marks all) (subst (AllByRecursion IsQuiet) (sym none) tt))
+nak_quiet told are = unit_told IsQuiet mark_quiet Nak told refl are
 
 -- what an item that is no frame is answered is quiet
 item_quiet : (item : Item) (told : List Entry) → IsNoFrame item → AreTold (answer_to item) told → AllByRecursion IsQuiet told
@@ -199,35 +179,10 @@ sent_not u n more payload how purpose ends = by u.progress (sym (ap (λ (p : Pur
     by (Sent left) is = cannot_end _ how is
     by (Answered sent left) is = cannot_end _ how is
 
-or_none : (b : Bool) → (b || false) ≡ b
-or_none true = refl
-or_none false = refl
-
 node_left : (left : List HostEvent) (now : ℕ) → AllByRecursion IsNodeTick left → request_clock (Ticking left) now ≡ now
 node_left [] now all = refl
 node_left (Node_ticks n ∷ left) now all = refl
 node_left (event ∷ left) now all = absurd all.0
-
-left_same : (first these : HostEvent) (left others : List HostEvent) → first ∷ left ≡ these ∷ others → left ≡ others
-left_same first these left others is = cc
-
-between_else : (here : Phase) → IsBetween here → IsElse here
-between_else (Asked line) between = absurd between
-between_else here between = tt
-
--- the host's own part of a tick ends with those of nodes
-all_node_ticks : (nodes : List ℕ) → AllByRecursion IsNodeTick (map Node_ticks nodes)
-all_node_ticks [] = tt
-all_node_ticks (n ∷ nodes) = (tt, all_node_ticks nodes)
-
-pub chip_told : (event : RequestsEvent) → IsOfChip event → IsTold event
-chip_told IsSent is = tt
-chip_told Fails is = tt
-chip_told (Responds response) is = tt
-chip_told (CallsBack id status) is = tt
-chip_told (Updates update) is = tt
-chip_told Ticks is = tt
-chip_told event is = absurd is
 
 numbered_else : (here : Phase) (past : List Entry) (m : HostMachine) → m.awaits ≡ true → RequestsGround here past m → IsElse here
 numbered_else (Asked line) past m awaits g = absurd (both_ways m.awaits g.0.0.1.unnumbered awaits)
@@ -492,7 +447,7 @@ module _ (ends : EndsWith) (ticks : TicksWith) (brings : PayloadsBring) (taken :
       (request_ticks_so ends taken n to past told m.state m.came half.before m.clock half.next (event_quiet m.state (Requests_do Ticks BeforeItsTick) told (noted_notes (request_entries m.state Ticks)) are)
       (host here past m g) (g.shows n) (m.clock - 1) are (host (Ticking left) (past ++ told) (done m (Requests_do Ticks BeforeItsTick)) later) (later.shows n) half.tie (tie n from to)) in
       subst (λ (t : ℕ). AttemptsSo heeds n (past ++ told) h (node_clock (Ticking left) m.clock n) t)
-      (sym (ap (λ (l : List HostEvent). request_clock (Ticking l) m.clock) ticks_left.0.1 ∙ node_left (map Node_ticks (ticking_nodes h)) m.clock (all_node_ticks (ticking_nodes h)))) so
+      (sym (ap (λ (l : List HostEvent). request_clock (Ticking l) m.clock) ticks_left.0.1 ∙ node_left (map Node_ticks (ticking_nodes h)) m.clock (all_nodes (ticking_nodes h)))) so
 
   node_tick : (k : ℕ) (left : List HostEvent) (past told : List Entry) (m : HostMachine) → AllByRecursion IsNodeTick left → TicksTo (Node_ticks k) left past told m
   node_tick k left past told m all are g later tie = λ n from to.
@@ -598,7 +553,7 @@ module _ (ends : EndsWith) (ticks : TicksWith) (brings : PayloadsBring) (taken :
                 hears_goes past told m.state m.clock quiet (host here past m g) event moment of_told (subst (λ (e : HostEvent). AreTold (outs m.state e) told) is are)
                 (subst (λ (e : HostEvent). HostFacts (after m.state e)) is others) n to (g.shows n) (subst (λ (e : HostEvent). ShowsSessions heeds (past ++ told) (after m.state e) n) is (later.shows n)) so
                 (subst (λ (b : Bool). AttemptsAs b heeds n past m.state m.clock m.clock)
-                (ap (λ (l : List HostEvent). is_good_for n (end_at m.state.requests event) || works_among n l) none ∙ or_none (is_good_for n (end_at m.state.requests event))) (each n from to)),
+                (ap (λ (l : List HostEvent). is_good_for n (end_at m.state.requests event) || works_among n l) none ∙ or_false (is_good_for n (end_at m.state.requests event))) (each n from to)),
             tt,
           ) in
           subst (λ (e : HostEvent). Tie (Behind left) (past ++ told) (after m.state e) m.clock) (sym is)
@@ -628,7 +583,7 @@ module _ (ends : EndsWith) (ticks : TicksWith) (brings : PayloadsBring) (taken :
   submits_goes : (event : HostEvent) (past told : List Entry) (m : HostMachine) → IsNext m.state event → MayAll m.state (event ∷ []) → AreTold (outs m.state event) told → IsNumbered m told → Ground Submitting past m
       → Ground Submitting (past ++ told) (done m event) → WaitsAsTold heeds past m.state m.clock → Tie Submitting past m.state m.clock
       → Tie Submitting (past ++ told) (after m.state event) m.clock
-  submits_goes event past told m next may are numbered g later waits tie = by event refl (next_is IsSubmitted submitted m.state event next)
+  submits_goes event past told m next may are numbered g later waits tie = by event refl (next_is IsSubmission submissions m.state event next)
     where
       asks_so : IsRequest event → Tie Submitting (past ++ told) (after m.state event) m.clock
       asks_so is = λ n from to.
@@ -638,7 +593,7 @@ module _ (ends : EndsWith) (ticks : TicksWith) (brings : PayloadsBring) (taken :
       request : (these : HostEvent) → event ≡ these → IsRequest these → Tie Submitting (past ++ told) (after m.state event) m.clock
       request these is asks = asks_so (subst IsRequest (sym is) asks)
 
-      by : (these : HostEvent) → event ≡ these → IsSubmitted these → Tie Submitting (past ++ told) (after m.state event) m.clock
+      by : (these : HostEvent) → event ≡ these → IsSubmission these → Tie Submitting (past ++ told) (after m.state event) m.clock
       by Submits_abort is sub = request Submits_abort is tt
       by Submits_front is sub = request Submits_front is tt
       by (Starts k plan more payload) is sub = request (Starts k plan more payload) is tt

@@ -35,7 +35,7 @@ pub use ends::{
 };
 pub use entries::{attempts_begin_with_sessions, attempts_stay_by_entries};
 pub use nodes::nodes_go_with_attempts;
-pub use proof_queue as queue;
+pub use proof_queue::{hosts_go_by_messages, hosts_queue_as_told};
 pub use requests::{
     attempts_end_as_told, attempts_end_with_requests, attempts_go_with_frames,
     attempts_go_with_requests,

@@ -18,11 +18,10 @@ ghost use Rattle.proof_giving.specs.Walking.{Grounds, KnowsAttempts, RestsAt, gi
 use crate::requests::attempts_end_with_requests;
 use host_model::attempts_have_what_they_give;
 use proof_host::laws_follow;
-use proof_queue::attempts::requests::hosts_ask_as_told;
-use proof_queue::attempts::{hosts_show_open_sessions, hosts_tell_of_sleep};
-use proof_queue::hosts_queue_as_told;
-use proof_queue::known::{hosts_keep_what_is_said, hosts_know_what_nodes_list};
-use proof_queue::sending::spoken::orders_are_carried_as_said;
+use proof_queue::{
+    hosts_ask_as_told, hosts_keep_what_is_said, hosts_know_what_nodes_list, hosts_queue_as_told,
+    hosts_show_open_sessions, hosts_tell_of_sleep, orders_are_carried_as_said,
+};
 
 /// In any careful run of a host alone, also where it starts again, over a keeper that tells its records and has none at first, by messages that are heeded as
 /// the host took them: each node is tied to its attempts at each phase, so where the host submits and where it rests, and after an item with the sign that

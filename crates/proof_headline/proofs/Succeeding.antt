@@ -20,7 +20,7 @@ use Rattle.host_model.specs.Facts.{IsCommandOf}
 use Rattle.host_model.specs.Sessions.{settings_with}
 use Rattle.host_model.specs.Events.{HostEvent, Finishes, Interviews}
 use Rattle.host_model.specs.After.{after, is_held}
-use Rattle.host_model.specs.Outs.{outs, answers}
+use Rattle.host_model.specs.Outs.{outs, answers, Silent}
 use Rattle.host_model.specs.May.{May as MayHost}
 use Rattle.host_model.specs.Did.{MayAll as MayAllHost}
 use Rattle.host_model.specs.declared.out.HostOut.{HostOut}
@@ -34,7 +34,7 @@ use Rattle.outside_model.specs.Did.{entries_all as entries_all_outside}
 use Rattle.world_model.specs.State.{Machine, host_does, host_entries, routed}
 use Rattle.world_model.specs.Events.{Event, Outside_does, Host_does, Host_takes, Decoder_ticks, Refuses, Shows_values, Restarts, entries, fed, shown_values, May}
 use Rattle.world_model.proofs.Hosting.{entries_cons}
-use Rattle.host_model.proofs.Silence.{Silent, judged_silent}
+use Rattle.host_model.proofs.Silence.{judged_silent}
 use Rattle.proof_spoken.proofs.Aside.{Asides, own_aside, stamp_aside}
 use Rattle.proof_spoken.proofs.Notes.{Trailing, event_following}
 use Rattle.proof_spoken.proofs.FactsKept.{after_keeps, asides_keep, one_after}

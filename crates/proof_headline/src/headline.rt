@@ -21,12 +21,10 @@ ghost use Rattle.world_lines.specs.Done.{AreDone};
 ghost use Rattle.proof_headline.specs.Truly.{IsAskable, LinesAreTrue, SucceedsAfterChangeOf};
 
 use proof_host::{asides_keep_facts, events_keep_facts};
-use proof_spoken::device::{changes_are_shown, devices_go_on};
-use proof_spoken::once::{devices_change_in_sessions, endings_are_shown, headlines_follow};
-use proof_spoken::world::the_machine_keeps_facts;
 use proof_spoken::{
-    answers_stand_after_their_lines, interviews_give_what_is_known, lines_tell_what_nodes_list,
-    runs_have_their_tables,
+    answers_stand_after_their_lines, changes_are_shown, devices_change_in_sessions, devices_go_on,
+    endings_are_shown, headlines_follow, interviews_give_what_is_known, lines_tell_what_nodes_list,
+    runs_have_their_tables, the_machine_keeps_facts,
 };
 
 /// Where reports of success of a node are true, an event enters each success of its commands after the change, and where those of all nodes are, each success.

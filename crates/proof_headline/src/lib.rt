@@ -33,4 +33,4 @@ pub use nodes::{
     nodes_report_after_the_change,
 };
 pub use plain_nodes::{devices_as_made_begin_courses, orders_go_plain, plain_nodes_are_tied};
-pub use proof_spoken::device;
+pub use proof_spoken::devices_go_on;

@@ -17,8 +17,7 @@ ghost use Rattle.proof_headline.specs.Truly.{LinesAreTrue};
 use proof_course_sealed::{
     idle_devices_stay_idle, lines_ask_plainly, lines_have_courses, locks_follow_the_courses,
 };
-use proof_spoken::once::courses_tie_their_ends;
-use proof_spoken::world::lines_keep_and_ask_well;
+use proof_spoken::{courses_tie_their_ends, lines_keep_and_ask_well};
 
 /// Of devices as their makers left them, the first of a node is at the beginning of the courses of it, with the keys of the network, where
 /// it takes commands in sessions and sealed; the others of the node are idle.

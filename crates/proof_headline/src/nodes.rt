@@ -16,8 +16,7 @@ ghost use Rattle.proof_headline.specs.Supervised.{IsPlainOrLock};
 use crate::lock_nodes::locks_are_tied;
 use crate::plain_nodes::plain_nodes_are_tied;
 use crate::{lines_have_the_headline, runs_report_after_the_change};
-use proof_spoken::device::{devices_go_on, devices_stay_the_same};
-use proof_spoken::lines_tell_what_nodes_list;
+use proof_spoken::{devices_go_on, devices_stay_the_same, lines_tell_what_nodes_list};
 
 /// Over any lines that were read, the last of which an allocation failure may have cut short, the device of a node that is plain or of a
 /// lock is tied to the host in the end, and each success that the host is told of the node is true at the moment it is told.

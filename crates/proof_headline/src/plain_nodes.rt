@@ -25,9 +25,10 @@ use proof_course_sealed::{
     devices_follow_the_course, idle_devices_stay_idle, lines_ask_plainly, lines_have_a_course,
     lines_tell_the_truth,
 };
-use proof_spoken::once::courses_tie_their_ends;
-use proof_spoken::world::lines_keep_and_ask_well;
-use proof_spoken::{interviews_give_what_is_known, interviews_tell_what_nodes_list};
+use proof_spoken::{
+    courses_tie_their_ends, interviews_give_what_is_known, interviews_tell_what_nodes_list,
+    lines_keep_and_ask_well,
+};
 
 /// Of devices as their makers left them, the first of a node is at the beginning of a course of it where its kind is plain; the others of the node are idle.
 pub fn devices_as_made_begin_courses()

@@ -181,19 +181,24 @@ module _ (key : List ℕ) (heeds : Heeds) where
     abbrev pub LateOn : Type 0
     LateOn = (m : ℕ) → IsNode m → is_late heeds past m ≡ true → is_late heeds later m ≡ true
 
-    -- an event that leaves them
-    pub books_on : (g : HostState) → g.nonces ≡ h.nonces → ((m : ℕ) → nonces_to m g.requests.queue ≡ nonces_to m h.requests.queue) → ((m : ℕ) → IsNode m → Alike (node_of h m) (node_of g m)) → KeepsOrders h g → LateOn
-        → BooksOf key heeds later g books offered opened sealed
-    books_on g nonces queue alike orders late = record {
+    -- the books stay, where what the host has sealed stays as they say
+    books_stay : (g : HostState) → g.nonces ≡ h.nonces → ((m : ℕ) → nonces_to m g.requests.queue ≡ nonces_to m h.requests.queue)
+        → ((m : ℕ) → IsNode m → SealerSo key heeds later m g (book_of m books).sealer) → BooksOf key heeds later g books offered opened sealed
+    books_stay g nonces queue sealers = record {
       drawn = so.drawn;
       seven = so.seven;
       live = subst (LiveSo so.drawn) (sym nonces) so.live;
       givers = λ m is. giver_on so.drawn m h g (book_of m books).giver nonces (queue m) (so.givers m is);
-      sealers = λ m is. sealer_on past later m h g (book_of m books).sealer (alike m is) orders (late m is) (so.sealers m is);
+      sealers = sealers;
       were_offered = subst (λ (l : List Account). AllByRecursion (IsLowOffer so.drawn l) offered) (sym nonces) so.were_offered;
       were_opened = subst (λ (l : List Account). AllByRecursion (IsLowOpening key so.drawn l) opened) (sym nonces) so.were_opened;
       were_sealed = so.were_sealed;
     }
+
+    -- an event that leaves them
+    pub books_on : (g : HostState) → g.nonces ≡ h.nonces → ((m : ℕ) → nonces_to m g.requests.queue ≡ nonces_to m h.requests.queue) → ((m : ℕ) → IsNode m → Alike (node_of h m) (node_of g m)) → KeepsOrders h g → LateOn
+        → BooksOf key heeds later g books offered opened sealed
+    books_on g nonces queue alike orders late = books_stay g nonces queue (λ m is. sealer_on past later m h g (book_of m books).sealer (alike m is) orders (late m is) (so.sealers m is))
 
     -- the sealer of one node changes
     pub sealers_at : (g : HostState) (n : ℕ) (sealer : Sealer) → g.nonces ≡ h.nonces → ((m : ℕ) → nonces_to m g.requests.queue ≡ nonces_to m h.requests.queue)
@@ -230,16 +235,7 @@ module _ (key : List ℕ) (heeds : Heeds) where
     pub books_one : (g : HostState) (n : ℕ) → g.nonces ≡ h.nonces → ((m : ℕ) → nonces_to m g.requests.queue ≡ nonces_to m h.requests.queue)
         → ((m : ℕ) → IsNode m → (m ≡ n → ⊥) → SealerSo key heeds later m g (book_of m books).sealer) → SealerSo key heeds later n g (book_of n books).sealer
         → BooksOf key heeds later g books offered opened sealed
-    books_one g n nonces queue others this = record {
-      drawn = so.drawn;
-      seven = so.seven;
-      live = subst (LiveSo so.drawn) (sym nonces) so.live;
-      givers = λ m is. giver_on so.drawn m h g (book_of m books).giver nonces (queue m) (so.givers m is);
-      sealers = λ m is. by m is;
-      were_offered = subst (λ (l : List Account). AllByRecursion (IsLowOffer so.drawn l) offered) (sym nonces) so.were_offered;
-      were_opened = subst (λ (l : List Account). AllByRecursion (IsLowOpening key so.drawn l) opened) (sym nonces) so.were_opened;
-      were_sealed = so.were_sealed;
-    }
+    books_one g n nonces queue others this = books_stay g nonces queue by
       where
         by : (m : ℕ) → IsNode m → SealerSo key heeds later m g (book_of m books).sealer
         by m is = elim (cases_eq m n) [

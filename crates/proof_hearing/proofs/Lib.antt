@@ -8,7 +8,6 @@ pub mod OneMessage
 pub mod OnePayload
 pub mod Sent
 pub mod Around
-pub mod Payload
 pub mod Beginning
 pub use Rattle.proof_nonces.proofs.Accounts
 pub use Rattle.proof_nonces.proofs.Payloads as proof_nonces_Payloads
@@ -27,3 +26,4 @@ pub use Rattle.proof_nonces.proofs.Slept
 pub use Rattle.proof_queue.proofs.EndsLate
 pub use Rattle.proof_queue.proofs.OnLine
 pub use Rattle.proof_queue.proofs.Nodes
+pub use Rattle.proof_queue.proofs.Ordered

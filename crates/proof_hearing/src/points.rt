@@ -13,13 +13,10 @@ ghost use Rattle.proof_nonces.specs.proof_known.proof_alone.Phases.{Phase};
 ghost use Rattle.proof_nonces.specs.proof_known.proof_alone.Runs.{Run};
 ghost use Rattle.proof_hearing.specs.Hearing.{NotAsked, Point};
 
-use proof_nonces::attempts::hosts_show_open_sessions;
-use proof_nonces::notes::known::hosts_know_what_was_told;
-use proof_nonces::notes::known::transcript::host::laws_follow;
-use proof_nonces::notes::known::transcript::spoken::{
+use proof_nonces::{
+    hosts_know_what_was_told, hosts_listen_as_told, hosts_show_open_sessions, laws_follow,
     orders_are_carried_as_said, tables_are_what_was_said,
 };
-use proof_nonces::requests::hosts_listen_as_told;
 
 /// At each phase of a run of a host alone but where a line was just said, over a keeper that tells its records and has none at first, where no plain text
 /// waits of an attempt that is late, all is so that a payload or a request is to find: the host's facts, its tables and what nodes listed by the transcript,

@@ -10,10 +10,10 @@ use Rattle.zw_text.specs.declared.entry.Entry.{Entry}
 use Rattle.zw_text.specs.declared.entry.Entry.TheVariants.{Out}
 use Rattle.zw_text.specs.declared.entry.Outcome.{Outcome}
 use Rattle.zw_text.specs.Transcript.{outcome, outcome_of as outcome_told}
-use Rattle.host_node.specs.State.{NodeState}
-use Rattle.host_node.specs.TableState.{node_of}
-use Rattle.host_keep.specs.declared.final_status.FinalStatus.{FinalStatus}
-use Rattle.host_keep.specs.declared.final_status.FinalStatus.TheVariants as final
+use Rattle.host_model.specs.host_node.State.{NodeState}
+use Rattle.host_model.specs.host_node.TableState.{node_of}
+use Rattle.host_model.specs.host_keep.declared.final_status.FinalStatus.{FinalStatus}
+use Rattle.host_model.specs.host_keep.declared.final_status.FinalStatus.TheVariants as final
 use Rattle.host_model.specs.State.{Command, command_at, with_outcome}
 use Rattle.host_model.specs.After.{outcome_of}
 use Rattle.host_model.specs.Outs.{ended_of, stored_entries}

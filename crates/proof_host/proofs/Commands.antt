@@ -4,7 +4,7 @@ use Rattle.std.specs.Prelude.{slice_get}
 use Rattle.zw_text.specs.declared.entry.Outcome.{Outcome}
 use Rattle.zw_text.specs.declared.entry.Outcome.TheVariants.{Waiting, Begun, Success, Fail, NoSupport, Unanswered, Cancelled}
 use Rattle.law_transcript.specs.Sessions.{IsFinal}
-use Rattle.host_keep.specs.Kept.{Taken}
+use Rattle.host_model.specs.host_keep.Kept.{Taken}
 use Rattle.host_model.specs.State.{Command, command_at, set_at, with_outcome}
 use Rattle.proof_host.specs.Laws.{IsUnderWay}
 use Rattle.proof_host.specs.Tables.{outcome_by, outcome_in, nodes_by, recorded, taken_at, taken_by}

@@ -11,12 +11,12 @@ use Rattle.zw_text.specs.declared.entry.Outcome.TheVariants.{Waiting, Begun, Suc
 use Rattle.law_transcript.specs.Values.{is_success, last_given}
 use Rattle.law_transcript.specs.Lists.{Rises}
 use Rattle.value_store.specs.Values.{Values, stored_of}
-use Rattle.host_keep.specs.Kept.{Taken, or_else, value_among, value_by}
-use Rattle.host_keep.specs.declared.final_status.FinalStatus.{FinalStatus}
-use Rattle.host_keep.specs.declared.final_status.FinalStatus.TheVariants as final
-use Rattle.host_node.specs.State.{NodeState}
-use Rattle.host_node.specs.Steps.{oldest}
-use Rattle.host_node.specs.TableState.{node_of}
+use Rattle.host_model.specs.host_keep.Kept.{Taken, or_else, value_among, value_by}
+use Rattle.host_model.specs.host_keep.declared.final_status.FinalStatus.{FinalStatus}
+use Rattle.host_model.specs.host_keep.declared.final_status.FinalStatus.TheVariants as final
+use Rattle.host_model.specs.host_node.State.{NodeState}
+use Rattle.host_model.specs.host_node.Steps.{oldest}
+use Rattle.host_model.specs.host_node.TableState.{node_of}
 use Rattle.host_model.specs.State.{Command, command_at, with_outcome}
 use Rattle.host_model.specs.Sessions.{open_command, settings_with}
 use Rattle.host_model.specs.After.{outcome_of, confirming}

@@ -8,11 +8,11 @@ use Rattle.zw_text.specs.declared.entry.Outcome.TheVariants as outcome
 use Rattle.supervision.specs.Host.{begun_of, open_session}
 use Rattle.zw_base.specs.declared.property.Property.{Property}
 use Rattle.value_store.specs.Values.{Values, stored_of}
-use Rattle.host_node.specs.State.{NodeState}
-use Rattle.host_node.specs.Steps.{after_put, after_cancel, after_begin, as_recorded, oldest, with_final}
-use Rattle.host_node.specs.TableState.{node_of}
-use Rattle.host_keep.specs.declared.final_status.FinalStatus.{FinalStatus}
-use Rattle.host_keep.specs.Status.{status_byte}
+use Rattle.host_model.specs.host_node.State.{NodeState}
+use Rattle.host_model.specs.host_node.Steps.{after_put, after_cancel, after_begin, as_recorded, oldest, with_final}
+use Rattle.host_model.specs.host_node.TableState.{node_of}
+use Rattle.host_model.specs.host_keep.declared.final_status.FinalStatus.{FinalStatus}
+use Rattle.host_model.specs.host_keep.Status.{status_byte}
 use Rattle.host_model.specs.State.{Command, command_at, with_outcome}
 use Rattle.host_model.specs.Sessions.{open_command, settings_with}
 use Rattle.host_model.specs.After.{outcome_of, confirming}

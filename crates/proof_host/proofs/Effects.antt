@@ -19,27 +19,27 @@ use Rattle.serial_frame.specs.declared.item.Item.TheVariants.{Good as good_item,
 use Rattle.serial_frame.specs.declared.item.Refusal.TheVariants.{Stray, BadLength, BadSum, BadKind, Aborted}
 use Rattle.serial_frame.specs.declared.unit.Unit.TheVariants.{Ack, Nak, Can, Framed}
 use Rattle.chip_functions.specs.declared.response.Response.TheVariants.{GetRoutingInfo, IsFailedNode}
-use Rattle.host_requests.specs.declared.end.End.{End}
-use Rattle.host_requests.specs.declared.end.How.{How}
-use Rattle.host_requests.specs.declared.end.How.TheVariants.{AtResponse}
-use Rattle.host_requests.specs.declared.task.Purpose.{Purpose}
-use Rattle.host_requests.specs.declared.task.Purpose.TheVariants.{Housekeeping, Attempt, Abort}
-use Rattle.host_requests.specs.declared.task.Task.{Task}
-use Rattle.host_requests.specs.declared.task.Task.TheVariants.{Plain, NoMore, Second, Neighbours, IsFailed}
-use Rattle.host_requests.specs.Events.{RequestsEvent, end_at}
-use Rattle.host_requests.specs.Events.RequestsEvent.{Fails as request_fails}
-use Rattle.host_node.specs.declared.attempt.Moment.{Moment}
-use Rattle.host_node.specs.declared.attempt.Moment.TheVariants.{BeforeItsTick}
-use Rattle.host_node.specs.declared.attempt.AttemptEnd.{AttemptEnd}
-use Rattle.host_node.specs.declared.attempt.AttemptEnd.TheVariants.{NoneRan, Again, Unanswered}
-use Rattle.host_node.specs.State.{NodeState, unknown}
-use Rattle.host_node.specs.Steps.{after_attempt_end, after_put, after_told, as_recorded, attempt_end, falls_asleep, tick_end}
-use Rattle.host_node.specs.Events.{NodeEvent, after as after_node}
-use Rattle.host_node.specs.Events.NodeEvent.{Accepts as node_accepts, Blocks as node_blocks, Drops_no_more as node_drops_no_more, Ends_attempt as node_ends_attempt, Ends_no_more as node_ends_no_more, Gives_segment as node_gives_segment, Gives_text as node_gives_text, Notifies as node_notifies, Queues_no_more as node_queues_no_more, Reports as node_reports, Starts as node_starts, Succeeds as node_succeeds, Ticks as node_ticks}
-use Rattle.host_node.specs.Facts.{is_recorded, is_final}
-use Rattle.host_node.specs.TableState.{node_of, with_node}
-use Rattle.host_keep.specs.declared.final_status.FinalStatus.{FinalStatus}
-use Rattle.host_keep.specs.Status.{status_byte}
+use Rattle.host_model.specs.host_requests.declared.end.End.{End}
+use Rattle.host_model.specs.host_requests.declared.end.How.{How}
+use Rattle.host_model.specs.host_requests.declared.end.How.TheVariants.{AtResponse}
+use Rattle.host_model.specs.host_requests.declared.task.Purpose.{Purpose}
+use Rattle.host_model.specs.host_requests.declared.task.Purpose.TheVariants.{Housekeeping, Attempt, Abort}
+use Rattle.host_model.specs.host_requests.declared.task.Task.{Task}
+use Rattle.host_model.specs.host_requests.declared.task.Task.TheVariants.{Plain, NoMore, Second, Neighbours, IsFailed}
+use Rattle.host_model.specs.host_requests.Events.{RequestsEvent, end_at}
+use Rattle.host_model.specs.host_requests.Events.RequestsEvent.{Fails as request_fails}
+use Rattle.host_model.specs.host_node.declared.attempt.Moment.{Moment}
+use Rattle.host_model.specs.host_node.declared.attempt.Moment.TheVariants.{BeforeItsTick}
+use Rattle.host_model.specs.host_node.declared.attempt.AttemptEnd.{AttemptEnd}
+use Rattle.host_model.specs.host_node.declared.attempt.AttemptEnd.TheVariants.{NoneRan, Again, Unanswered}
+use Rattle.host_model.specs.host_node.State.{NodeState, unknown}
+use Rattle.host_model.specs.host_node.Steps.{after_attempt_end, after_put, after_told, as_recorded, attempt_end, falls_asleep, tick_end}
+use Rattle.host_model.specs.host_node.Events.{NodeEvent, after as after_node}
+use Rattle.host_model.specs.host_node.Events.NodeEvent.{Accepts as node_accepts, Blocks as node_blocks, Drops_no_more as node_drops_no_more, Ends_attempt as node_ends_attempt, Ends_no_more as node_ends_no_more, Gives_segment as node_gives_segment, Gives_text as node_gives_text, Notifies as node_notifies, Queues_no_more as node_queues_no_more, Reports as node_reports, Starts as node_starts, Succeeds as node_succeeds, Ticks as node_ticks}
+use Rattle.host_model.specs.host_node.Facts.{is_recorded, is_final}
+use Rattle.host_model.specs.host_node.TableState.{node_of, with_node}
+use Rattle.host_model.specs.host_keep.declared.final_status.FinalStatus.{FinalStatus}
+use Rattle.host_model.specs.host_keep.Status.{status_byte}
 use Rattle.law_transcript.specs.host_orders.declared.carriage.Carriage.{Carriage}
 use Rattle.host_model.specs.State.{HostState, Command, with_outcome}
 use Rattle.host_model.specs.Sessions.{command_by, open_command}

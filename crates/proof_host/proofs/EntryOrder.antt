@@ -9,9 +9,9 @@ use Rattle.zw_text.specs.Transcript.{sessions, outcome}
 use Rattle.law_transcript.specs.Lists.{EachAfter}
 use Rattle.law_transcript.specs.Sessions.{IsFinal, AllEnded}
 use Rattle.supervision.specs.Host.{begun_of}
-use Rattle.host_node.specs.State.{NodeState}
-use Rattle.host_node.specs.Steps.{oldest}
-use Rattle.host_node.specs.TableState.{node_of}
+use Rattle.host_model.specs.host_node.State.{NodeState}
+use Rattle.host_model.specs.host_node.Steps.{oldest}
+use Rattle.host_model.specs.host_node.TableState.{node_of}
 use Rattle.host_model.specs.State.{Command}
 use Rattle.host_model.specs.Sessions.{open_command}
 use Rattle.host_model.specs.Facts.{IsCommandOf}

@@ -15,15 +15,15 @@ use Rattle.std.specs.Prelude.{Option, unwrap_or}
 use Rattle.value_store.specs.declared.stored.Stored.{Stored}
 use Rattle.value_store.specs.Values.{Values, key_cmp, no_value}
 use Rattle.proof_host.specs.Stores.{given_by}
-use Rattle.host_node.specs.State.{NodeState, unknown}
-use Rattle.host_node.specs.Steps.{oldest}
-use Rattle.host_node.specs.TableState.{node_of, unknown_from, unknown_nodes, nodes_after}
-use Rattle.host_node.specs.Events.NodeEvent.{Joins}
+use Rattle.host_model.specs.host_node.State.{NodeState, unknown}
+use Rattle.host_model.specs.host_node.Steps.{oldest}
+use Rattle.host_model.specs.host_node.TableState.{node_of, unknown_from, unknown_nodes, nodes_after}
+use Rattle.host_model.specs.host_node.Events.NodeEvent.{Joins}
 use Rattle.host_model.specs.State.{HostState, Command, command_at, first_host, first_nodes}
 use Rattle.host_model.specs.Events.{HostEvent}
 use Rattle.host_model.specs.After.{after}
 use Rattle.host_model.specs.May.{May}
-use Rattle.host_keep.specs.Keeping.{Shelf}
+use Rattle.host_model.specs.host_keep.Keeping.{Shelf}
 use Rattle.host_model.specs.Did.{after_all, Did, MayAll}
 use Rattle.host_model.specs.declared.out.HostOut.{HostOut}
 use Rattle.host_model.specs.Facts.{HostFacts, IsCommandOf, OwnsCommands}

@@ -8,9 +8,9 @@ use Rattle.zw_text.specs.declared.entry.Entry.{Entry}
 use Rattle.zw_text.specs.declared.entry.Outcome.{Outcome}
 use Rattle.zw_text.specs.declared.entry.Outcome.TheVariants.{Waiting, Begun, Success, Fail, NoSupport, Unanswered, Cancelled}
 use Rattle.supervision.specs.Host.{HostBook, open_session}
-use Rattle.host_keep.specs.Kept.{Kept, Taken, command_of, kept_of, first_kept, node_of as kept_of_node, after_all as kept_after_all}
-use Rattle.host_keep.specs.Legal.{AreLegal, first_illegal}
-use Rattle.host_keep.specs.declared.record.Record.{Record}
+use Rattle.host_model.specs.host_keep.Kept.{Kept, Taken, command_of, kept_of, first_kept, node_of as kept_of_node, after_all as kept_after_all}
+use Rattle.host_model.specs.host_keep.Legal.{AreLegal, first_illegal}
+use Rattle.host_model.specs.host_keep.declared.record.Record.{Record}
 use Rattle.host_model.specs.State.{HostState, Command, command_at, node_of}
 use Rattle.host_model.specs.Events.{HostEvent}
 use Rattle.host_model.specs.Did.{after_all, records_all, MayAll}

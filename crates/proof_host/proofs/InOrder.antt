@@ -10,12 +10,12 @@ use Rattle.zw_text.specs.declared.entry.Outcome.TheVariants as outcome
 use Rattle.law_transcript.specs.Lists.{Rises}
 use Rattle.law_transcript.specs.Sessions.{IsFinal}
 use Rattle.value_store.specs.Values.{Values}
-use Rattle.host_node.specs.State.{NodeState}
-use Rattle.host_node.specs.Steps.{after_begin, after_cancel, after_put, oldest, with_final, without}
-use Rattle.host_node.specs.TableState.{node_of}
-use Rattle.host_keep.specs.declared.final_status.FinalStatus.{FinalStatus}
-use Rattle.host_keep.specs.declared.final_status.FinalStatus.TheVariants as final
-use Rattle.host_keep.specs.Status.{status_byte}
+use Rattle.host_model.specs.host_node.State.{NodeState}
+use Rattle.host_model.specs.host_node.Steps.{after_begin, after_cancel, after_put, oldest, with_final, without}
+use Rattle.host_model.specs.host_node.TableState.{node_of}
+use Rattle.host_model.specs.host_keep.declared.final_status.FinalStatus.{FinalStatus}
+use Rattle.host_model.specs.host_keep.declared.final_status.FinalStatus.TheVariants as final
+use Rattle.host_model.specs.host_keep.Status.{status_byte}
 use Rattle.host_model.specs.State.{Command, command_at, with_outcome}
 use Rattle.host_model.specs.Sessions.{open_command}
 use Rattle.host_model.specs.After.{outcome_of}

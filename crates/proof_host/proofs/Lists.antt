@@ -3,7 +3,7 @@ use Rattle.std.proofs.Common.{◌≡◌, ℕ, ◌<◌, ◌==◌, Bool, true, fal
 use Rattle.std.specs.List.{AllByRecursion}
 use Rattle.std.proofs.lemmas.Bool.{eqb-true, eqb-false}
 use Rattle.zw_base.proofs.Each.{all-append, all-both, all-left, all-right}
-use Rattle.host_node.specs.Steps.{without}
+use Rattle.host_model.specs.host_node.Steps.{without}
 use Rattle.law_transcript.specs.Lists.{EachAfter, Rises}
 
 -- ---- each judged by those before it

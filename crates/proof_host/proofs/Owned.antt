@@ -5,7 +5,7 @@ use Rattle.std.specs.List.{AllByRecursion}
 use Rattle.std.proofs.lemmas.List.Elements.{recursion_from_All}
 use Rattle.zw_base.proofs.Each.{all-weaker}
 use Rattle.supervision.specs.Host.{open_session, command_at as command_of_session}
-use Rattle.host_node.specs.State.{NodeState}
+use Rattle.host_model.specs.host_node.State.{NodeState}
 use Rattle.host_model.specs.State.{Command, command_at}
 use Rattle.host_model.specs.Sessions.{command_by, open_command}
 use Rattle.host_model.specs.Facts.{IsCommandOf}

@@ -12,9 +12,9 @@ use Rattle.value_store.specs.Values.{Values}
 use Rattle.std.proofs.lemmas.List.Elements.{filter_agree}
 use Rattle.zw_base.proofs.Each.{all-weaker}
 use Rattle.supervision.specs.Host.{open_session, command_at as command_of_session}
-use Rattle.host_node.specs.State.{NodeState}
-use Rattle.host_node.specs.Steps.{oldest}
-use Rattle.host_node.specs.TableState.{node_of}
+use Rattle.host_model.specs.host_node.State.{NodeState}
+use Rattle.host_model.specs.host_node.Steps.{oldest}
+use Rattle.host_model.specs.host_node.TableState.{node_of}
 use Rattle.host_model.specs.State.{HostState, Command, command_at}
 use Rattle.host_model.specs.Sessions.{command_by, open_command}
 use Rattle.host_model.specs.Events.{HostEvent}

@@ -8,9 +8,9 @@ use Rattle.zw_text.specs.declared.entry.Outcome.{Outcome}
 use Rattle.zw_text.specs.declared.entry.Outcome.TheVariants.{Waiting, Begun}
 use Rattle.zw_text.specs.Transcript.{sessions, outcome, outcome_of}
 use Rattle.supervision.specs.Host.{begun_of}
-use Rattle.host_node.specs.State.{NodeState}
-use Rattle.host_node.specs.Steps.{oldest}
-use Rattle.host_node.specs.TableState.{node_of}
+use Rattle.host_model.specs.host_node.State.{NodeState}
+use Rattle.host_model.specs.host_node.Steps.{oldest}
+use Rattle.host_model.specs.host_node.TableState.{node_of}
 use Rattle.host_model.specs.State.{Command, command_at, with_outcome}
 use Rattle.proof_host.specs.Laws.{accepted_for}
 use Rattle.proof_host.specs.Tables.{outcome_in, nodes_by}

@@ -16,12 +16,12 @@ use Rattle.law_transcript.specs.Lists.{EachAfter}
 use Rattle.law_transcript.specs.Stores.{store_at, FollowsSuccess, MayStore}
 use Rattle.value_store.specs.Values.{Values}
 use Rattle.law_transcript.specs.host_orders.Settings.{settings}
-use Rattle.host_keep.specs.declared.final_status.FinalStatus.{FinalStatus}
-use Rattle.host_keep.specs.declared.final_status.FinalStatus.TheVariants as final
+use Rattle.host_model.specs.host_keep.declared.final_status.FinalStatus.{FinalStatus}
+use Rattle.host_model.specs.host_keep.declared.final_status.FinalStatus.TheVariants as final
 use Rattle.supervision.specs.Host.{begun_of}
-use Rattle.host_node.specs.State.{NodeState}
-use Rattle.host_node.specs.Steps.{oldest}
-use Rattle.host_node.specs.TableState.{node_of}
+use Rattle.host_model.specs.host_node.State.{NodeState}
+use Rattle.host_model.specs.host_node.Steps.{oldest}
+use Rattle.host_model.specs.host_node.TableState.{node_of}
 use Rattle.host_model.specs.State.{Command, command_at, with_outcome}
 use Rattle.host_model.specs.Sessions.{settings_with}
 use Rattle.host_model.specs.After.{outcome_of}

@@ -22,7 +22,7 @@ use Rattle.value_store.proofs.Keys.{key_exact, key_total, same_property_laws}
 use Rattle.law_transcript.specs.host_orders.Settings.{config_settings, settings, settings_by}
 use Rattle.law_transcript.specs.host_orders.declared.actuator.Actuator.{Actuator}
 use Rattle.law_transcript.specs.host_orders.declared.actuator.Actuator.TheVariants.{Binary, Multilevel, Lock}
-use Rattle.host_keep.specs.Kept.{or_else, value_among}
+use Rattle.host_model.specs.host_keep.Kept.{or_else, value_among}
 use Rattle.host_model.specs.After.{confirming, hearing}
 use Rattle.proof_host.proofs.Effect.{SameConfirmed}
 use Rattle.host_model.proofs.Values.{one_property}

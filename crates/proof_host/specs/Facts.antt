@@ -12,8 +12,8 @@ use Rattle.law_transcript.specs.Sessions.{IsFinal}
 use Rattle.zw_base.specs.declared.property.Property.{Property}
 use Rattle.value_store.specs.Values.{stored_of}
 use Rattle.supervision.specs.Host.{open_session}
-use Rattle.host_node.specs.State.{NodeState}
-use Rattle.host_node.specs.TableState.{node_of}
+use Rattle.host_model.specs.host_node.State.{NodeState}
+use Rattle.host_model.specs.host_node.TableState.{node_of}
 use Rattle.host_model.specs.State.{HostState, Command, command_at}
 use Rattle.host_model.specs.Sessions.{open_command}
 use Rattle.host_model.specs.Events.{HostEvent}

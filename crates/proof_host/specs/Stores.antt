@@ -15,9 +15,9 @@ use Rattle.law_transcript.specs.Table.{compare_properties}
 use Rattle.law_transcript.specs.Values.{is_success, last_given}
 use Rattle.value_store.specs.Values.{Values, stored_of}
 use Rattle.law_transcript.specs.host_orders.Settings.{settings}
-use Rattle.host_keep.specs.Kept.{Taken, value_by}
-use Rattle.host_node.specs.State.{NodeState}
-use Rattle.host_node.specs.TableState.{node_of}
+use Rattle.host_model.specs.host_keep.Kept.{Taken, value_by}
+use Rattle.host_model.specs.host_node.State.{NodeState}
+use Rattle.host_model.specs.host_node.TableState.{node_of}
 use Rattle.host_model.specs.State.{HostState, Command}
 use Rattle.host_model.specs.Outs.{stored_entries}
 use Rattle.proof_host.specs.Tables.{outcome_in, taken_at}

@@ -2,7 +2,7 @@
 use Rattle.std.specs.Prelude.{ℕ, List, [], ◌∷◌, Option, Some, None}
 use Rattle.zw_text.specs.declared.entry.Outcome.{Outcome}
 use Rattle.zw_text.specs.declared.entry.Outcome.TheVariants.{Waiting, Begun, Unanswered}
-use Rattle.host_keep.specs.Kept.{Taken}
+use Rattle.host_model.specs.host_keep.Kept.{Taken}
 use Rattle.host_model.specs.State.{Command, command_at}
 
 -- what became of the command of a number, and Waiting where no command has it

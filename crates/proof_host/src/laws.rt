@@ -11,7 +11,7 @@ ghost use Rattle.host_model.specs.State.{HostState, first_host};
 ghost use Rattle.host_model.specs.Events.{HostEvent};
 ghost use Rattle.host_model.specs.After.{after};
 ghost use Rattle.host_model.specs.May.{May};
-ghost use Rattle.host_keep.specs.Keeping.{Shelf};
+ghost use Rattle.host_model.specs.host_keep.Keeping.{Shelf};
 ghost use Rattle.host_model.specs.Did.{after_all, Did, MayAll};
 ghost use Rattle.host_model.specs.declared.out.HostOut.{HostOut};
 ghost use Rattle.proof_host.specs.Entries.{IsAside, entries_at, entries_all};
@@ -31,8 +31,7 @@ ghost use Rattle.proof_host.specs.Wrong.{
 };
 ghost use Rattle.proof_host.specs.Stores.{AreSorted, StoresLaw};
 
-use host_model::facts_are_kept;
-use host_node::a_restart_needs_the_records_alone;
+use host_model::{a_restart_needs_the_records_alone, facts_are_kept};
 
 /// Before anything happens the facts hold of an empty transcript.
 pub fn first_facts_hold()

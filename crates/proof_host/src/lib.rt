@@ -12,6 +12,12 @@
 mod laws;
 mod lives;
 
+pub use host_model::{
+    a_host_begins_with_what_is_kept, a_pump_ends, a_restart_keeps_what_is_held,
+    attempts_have_what_they_give, events_do_what_their_records_do, facts_are_kept,
+    nodes_are_told_in_few_turns, records_of_events_are_legal,
+};
+pub use law_transcript::sessions_rise;
 pub use laws::{
     asides_keep_facts, events_keep_facts, first_facts_hold, hosts_keep_laws, laws_follow,
     outcomes_are_told, restarts_keep_facts, values_are_in_order, what_is_over_stays,

@@ -3,9 +3,9 @@
 ghost use Rattle.std.specs.Prelude.{List, [], ◌++◌};
 ghost use Rattle.s0_crypto.specs.declared.key_pair.Keys.{Keys};
 ghost use Rattle.zw_text.specs.declared.entry.Entry.{Entry};
-ghost use Rattle.host_keep.specs.Kept.{Kept, kept_of};
-ghost use Rattle.host_keep.specs.Legal.{AreLegal};
-ghost use Rattle.host_keep.specs.declared.record.Record.{Record};
+ghost use Rattle.host_model.specs.host_keep.Kept.{Kept, kept_of};
+ghost use Rattle.host_model.specs.host_keep.Legal.{AreLegal};
+ghost use Rattle.host_model.specs.host_keep.declared.record.Record.{Record};
 ghost use Rattle.host_model.specs.State.{HostState, first_host};
 ghost use Rattle.host_model.specs.Events.{HostEvent};
 ghost use Rattle.host_model.specs.Facts.{HostFacts};
@@ -16,10 +16,9 @@ ghost use Rattle.proof_host.specs.Lives.{AreLives, entries_of_lives, last_of_liv
 ghost use Rattle.proof_host.specs.Stores.{StoresLaw};
 
 use crate::laws::{events_keep_facts, first_facts_hold, laws_follow, restarts_keep_facts};
-use host_keep::records_go_on;
 use host_model::{
     a_host_begins_with_what_is_kept, a_restart_keeps_what_is_held, events_do_what_their_records_do,
-    records_of_events_are_legal,
+    records_go_on, records_of_events_are_legal,
 };
 
 /// A host that has what is kept, and nothing besides, starts from what another recorded that has it too.

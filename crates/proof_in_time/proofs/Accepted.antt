@@ -37,12 +37,13 @@ use Rattle.proof_answered.proofs.TurnOrder.{turn_most}
 use Rattle.proof_answered.proofs.Unmarked.{nothing_asked}
 use Rattle.proof_answered.proofs.proof_traffic_Parts.{Airs}
 use Rattle.proof_in_time.specs.Coming.{IsKeptFor}
+use Rattle.proof_in_time.specs.InStep.{IsPlainly}
 use Rattle.proof_in_time.specs.InHand.{MayServe, StandsAt, ticks_enough, ticks_of_all}
 use Rattle.proof_in_time.proofs.InHand.{Any, Due, Ends, HandAt, HasTurn, Idles, KeptLaws, Runs, any_kept, ends_kept, event_hand, hand_as}
 use Rattle.proof_in_time.proofs.InTurn.{ComesTo, In_turn}
 use Rattle.proof_in_time.proofs.Keeping.{kept_before, none_unkept, told_kept}
 use Rattle.proof_in_time.proofs.Lasting.{in_time, node_within}
-use Rattle.proof_in_time.proofs.Nearing.{HasAll, KnowServed, RunsOn, Soon, idle_of}
+use Rattle.proof_in_time.proofs.Nearing.{KnowServed, RunsOn, Soon, idle_of}
 
 -- ---- a node that is given a command
 
@@ -173,7 +174,7 @@ abbrev pub KnowAccepted : List Bool → ℕ → Phase → List Entry → Machine
 KnowAccepted these start here past m = KnowServed these here past m × (IsKeptFor these past → (n : ℕ) → is_marked these n ≡ true → InHandFrom n start m.host.state)
 
 module _ (airs : Airs) (these : List Bool) (many : length these ≡ 233) (none : is_marked these 0 ≡ false) (facts_kept : (h : HostState) (event : HostEvent) → HostFacts h → MayHost h event → HostFacts (after h event)) (start : ℕ)
-    (served : WalkWhere (HasAll these) AsksNothing (KnowServed these)) where
+    (served : WalkWhere (IsPlainly these) AsksNothing (KnowServed these)) where
   accepted_on : (here next : Phase) (past : List Entry) (m : Machine) (event : Event) → Goes here m event next → May m event → IsKeptFor these (past ++ entries m event) → KnowAccepted these start here past m
       → (n : ℕ) → is_marked these n ≡ true → InHandFrom n start (happens m event).host.state
   accepted_on here next past m event goes may is known n marked =
@@ -184,10 +185,10 @@ module _ (airs : Airs) (these : List Bool) (many : length these ≡ 233) (none :
       let node = node_within these many none n marked in
       let below : n < 233 = (let few = node.1 in omega (arith, few)) in
       let later = first_on (On facts_kept n below start) (on_kept facts_kept n below start) airs here next m event goes may (in_time these here past m event before known.0.0.0) tied.0 tied.1 tied.6 (staff.0.0 stretched).0.1
-      (λ k same on. absurd (none_unkept m event (told_kept these past (entries m event) is) k same)) (record { facts = tied.7.facts; serves = (known.0.1 before).each n marked; all = known.1 before n marked }) in
+      (λ k same on. absurd (none_unkept m event (told_kept these past (entries m event) is) k same)) (record { facts = tied.7.facts; serves = (known.0.1 before).serve.each n marked; all = known.1 before n marked }) in
       later.all
 
-  pub accepted_walk : WalkWhere (HasAll these) AsksNothing (KnowAccepted these start)
+  pub accepted_walk : WalkWhere (IsPlainly these) AsksNothing (KnowAccepted these start)
   accepted_walk = record {
     said = λ past m words line read known. (tt, ((served.said past m words line read known.0).1, λ is. known.1 (kept_before these past (entry.Said words ∷ []) is)));
     event = λ here next past m event goes may plain known. (
@@ -208,7 +209,7 @@ pub soon_of : (these : List Bool) (n command ticks : ℕ) (taken : Taken) (start
     → taken.order.node ≡ n → start + 1 ≤ command → ticks_of_all these 18 ≤ ticks → IsKeptFor these past → Soon these n command ticks Between m
 soon_of these n command ticks taken start past m marked node known found for_node later enough kept =
     hand_as command Few Few (λ (more : ℕ). ComesTo these n (ticks - ticks_of_all these more) Between m) (λ (more : ℕ). RunsOn n (ticks - ticks_of_all these more) Between m) (node_of m.host.state n) due runs
-    (record { listens = ((known.0.1 kept).each n marked).listens; unblocked = ((known.0.1 kept).each n marked).unblocked; ends = known.1 kept n marked command taken found for_node later })
+    (record { listens = ((known.0.1 kept).serve.each n marked).listens; unblocked = ((known.0.1 kept).serve.each n marked).unblocked; ends = known.1 kept n marked command taken found for_node later })
   where
     left : (more : ℕ) → Few more → ticks_enough these ≤ ticks - ticks_of_all these more
     left more few = let all = all_most these (suc more) 18 (omega (arith, few)) in omega (arith, all, enough)

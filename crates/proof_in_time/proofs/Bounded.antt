@@ -35,6 +35,7 @@ use Rattle.world_model.specs.Events.{Event, Outside_does, Host_does, Decoder_tic
 use Rattle.world_model.specs.State.{Machine}
 use Rattle.proof_answered.specs.proof_calm.proof_traffic.OnAir.{on_air}
 use Rattle.proof_answered.specs.proof_calm.proof_work.proof_walk.Phases.{Phase, Said_line, Begun, Doing, To_tick, Ticked, Arriving, Ticking_devices, Ticking_chip, Ticking_decoder, Ticking_host}
+use Rattle.proof_answered.proofs.Judging.{AnyFrame}
 use Rattle.proof_answered.proofs.proof_traffic_Parts.{Airs}
 use Rattle.proof_answered.specs.proof_calm.Awaited.{Awaits}
 use Rattle.proof_answered.specs.proof_calm.Live.{HasLive, IsLive}
@@ -60,7 +61,7 @@ use Rattle.proof_in_time.specs.Coming.{AsksFor, Asked, Coming, Flies, Has, IsAsk
 use Rattle.proof_in_time.specs.InStep.{HasInStep, HearsInStep, IsPlainly}
 use Rattle.proof_in_time.proofs.Carried.{Fits, arrives_comes, carry, many_on_air, ticks_once}
 use Rattle.proof_in_time.proofs.Grown.{Adds, Arrived, arrives_there, calm_adds, device_adds, same_adds, wakes_add}
-use Rattle.proof_in_time.proofs.Landed.{Any, answer_flies, has_piled}
+use Rattle.proof_in_time.proofs.Landed.{answer_flies, has_piled}
 use Rattle.proof_in_time.proofs.NodeWaits.{IsBeside, OnTable, TickOf, beside_table, own_start, own_tick}
 use Rattle.proof_answered.proofs.Flying.{chip_counts}
 
@@ -313,8 +314,8 @@ answer_ends : (laws : Devices) (session : ℕ) (payload drawn : List ℕ) (devic
     → (reply : List ℕ) × ((device_replies device (device_hears payload drawn) ≡ reply ∷ []) × TellsEnd session reply)
 answer_ends laws session payload drawn device message awake hears =
     let text : List ℕ = message_of message.carriage message.order session in
-    let answer = laws.heard device drawn message.carriage message.order session message.fit message.end awake hears.openly hears.step in
-    let over = laws.at_once device drawn message.carriage message.order session message.fit message.end awake hears.openly hears.at_once hears.is_done.over in
+    let answer = laws.heard device drawn message.carriage message.order session message.fit message.end awake hears.plain.openly hears.step in
+    let over = laws.at_once device drawn message.carriage message.order session message.fit message.end awake hears.plain.openly hears.plain.at_once hears.plain.is_done.over in
     let new : State = device_after device (device_hears text drawn) in (
       answer.payload,
       (
@@ -332,7 +333,7 @@ answer_ends laws session payload drawn device message awake hears =
 pub host_stays : (airs : Airs) (n : ℕ) (here next : Phase) (m : Machine) (event : HostEvent) → (IsAsking here → AsksFor n (session_of n m) m.host.state → ⊥) → ((left : ℕ) → Fits n (many_on_air m) here left next left) → Goes_on n here m next (happens m (Host_does event))
 host_stays airs n here next m event none fits left comes =
     carry n (session_of n m) left left here next m (happens m (Host_does event)) (λ asking asks two. absurd (none asking asks)) (calm_adds m.outside.outer (happens m (Host_does event)).outside.outer (does_calm airs m event))
-    (λ x has. does_says Any (Has x) (has_piled x) airs m event has) (fits left) comes
+    (λ x has. does_says AnyFrame (Has x) (has_piled x) airs m event has) (fits left) comes
 
 pub either_node : (n k : ℕ) → (k ≡ n) ⊎ (k ≢ n)
 either_node n k = by (k == n) refl
@@ -371,7 +372,7 @@ module _ (airs : Airs) (these : List Bool) (many : length these ≡ 233) (laws :
   unfolding happens outcome
   line_waits line m w =
       outer_waits n most (Said_line line) (Begun line) (omega arith) m Begins_line
-      (stay (Said_line line) (Begun line) m (happens m (Outside_does Begins_line)) (λ a. a) (same_adds m.outside.outer (happens m (Outside_does Begins_line)).outside.outer refl) (λ x has. line_says Any (Has x) (has_piled x) m has)
+      (stay (Said_line line) (Begun line) m (happens m (Outside_does Begins_line)) (λ a. a) (same_adds m.outside.outer (happens m (Outside_does Begins_line)).outside.outer refl) (λ x has. line_says AnyFrame (Has x) (has_piled x) m has)
       (same_fits (Said_line line) (Begun line) (λ place. omega arith) (omega arith) (many_on_air m))) w
 
   -- a tick begins: one fewer is to begin
@@ -400,7 +401,7 @@ module _ (airs : Airs) (these : List Bool) (many : length these ≡ 233) (laws :
           few = omega (arith, few);
           within = omega (arith, within);
           comes = carry n (session_of n m) b.left (b.left - 1) (To_tick (suc ticks)) (Ticked ticks) m (happens m (Outside_does Begins_tick)) (λ asking asks two. absurd asking)
-              (same_adds m.outside.outer (happens m (Outside_does Begins_tick)).outside.outer refl) (λ x has. tick_says Any (Has x) (has_piled x) m has)
+              (same_adds m.outside.outer (happens m (Outside_does Begins_tick)).outside.outer refl) (λ x has. tick_says AnyFrame (Has x) (has_piled x) m has)
               (record { joint = λ place within_it. omega (arith, some); alone = omega (arith, some) }) b.comes;
           waits = begun_far (node_of m.host.state n).attempt_wait b.left some b.waits;
         };
@@ -411,12 +412,12 @@ module _ (airs : Airs) (these : List Bool) (many : length these ≡ 233) (laws :
   ticks_wait place count ticks m drawn route is w =
       outer_waits n most (Ticking_devices place (suc count) ticks) (Ticking_devices (place + 1) count ticks) (omega arith) m (Device_ticks place drawn route)
       (stay (Ticking_devices place (suc count) ticks) (Ticking_devices (place + 1) count ticks) m (happens m (Outside_does (Device_ticks place drawn route))) (λ a. a) (device_adds airs m is place drawn route)
-      (λ x has. device_says Any (Has x) (has_piled x) m place drawn route has) (same_fits (Ticking_devices place (suc count) ticks) (Ticking_devices (place + 1) count ticks) (λ at. omega arith) (omega arith) (many_on_air m))) w
+      (λ x has. device_says AnyFrame (Has x) (has_piled x) m place drawn route has) (same_fits (Ticking_devices place (suc count) ticks) (Ticking_devices (place + 1) count ticks) (λ at. omega arith) (omega arith) (many_on_air m))) w
 
   pub chip_waits : (ticks : ℕ) (m : Machine) → IsGiven 0 m → IsGiven 1 (happens m (Outside_does Chip_ticks)) → WaitsFor n most (Ticking_chip ticks) m → WaitsFor n most (Ticking_decoder ticks) (happens m (Outside_does Chip_ticks))
   chip_waits ticks m given later w =
       outer_waits n most (Ticking_chip ticks) (Ticking_decoder ticks) (omega arith) m Chip_ticks
-      (stay (Ticking_chip ticks) (Ticking_decoder ticks) m (happens m (Outside_does Chip_ticks)) (λ a. a) (chip_adds m) (λ x has. counts_says Any (Has x) (has_piled x) m given later has)
+      (stay (Ticking_chip ticks) (Ticking_decoder ticks) m (happens m (Outside_does Chip_ticks)) (λ a. a) (chip_adds m) (λ x has. counts_says AnyFrame (Has x) (has_piled x) m given later has)
       (same_fits (Ticking_chip ticks) (Ticking_decoder ticks) (λ place. omega arith) (omega arith) (many_on_air m))) w
     where
       chip_adds : (k : Machine) → Adds k.outside.outer (happens k (Outside_does Chip_ticks)).outside.outer
@@ -426,7 +427,7 @@ module _ (airs : Airs) (these : List Bool) (many : length these ≡ 233) (laws :
   unfinished_waits ticks m w =
       let once = ticks_once n m.host.state in
       decoder_waits n most (Ticking_decoder ticks) (Ticking_host (tick_events m.host.state) ticks) once m
-      (stay (Ticking_decoder ticks) (Ticking_host (tick_events m.host.state) ticks) m (happens m Decoder_ticks) (λ a. a) (decoder_adds m) (λ x has. decoder_says Any (Has x) (has_piled x) m has)
+      (stay (Ticking_decoder ticks) (Ticking_host (tick_events m.host.state) ticks) m (happens m Decoder_ticks) (λ a. a) (decoder_adds m) (λ x has. decoder_says AnyFrame (Has x) (has_piled x) m has)
       (same_fits (Ticking_decoder ticks) (Ticking_host (tick_events m.host.state) ticks) (λ place. omega arith) (omega arith) (many_on_air m))) w
 
   pub arrives_wait : (frames ticks : ℕ) (m : Machine) (drawn : List ℕ) (route : Option Route) → May m (Outside_does (Arrives drawn route)) → HasInStep n m → is_joined m.outside.outer.air n ≡ true → NodeFacts (node_of m.host.state n) → Awaits m
@@ -450,7 +451,7 @@ module _ (airs : Airs) (these : List Bool) (many : length these ≡ 233) (laws :
           let place : step.place ≡ listener.place = one_place n m.outside.devices step.place listener.place step.first first in
           let device : step.device ≡ listener.device = one_stands m.outside.devices step.place listener.place step.device listener.device step.stands listener.stands place in
           let fate = listener_hears m.outside.outer.air.network m.outside.devices at.frame listener request.out alive in
-          let in_step : HearsInStep session listener.device = subst (HearsInStep session) device (step.hears (begun_where (node_of m.host.state n) facts run)) in
+          let in_step : HearsInStep session listener.device = subst (HearsInStep session) device (record { plain = step.plain; step = step.step (begun_where (node_of m.host.state n) facts run) }) in
           let answer = answer_ends laws session at.frame.payload drawn listener.device request.message listener.is_up.awake in_step in
           subst (λ (k : ℕ). Stands (IsReport k session) (on_air (happens m (Outside_does (Arrives drawn route))).outside.outer.air.frames)) request.node
           (answer_flies airs m is drawn route at session listener.place listener.device answer.0 fate listener.stands (subst (λ (k : ℕ). is_joined m.outside.outer.air k ≡ true) (sym request.node) joined)
@@ -472,28 +473,28 @@ module _ (airs : Airs) (these : List Bool) (many : length these ≡ 233) (laws :
   effect_waits line left m (Outside_does (Wakes_device node route)) is awaits places w =
       outer_waits n most (Doing line (Outside_does (Wakes_device node route) ∷ left)) (Doing line left) (omega arith) m (Wakes_device node route)
       (stay (Doing line (Outside_does (Wakes_device node route) ∷ left)) (Doing line left) m (happens m (Outside_does (Wakes_device node route))) (λ a. a) (wakes_add airs m awaits node route)
-      (λ x has. effect_says Any (Has x) (has_piled x) airs m (Outside_does (Wakes_device node route)) tt has) (effect_fits line (Outside_does (Wakes_device node route)) left (many_on_air m))) w
+      (λ x has. effect_says AnyFrame (Has x) (has_piled x) airs m (Outside_does (Wakes_device node route)) tt has) (effect_fits line (Outside_does (Wakes_device node route)) left (many_on_air m))) w
   effect_waits line left m (Outside_does (Shows node)) is awaits places w =
       outer_waits n most (Doing line (Outside_does (Shows node) ∷ left)) (Doing line left) (omega arith) m (Shows node)
       (stay (Doing line (Outside_does (Shows node) ∷ left)) (Doing line left) m (happens m (Outside_does (Shows node))) (λ a. a) (shows_adds m node)
-      (λ x has. effect_says Any (Has x) (has_piled x) airs m (Outside_does (Shows node)) tt has) (effect_fits line (Outside_does (Shows node)) left (many_on_air m))) w
+      (λ x has. effect_says AnyFrame (Has x) (has_piled x) airs m (Outside_does (Shows node)) tt has) (effect_fits line (Outside_does (Shows node)) left (many_on_air m))) w
   effect_waits line left m (Outside_does (Cuts size)) is awaits places w =
       outer_waits n most (Doing line (Outside_does (Cuts size) ∷ left)) (Doing line left) (omega arith) m (Cuts size)
       (stay (Doing line (Outside_does (Cuts size) ∷ left)) (Doing line left) m (happens m (Outside_does (Cuts size))) (λ a. a) (same_adds m.outside.outer (happens m (Outside_does (Cuts size))).outside.outer refl)
-      (λ x has. effect_says Any (Has x) (has_piled x) airs m (Outside_does (Cuts size)) tt has) (effect_fits line (Outside_does (Cuts size)) left (many_on_air m))) w
+      (λ x has. effect_says AnyFrame (Has x) (has_piled x) airs m (Outside_does (Cuts size)) tt has) (effect_fits line (Outside_does (Cuts size)) left (many_on_air m))) w
   effect_waits line left m (Host_does (Accepts order carriage)) is awaits places w =
       does_waits n most within (Doing line (Host_does (Accepts order carriage) ∷ left)) (Doing line left) m (Accepts order carriage) (omega arith) tt places
       (stay (Doing line (Host_does (Accepts order carriage) ∷ left)) (Doing line left) m (happens m (Host_does (Accepts order carriage))) (λ a. a)
       (calm_adds m.outside.outer (happens m (Host_does (Accepts order carriage))).outside.outer (does_calm airs m (Accepts order carriage)))
-      (λ x has. effect_says Any (Has x) (has_piled x) airs m (Host_does (Accepts order carriage)) tt has) (effect_fits line (Host_does (Accepts order carriage)) left (many_on_air m))) w
+      (λ x has. effect_says AnyFrame (Has x) (has_piled x) airs m (Host_does (Accepts order carriage)) tt has) (effect_fits line (Host_does (Accepts order carriage)) left (many_on_air m))) w
   effect_waits line left m (Refuses of refusal) is awaits places w =
       refuses_waits n most (Doing line (Refuses of refusal ∷ left)) (Doing line left) (omega arith) m (Refuses of refusal) refl
       (stay (Doing line (Refuses of refusal ∷ left)) (Doing line left) m (happens m (Refuses of refusal)) (λ a. a) (calm_adds m.outside.outer (happens m (Refuses of refusal)).outside.outer (enters_calm airs m (entry.Refused refusal)))
-      (λ x has. effect_says Any (Has x) (has_piled x) airs m (Refuses of refusal) tt has) (effect_fits line (Refuses of refusal) left (many_on_air m))) w
+      (λ x has. effect_says AnyFrame (Has x) (has_piled x) airs m (Refuses of refusal) tt has) (effect_fits line (Refuses of refusal) left (many_on_air m))) w
   effect_waits line left m (Shows_values node) is awaits places w =
       refuses_waits n most (Doing line (Shows_values node ∷ left)) (Doing line left) (omega arith) m (Shows_values node) refl
       (stay (Doing line (Shows_values node ∷ left)) (Doing line left) m (happens m (Shows_values node)) (λ a. a) (calm_adds m.outside.outer (happens m (Shows_values node)).outside.outer (enters_calm airs m (shown_values m.host.state node)))
-      (λ x has. effect_says Any (Has x) (has_piled x) airs m (Shows_values node) tt has) (effect_fits line (Shows_values node) left (many_on_air m))) w
+      (λ x has. effect_says AnyFrame (Has x) (has_piled x) airs m (Shows_values node) tt has) (effect_fits line (Shows_values node) left (many_on_air m))) w
   effect_waits line left m (Outside_does event) is awaits places w = absurd is
   effect_waits line left m (Host_does event) is awaits places w = absurd is
   effect_waits line left m event is awaits places w = absurd is

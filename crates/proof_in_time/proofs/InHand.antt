@@ -66,7 +66,7 @@ idle_works x command place listens unblocked none idle at = by x.series idle
 -- ---- a node
 
 -- an open session is the last
-begun_is : (book : HostBook) (session : ℕ) → open_session book ≡ Some session → begun_of book ≡ session
+pub begun_is : (book : HostBook) (session : ℕ) → open_session book ≡ Some session → begun_of book ≡ session
 begun_is book session is = by book.outcome book.commands is
   where
     by : (o : Option ℕ) (commands : List ℕ) → open_session (record book { outcome = o; commands = commands }) ≡ Some session → length commands ≡ session

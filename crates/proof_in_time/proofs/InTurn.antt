@@ -38,6 +38,7 @@ use Rattle.proof_answered.specs.proof_calm.Resting.{CanMove, LineAt, Stands as H
 use Rattle.proof_answered.specs.proof_calm.Settling.{HasMoved, IsDone}
 use Rattle.proof_answered.specs.proof_calm.Tied.{At_chip, Called, HasRoom, IsCalled, IsTied, LeavesIt, LeaveIt, Nowhere, On_way, RoomAt, TieAt, TieOf, Tied, ends_of, on_line, unheard}
 use Rattle.proof_answered.specs.proof_calm.Undisturbed.{HasNone, IsTaken}
+use Rattle.proof_answered.proofs.Judging.{AnyFrame}
 use Rattle.proof_answered.proofs.Awaiting.{sends_nothing}
 use Rattle.proof_answered.proofs.Calm.{does_calm, takes_calm}
 use Rattle.proof_answered.proofs.TurnOrder.{comes_nearer, none_works}
@@ -48,7 +49,7 @@ use Rattle.proof_answered.specs.Turns.{turn_of}
 use Rattle.proof_in_time.specs.Coming.{Has}
 use Rattle.proof_in_time.proofs.Bounded.{either_node}
 use Rattle.proof_in_time.proofs.InHand.{HasTurn}
-use Rattle.proof_in_time.proofs.Landed.{Any, has_piled}
+use Rattle.proof_in_time.proofs.Landed.{has_piled}
 use Rattle.proof_in_time.proofs.Lasting.{no_call}
 use Rattle.proof_in_time.proofs.NodeWaits.{own_start}
 use Rattle.proof_in_time.proofs.Served.{IsPartOf}
@@ -207,7 +208,7 @@ module _ (airs : Airs) (these : List Bool) (n : ℕ) (marked : is_marked these n
           called is leave =
               let call : FrameParts = notice_frame (SendData m.host.state.requests.last_id is.status) in
               let there : Has call (unheard m.outside.outer) = subst (Has call) (sym is.are) (has_in call is.before is.behind) in
-              no_call t.joined m.host.state.requests.last_id is.status (leaves_it t.joined call (unheard (chip_taken m rest ways).outside.outer) leave (chip_part_says Any (Has call) (has_piled call) tt passes m rest ways may at room tie later there))
+              no_call t.joined m.host.state.requests.last_id is.status (leaves_it t.joined call (unheard (chip_taken m rest ways).outside.outer) leave (chip_part_says AnyFrame (Has call) (has_piled call) tt passes m rest ways may at room tie later there))
 
           was : Tied true (ends_of m.host.state s) (unheard m.outside.outer) (on_line m.host.state.side.turn) → ⊥
           was (Nowhere is) = now_none is.none tie_later.tied

@@ -11,29 +11,23 @@ use Rattle.serial_frame.specs.declared.item.Item.TheVariants.{Good}
 use Rattle.serial_frame.specs.declared.unit.Unit.{Unit as LineUnit}
 use Rattle.serial_frame.specs.declared.unit.Unit.TheVariants.{Ack, Nak, Can, Framed}
 use Rattle.chip_functions.specs.Field.{IsNode}
-use Rattle.chip_functions.specs.declared.notice.Notice.TheVariants.{SendData}
-use Rattle.chip_functions.specs.declared.response.Response.TheVariants.{SendData as SendDataAnswer}
-use Rattle.chip_sim.specs.Answers.{notice_frame}
 use Rattle.chip_sim.specs.State.{ChipState}
 use Rattle.host_heard.specs.Telling.{heard_at}
-use Rattle.host_requests.specs.Events.{RequestsEvent}
-use Rattle.host_requests.specs.Events.RequestsEvent.{IsSent, Responds, CallsBack, Updates as update_told_of}
-use Rattle.host_requests.specs.declared.under_way.UnderWay.{UnderWay}
+use Rattle.host_requests.specs.Events.RequestsEvent.{IsSent}
 use Rattle.host_node.specs.State.{NodeState}
 use Rattle.host_node.specs.declared.series.Series.TheVariants.{Running, Idle}
 use Rattle.host_model.specs.After.{after, is_busy}
 use Rattle.host_model.specs.Did.{after_all}
 use Rattle.host_model.specs.Events.{HostEvent, Hears, Interviews, Line_ticks, Node_ticks, Starts, Finishes, Is_unkept}
 use Rattle.host_model.specs.State.{HostState, node_of}
-use Rattle.host_model.specs.Taking.{AreJudged, IsJudged, is_secure, told_if, told_requests}
+use Rattle.host_model.specs.Taking.{AreJudged, IsJudged, is_secure, told_if}
 use Rattle.host_model.proofs.EventLists.{after_all-append}
 use Rattle.proof_answered.specs.proof_calm.Calls.{FrameFollows}
 use Rattle.proof_answered.specs.proof_calm.Passes.{IsPlain, frames_in}
-use Rattle.proof_answered.specs.proof_calm.Tied.{Answers, Brings, Informs, IsCalled, IsOf, LeavesIt, LeaveIt, Nowhere, On_way, At_chip, Called, Tied}
-use Rattle.proof_answered.proofs.Ending.{EndsNoInterview, IsToldOf, Nothing, Something, answers_are, calls_are, handler_payload, none_under_way, send_under_way, update_told}
+use Rattle.proof_answered.proofs.Ending.{handler_payload}
 use Rattle.proof_answered.proofs.Followed.{FollowersAre, payload_all}
 use Rattle.proof_answered.proofs.Following.{kept}
-use Rattle.proof_answered.proofs.Judging.{TieBy, ends_by, one_more, unit_tied}
+use Rattle.proof_answered.proofs.Judging.{AnyFrame, EachFollows, TieBy, each_follow, frame_are, one_more, unit_tied}
 use Rattle.proof_answered.proofs.Reading.{goods}
 use Rattle.proof_in_time.specs.Coming.{Has, IsKept, TellsEnd, brings, is_layered}
 use Rattle.proof_in_time.specs.Reporting.{AwaitsReport, EndsSession, IsOver}
@@ -73,41 +67,12 @@ told_followers n = record {
   no_room = λ property. tt;
 }
 
-told_all : (event : RequestsEvent) (events : List HostEvent) → events ≡ told_requests event → AllByRecursion IsTold events
-told_all event events are = subst (AllByRecursion IsTold) (sym are) (tt, tt)
-
-update_all : (events : List HostEvent) → IsToldOf events → AllByRecursion IsTold events
-update_all events (Nothing are) = subst (AllByRecursion IsTold) (sym are) tt
-update_all events (Something update are) = told_all (update_told_of update) events are
-
-leaves_told : (joined : List Bool) (h : HostState) (frame : FrameParts) (events : List HostEvent) → LeavesIt joined frame → EndsNoInterview h → FrameFollows h frame events → AllByRecursion IsTold events
-leaves_told joined h frame events (Answers is) none follows = told_all (Responds (SendDataAnswer 1)) events (answers_are h events (subst (λ (f : FrameParts). FrameFollows h f events) is follows))
-leaves_told joined h frame events (Brings n payload member some is) none follows =
-    payload_all IsTold n (told_followers n) h payload (heard_at payload) events (λ tells. tt)
-    (handler_payload h n payload events member.is_node some (subst (λ (f : FrameParts). FrameFollows h f events) is follows))
-leaves_told joined h frame events (Informs update is) none follows = update_all events (update_told h update events none (subst (λ (f : FrameParts). FrameFollows h f events) is follows))
-
-module _ (counted : Bool) (s : ChipState) (asking : List FrameParts) where
-  frame_told : (h : HostState) (frame : FrameParts) (rest : List FrameParts) (events : List HostEvent) → FrameFollows h frame events → TieBy counted (kept h) s (frame ∷ rest) asking → AllByRecursion IsTold events
-  frame_told h frame rest events follows tie = by tie.tied
-    where
-      sends : (u : UnderWay) → IsOf u (ends_by (kept h) s) → EndsNoInterview h
-      sends u of = send_under_way h u (record { under_way = of.under_way; sends = of.sends })
-
-      called : (u : UnderWay) → IsOf u (ends_by (kept h) s) → (is : IsCalled (ends_by (kept h) s) (frame ∷ rest) asking) → (before : List FrameParts)
-          → frame ∷ rest ≡ before ++ notice_frame (SendData h.requests.last_id is.status) ∷ is.behind → LeaveIt s.joined before → AllByRecursion IsTold events
-      called u of is [] are leave =
-          let first : frame ≡ notice_frame (SendData h.requests.last_id is.status) = cc in
-          told_all (CallsBack h.requests.last_id is.status) events (calls_are h h.requests.last_id is.status events (subst (λ (f : FrameParts). FrameFollows h f events) first follows))
-      called u of is (one ∷ before) are leave =
-          let first : frame ≡ one = cc in
-          leaves_told s.joined h frame events (subst (LeavesIt s.joined) (sym first) leave.0) (sends u of) follows
-
-      by : Tied counted (ends_by (kept h) s) (frame ∷ rest) asking → AllByRecursion IsTold events
-      by (Nowhere is) = leaves_told s.joined h frame events is.leave.0 (none_under_way h is.none) follows
-      by (On_way u of fresh is) = leaves_told s.joined h frame events is.leave.0 (sends u of) follows
-      by (At_chip u of fresh is) = leaves_told s.joined h frame events is.leave.0 (sends u of) follows
-      by (Called u of fresh is) = called u of is is.before is.are is.before_leave
+each_told : (joined : List Bool) → EachFollows IsTold AnyFrame joined
+each_told joined = record {
+  hears = λ item. tt;
+  told = λ event told. tt;
+  brings = λ h n payload events member says is. payload_all IsTold n (told_followers n) h payload (heard_at payload) events (λ tells. tt) is;
+}
 
 -- ---- a node, and whether a report of its end is on its way to the host
 
@@ -222,7 +187,7 @@ module _ (n : ℕ) (within : n < 233) (session wait : ℕ) (Elsewhere : Type 0) 
         let g : HostState = after h (Hears (Good (Framed f))) in
         let keeps_more : AllByRecursion IsKept more = (subst (AllByRecursion IsKept) are keeps).1 in
         subst (λ (l : List HostEvent). J rest (after_all h l)) (sym are)
-        (frame_judges g f rest more node followed (frame_told true s [] g f rest more followed tie) keeps_more (event_judges (f ∷ rest) h (Hears (Good (Framed f))) tt j))
+        (frame_judges g f rest more node followed (frame_are (λ (k : HostState) (all : List HostEvent). AllByRecursion IsTold all) AnyFrame true s [] (each_follow IsTold AnyFrame s.joined (each_told s.joined)) g f rest more followed tie tt) keeps_more (event_judges (f ∷ rest) h (Hears (Good (Framed f))) tt j))
 
     pub units_judge : (h : HostState) (units : List LineUnit) (rest : List FrameParts) (events : List HostEvent) → IsNode n → AllByRecursion IsPlain units → AreJudged h (goods units) events → TieBy true (kept h) s (frames_in units ++ rest) []
         → AllByRecursion IsKept events → J (frames_in units ++ rest) h → J rest (after_all h events)

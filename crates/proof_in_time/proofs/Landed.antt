@@ -1,18 +1,13 @@
 -- What a frame that arrives brings: a report to the chip, and a message to a device, whose answer goes on the air.
-use Rattle.std.proofs.Common.{◌≡◌, ◌≤◌, ◌<◌, ℕ, ◌+◌, ◌-◌, ◌==◌, ◌&&◌, nat_le, nat_lt, inl, inr, Bool, true, false, if◌then◌else◌, List, [], ◌∷◌, ◌++◌, length, refl, sym, ap, ◌∙◌, subst, arith}
+use Rattle.std.proofs.Common.{◌≡◌, ◌≤◌, ◌<◌, ℕ, ◌+◌, ◌&&◌, nat_le, nat_lt, inl, inr, Bool, true, false, if◌then◌else◌, List, [], ◌∷◌, ◌++◌, length, refl, sym, ap, ◌∙◌, subst, arith}
 use Rattle.std.proofs.lemmas.Bool.Decides.{nat_tests}
 use Rattle.std.specs.Prelude.{◌⊎◌, ◌||◌, Option, Some, None, option_map, slice_get}
 use Rattle.std.specs.Option.{is_none, unwrap_or}
 use Rattle.serial_frame.specs.Frame.{FrameParts}
 use Rattle.route_table.specs.declared.route.Route.{Route}
-use Rattle.chip_functions.specs.declared.notice.Notice.TheVariants.{ApplicationUpdate}
-use Rattle.chip_functions.specs.declared.notice.TransmitStatus.{TransmitStatus}
-use Rattle.chip_sim.specs.Answers.{notice_frame}
-use Rattle.chip_sim.specs.Events.{ChipEvent, Done, Heard as chip_hears, Informed, after, ended, update_of}
-use Rattle.chip_sim.specs.Requests.{callback_frame}
+use Rattle.chip_sim.specs.Events.{Heard as chip_hears}
 use Rattle.chip_sim.specs.State.{ChipState}
-use Rattle.chip_sim.specs.Waiting.{is_full, queued}
-use Rattle.chip_sim.specs.declared.out.Sending.{Sending}
+use Rattle.chip_sim.specs.Waiting.{is_full}
 use Rattle.air_frames.specs.Flown.{Flown}
 use Rattle.air_frames.specs.Frames.{next_of}
 use Rattle.air_frames.specs.History.{Goes as goes_mark}
@@ -26,14 +21,11 @@ use Rattle.mesh_sim.specs.Fates.{Mesh, dead_hop_of, fate_by, fate_of, listener_o
 use Rattle.mesh_sim.specs.Routes.{backwards}
 use Rattle.mesh_sim.specs.Steps.{acknowledged, answered, answered_if, arrival_outs, arrival_outs_as, arriving, arriving_as, heard_at, landed, mesh_after, mesh_outs}
 use Rattle.mesh_sim.specs.Steps as mesh
-use Rattle.mesh_sim.specs.declared.event.AirEvent.{AirEvent}
-use Rattle.mesh_sim.specs.declared.event.AirEvent.TheVariants as air_event
 use Rattle.mesh_sim.specs.declared.fate.Fate.{Fate}
 use Rattle.mesh_sim.specs.declared.fate.Fate.TheVariants.{Lost, AtChip, AtDevice}
 use Rattle.outside_model.specs.Air.{deals, to_chip}
 use Rattle.outside_model.specs.Chip.{chip_does}
-use Rattle.outside_model.specs.Results.{frame_ends}
-use Rattle.outside_model.specs.State.{OuterState, Outside, Outcome, each, silent}
+use Rattle.outside_model.specs.State.{OuterState, Outside, each, silent}
 use Rattle.outside_model.specs.Events.{Arrives, mesh_of, outcome, happens as happens_outside}
 use Rattle.world_model.specs.Events.{Outside_does, happens}
 use Rattle.world_model.specs.State.{Machine}
@@ -45,11 +37,11 @@ use Rattle.proof_answered.specs.proof_calm.Resting.{IsGiven}
 use Rattle.proof_answered.specs.proof_calm.Tied.{unheard}
 use Rattle.proof_answered.proofs.ChipNotices.{arrived_air}
 use Rattle.proof_answered.proofs.Flights.{flights_are}
+use Rattle.proof_answered.proofs.Judging.{AnyFrame}
 use Rattle.proof_answered.proofs.Pending.{IsServed, has_room, has_served, line_more, line_of}
-use Rattle.proof_answered.proofs.Results.{Calls, IsResult, end_goes}
 use Rattle.proof_answered.proofs.Times.{does_chip}
 use Rattle.proof_answered.proofs.proof_traffic_Parts.{Airs}
-use Rattle.proof_answered.proofs.Unheard.{IsPiled, chip_is, given_says, of_port, on_port}
+use Rattle.proof_answered.proofs.Unheard.{IsPiled, arrives_says, chip_is, of_port}
 use Rattle.proof_in_time.specs.Coming.{Has, IsReport, Stands, TellsEnd, brings}
 use Rattle.proof_in_time.proofs.Grown.{Arrived}
 
@@ -73,10 +65,7 @@ has_either x (frame ∷ a) b (inr has) = by (has_either x a b has)
     by (inl there) = inl (inr there)
     by (inr there) = inr there
 
-abbrev pub Any : FrameParts → Type 0
-Any frame = Unit {0}
-
-pub has_piled : (x : FrameParts) → IsPiled Any (Has x)
+pub has_piled : (x : FrameParts) → IsPiled AnyFrame (Has x)
 has_piled x = record { first = λ frame frames is has. inr has; last = λ frames frame has is. has_before x frames (frame ∷ []) has }
 
 -- ---- the chip is given something
@@ -85,67 +74,10 @@ module _ (x : FrameParts) where
   abbrev pub PortHas : ChipState → Type 0
   PortHas s = Has x (line_of s.port)
 
-  given_has : (s : ChipState) (frame : FrameParts) → PortHas s → PortHas (record s { port = queued s.port frame })
-  given_has s frame has = given_says Any (Has x) (has_piled x) s frame has tt
-
-  ended_has : (s : ChipState) (sending : Option Sending) (status : TransmitStatus) → PortHas s → PortHas (ended sending s status)
-  ended_has s None status has = has
-  ended_has s (Some sent) status has = given_has s (callback_frame sent status) has
-
-  result_has : (s : ChipState) (event : ChipEvent) → IsResult event → PortHas s → PortHas (after s event)
-  result_has s (Informed n profile) result has = given_has s (notice_frame (ApplicationUpdate (update_of n profile))) has
-  result_has s (Done status) result has = by (s.aborted == 0)
-    where
-      by : (b : Bool) → PortHas (if b then ended s.sending s status else record s { aborted = s.aborted - 1 })
-      by true = ended_has s s.sending status has
-      by false = has
-  result_has s event result has = absurd result
-
-  abbrev Leaves : OuterState → Outcome → Type 0
-  Leaves o y = PortHas o.chip.state → PortHas y.outer.chip.state
-
-  calls : Calls Leaves
-  calls = record {
-    still = λ o p is has. subst PortHas (sym is.chip) has;
-    both = λ o first next one later has. later first.outer (one has);
-    later = λ o p y is goes has. goes (subst PortHas (sym is.chip) has);
-    result = λ o event is has. subst PortHas (sym (does_chip o event)) (result_has o.chip.state event is has);
-  }
-
-  ends_have : (o : OuterState) (status : ℕ) (dead : Option (ℕ × ℕ)) → Leaves o (frame_ends o status dead)
-  ends_have = end_goes Leaves calls (λ o a b has. has)
-
-  comes_has : (o : OuterState) (from : ℕ) (payload : List ℕ) → Leaves o (to_chip o from payload)
-  comes_has o from payload has = by (nat_le 1 (length payload) && nat_le (length payload) 46)
-    where
-      by : (b : Bool) → PortHas (if b then chip_does o (chip_hears from payload) else silent o).outer.chip.state
-      by true = subst PortHas (sym (does_chip o (chip_hears from payload))) (given_has o.chip.state (brings from payload) has)
-      by false = has
-
-  deals_have : (devices : List State) (o : OuterState) (event : AirEvent) → Leaves o (deals devices o event)
-  deals_have devices o (air_event.ToChip frame from payload) has = comes_has o from payload has
-  deals_have devices o (air_event.Done frame status dead) has = ends_have o status dead has
-  deals_have devices o (air_event.Heard frame) has = has
-  deals_have devices o (air_event.Lost frame) has = has
-  deals_have devices o (air_event.Unheard frame) has = has
-  deals_have devices o (air_event.Sent frame from to route payload) has = has
-  deals_have devices o (air_event.Changed node at) has = has
-
-  all_have : (devices : List State) (o : OuterState) (events : List AirEvent) → PortHas o.chip.state → PortHas (each (deals devices) o events).outer.chip.state
-  all_have devices o [] has = has
-  all_have devices o (event ∷ events) has = all_have devices (deals devices o event).outer events (deals_have devices o event has)
-
-  arrival_has : (w : Outside) (drawn : List ℕ) (route : Option Route) → PortHas w.outer.chip.state → PortHas (outcome w (Arrives drawn route)).outer.chip.state
-  unfolding outcome
-  arrival_has w drawn route has =
-      all_have (mesh_after (mesh_of w) (mesh.Arrives drawn route)).devices (record w.outer { air = (mesh_after (mesh_of w) (mesh.Arrives drawn route)).air }) (mesh_outs (mesh_of w) (mesh.Arrives drawn route)) has
-
   -- what it has stays there as a frame arrives
   pub arrives_has : (m : Machine) (drawn : List ℕ) (route : Option Route) → IsGiven 0 m → IsGiven 0 (happens m (Outside_does (Arrives drawn route))) → Has x (unheard m.outside.outer)
       → Has x (unheard (happens m (Outside_does (Arrives drawn route))).outside.outer)
-  arrives_has m drawn route given later has =
-      of_port Any (Has x) (has_piled x) 0 (happens m (Outside_does (Arrives drawn route))).outside.outer later.has
-      (subst PortHas (sym (chip_is Any (Has x) (has_piled x) m (Arrives drawn route))) (arrival_has m.outside drawn route (on_port Any (Has x) (has_piled x) 0 m.outside.outer given.has has)))
+  arrives_has m drawn route given later has = arrives_says AnyFrame (Has x) (has_piled x) (λ told. tt) (λ sent status. tt) m drawn route given later (λ frame next home. tt) has
 
 -- ---- a report arrives
 
@@ -183,8 +115,8 @@ pub report_comes : (m : Machine) (drawn : List ℕ) (route : Option Route) (fram
     → Has (brings frame.node frame.payload) (unheard (happens m (Outside_does (Arrives drawn route))).outside.outer)
 report_comes m drawn route frame next home live some few given later room =
     let x : FrameParts = brings frame.node frame.payload in
-    of_port Any (Has x) (has_piled x) 0 (happens m (Outside_does (Arrives drawn route))).outside.outer later.has
-    (subst (PortHas x) (sym (chip_is Any (Has x) (has_piled x) m (Arrives drawn route)))
+    of_port AnyFrame (Has x) (has_piled x) 0 (happens m (Outside_does (Arrives drawn route))).outside.outer later.has
+    (subst (PortHas x) (sym (chip_is AnyFrame (Has x) (has_piled x) m (Arrives drawn route)))
     (home_has m.outside drawn route frame next home live some few (has_served 0 m.outside.outer given.has) (has_room m.outside.outer.chip.state.port.waiting room)))
 
 -- ---- a message arrives

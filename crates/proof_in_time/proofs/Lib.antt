@@ -19,6 +19,8 @@ mod Spoken
 mod InHand
 mod Served
 mod InTurn
+mod Plainly
 mod Queued
 mod Nearing
 mod Accepted
+mod Endings

@@ -39,7 +39,14 @@ use Rattle.proof_answered.proofs.Staffing.{sent_on}
 use Rattle.proof_answered.specs.Turns.{turn_of}
 use Rattle.proof_answered.specs.Workers.{KnowsWorkers}
 use Rattle.proof_in_time.specs.Coming.{IsKeptFor, KnowPlainly, WaitsFor}
-use Rattle.proof_in_time.specs.InHand.{AllServe, ComesAfter, HasEnded, HearsNoTask, IsInHand, MayServe, Opened, Unopened, ticks_begun, ticks_enough, ticks_of_all}
+use Rattle.proof_messages.specs.Reporting.{TellsPlainly}
+use Rattle.proof_answered.proofs.Outwards.{awaits_of}
+use Rattle.proof_answered.proofs.Peopled.{covers_of}
+use Rattle.proof_answered.proofs.Speaking.{Same, event_of, next_is_so, pending_from}
+use Rattle.proof_answered.proofs.Staffed.{line_on}
+use Rattle.proof_in_time.proofs.Plainly.{Tells, speak_so}
+use Rattle.proof_in_time.specs.Plainly.{SpeakPlainly}
+use Rattle.proof_in_time.specs.InHand.{AllServe, ComesAfter, HasEnded, IsInHand, MayServe, Opened, Unopened, ticks_begun, ticks_enough, ticks_of_all}
 use Rattle.proof_in_time.specs.InStep.{IsPlainly}
 use Rattle.proof_in_time.proofs.Bounded.{Devices, either_node, some_left}
 use Rattle.proof_in_time.proofs.InHand.{Any, Due, Ended, Ends, Hand, HandAt, HasTurn, Idles, Runs, any_kept, ends_kept, event_hand, hand_as}
@@ -60,17 +67,18 @@ abbrev pub Soon : List Bool → ℕ → ℕ → ℕ → Phase → Machine → Ty
 Soon these n command ticks here m =
     Hand (Ends command (λ (more : ℕ). ComesTo these n (ticks - ticks_of_all these more) here m) (λ (more : ℕ). RunsOn n (ticks - ticks_of_all these more) here m)) (node_of m.host.state n)
 
--- what is known beside: the host may serve each of them, and has no task of its own
+-- the host may serve each of them, and has no task of its own; and what is on its way to it asks it for none
+pub record AreServed (these : List Bool) (m : Machine) : Type 0 where
+  pub serve : AllServe these m.host.state
+  pub speak : SpeakPlainly these m
+
+-- what is known beside
 abbrev pub KnowServed : List Bool → Phase → List Entry → Machine → Type 0
-KnowServed these here past m = KnowPlainly these here past m × (IsKeptFor these past → AllServe these m.host.state)
+KnowServed these here past m = KnowPlainly these here past m × (IsKeptFor these past → AreServed these m)
 
 -- what is known beside: the session of the command is over within as many ticks as are left
 abbrev pub KnowSoon : List Bool → ℕ → ℕ → ℕ → Phase → List Entry → Machine → Type 0
 KnowSoon these n command most here past m = KnowServed these here past m × (IsKeptFor these past → Soon these n command (most - ticks_begun m) here m)
-
--- what is assumed of each event
-abbrev pub HasAll : List Bool → Machine → Event → Type 0
-HasAll these m event = IsPlainly these m event × HearsNoTask m event
 
 -- ---- what is so of the host: a node that has work comes no later
 
@@ -328,8 +336,8 @@ module _ (airs : Airs) (these : List Bool) (many : length these ≡ 233) (laws :
 
   -- ---- the walk
 
-  module _ (none : is_marked these 0 ≡ false) (most : ℕ) (served : WalkWhere (HasAll these) AsksNothing (KnowServed these)) where
-    soon_all : (here next : Phase) (past : List Entry) (m : Machine) (event : Event) → Goes here m event next → May m event → HasAll these m event → IsKeptFor these (past ++ entries m event) → KnowSoon these n command most here past m
+  module _ (none : is_marked these 0 ≡ false) (most : ℕ) (served : WalkWhere (IsPlainly these) AsksNothing (KnowServed these)) where
+    soon_all : (here next : Phase) (past : List Entry) (m : Machine) (event : Event) → Goes here m event next → May m event → IsPlainly these m event → IsKeptFor these (past ++ entries m event) → KnowSoon these n command most here past m
         → KnowServed these next (past ++ entries m event) (happens m event) → Soon these n command (most - ticks_begun (happens m event)) next (happens m event)
     soon_all here next past m event goes may has is known later =
         let before = kept_before these past (entries m event) is in
@@ -341,13 +349,13 @@ module _ (airs : Airs) (these : List Bool) (many : length these ≡ 233) (laws :
         let was = known.0.0.0.1 before in
         let waits_then = later.0.0.1 is in
         subst (λ (ticks : ℕ). Soon these n command ticks next (happens m event)) (ticks_on most here next m event goes tied.0)
-        (soon_on (most - ticks_begun m) here next m event goes may (known.0.1 before).no_task (in_time these here past m event before known.0.0.0) (none_unkept m event (told_kept these past (entries m event) is)) tied (staff.0.0 stretched).0.1 (staff.0.1 stretched) next_tied
+        (soon_on (most - ticks_begun m) here next m event goes may (known.0.1 before).serve.no_task (in_time these here past m event before known.0.0.0) (none_unkept m event (told_kept these past (entries m event) is)) tied (staff.0.0 stretched).0.1 (staff.0.1 stretched) next_tied
         (waits_then.waits n marked)
         (λ few w.
-        event_waits airs these many laws n few marked node here next m event goes may has.0 (keeps m event (told_kept these past (entries m event) is)) was.whole tied.0 tied.1 tied.2 tied.3 tied.6 tied.7 (staff.0.0 stretched).1 sent
+        event_waits airs these many laws n few marked node here next m event goes may has (keeps m event (told_kept these past (entries m event) is)) was.whole tied.0 tied.1 tied.2 tied.3 tied.6 tied.7 (staff.0.0 stretched).1 sent
         was.joined w next_tied.0) (known.1 before))
 
-    pub soon_walk : WalkWhere (HasAll these) AsksNothing (KnowSoon these n command most)
+    pub soon_walk : WalkWhere (IsPlainly these) AsksNothing (KnowSoon these n command most)
     soon_walk = record {
       said = λ past m words line read known. (
         tt,
@@ -372,14 +380,14 @@ module _ (airs : Airs) (these : List Bool) (many : length these ≡ 233) (laws :
 
 -- ---- the host may serve these nodes
 
-module _ (airs : Airs) (these : List Bool) (many : length these ≡ 233) (none : is_marked these 0 ≡ false) (plainly : WalkWhere (IsPlainly these) AsksNothing (KnowPlainly these)) where
+module _ (airs : Airs) (these : List Bool) (many : length these ≡ 233) (none : is_marked these 0 ≡ false) (same : Same) (tells : Tells) (plainly : WalkWhere (IsPlainly these) AsksNothing (KnowPlainly these)) where
   serves_on : (here next : Phase) (past : List Entry) (m : Machine) (event : Event) → Goes here m event next → May m event → IsKeptFor these (past ++ entries m event) → KnowServed these here past m → (n : ℕ) → is_marked these n ≡ true → MayServe (node_of (happens m event).host.state n)
   serves_on here next past m event goes may is known n marked =
       let before = kept_before these past (entries m event) is in
       let stretched = before.worked.stretched in
       let staff = known.0.0.0 before.worked in
       let tied = (staff.0.0 stretched).0.0.tied stretched.quiet in
-      let served = (known.1 before).each n marked in
+      let served = (known.1 before).serve.each n marked in
       let node = node_within these many none n marked in
       let below : n < 233 = (let few = node.1 in omega (arith, few)) in
       let later = first_on (λ (h : HostState). HandAt Any any_kept n h.nodes) (λ h e lasts may_it at. event_hand Any any_kept n below h e lasts may_it at) airs here next m event goes may
@@ -387,21 +395,46 @@ module _ (airs : Airs) (these : List Bool) (many : length these ≡ 233) (none :
       (record { places = tied.7.facts.nodes.places; hand = record { listens = served.listens; unblocked = served.unblocked; ends = tt } }) in
       record { listens = later.hand.listens; unblocked = later.hand.unblocked }
 
-  task_on : (here next : Phase) (past : List Entry) (m : Machine) (event : Event) → Goes here m event next → HearsNoTask m event → IsKeptFor these (past ++ entries m event) → KnowServed these here past m → (happens m event).host.state.requests.queue ≡ []
-  task_on here next past m event goes hears is known =
+  task_on : (here next : Phase) (past : List Entry) (m : Machine) (event : Event) → Goes here m event next → May m event → IsKeptFor these (past ++ entries m event) → KnowServed these here past m → (happens m event).host.state.requests.queue ≡ []
+  task_on here next past m event goes may is known =
       let before = kept_before these past (entries m event) is in
       let stretched = before.worked.stretched in
       let staff = known.0.0.0 before.worked in
       let tied = (staff.0.0 stretched).0.0.tied stretched.quiet in
-      queue_on these here next m event goes tied.0 tied.6 hears (known.1 before) (staff.0.1 stretched) (known.1 before).no_task
+      let was = known.1 before in
+      queue_on airs these here next m event goes may tied.0 tied.6 was.speak was.serve (staff.0.1 stretched) was.serve.no_task
 
-  pub served_walk : WalkWhere (HasAll these) AsksNothing (KnowServed these)
+  speaks_on : (here next : Phase) (past : List Entry) (m : Machine) (event : Event) → Goes here m event next → May m event → IsPlainly these m event → IsKeptFor these (past ++ entries m event) → KnowServed these here past m
+      → KnowPlainly these next (past ++ entries m event) (happens m event) → SpeakPlainly these (happens m event)
+  speaks_on here next past m event goes may plain is known later =
+      let before = kept_before these past (entries m event) is in
+      let stretched = before.worked.stretched in
+      let staff = known.0.0.0 before.worked in
+      let tied = (staff.0.0 stretched).0.0.tied stretched.quiet in
+      let next_tied = ((later.0.0 is.worked).0.0 is.worked.stretched).0.0.tied is.worked.stretched.quiet in
+      let sent = sent_on these here next m event goes may tied.0 tied.6 (staff.0.1 stretched) in
+      let awaits = awaits_of here m tied.1 in
+      let was = (known.1 before).speak in
+      let devices = speak_so these m (λ n marked. (plain n marked).step) tells (staff.0.0 stretched).1 in
+      record {
+        frames = event_of airs these TellsPlainly many m awaits was.frames same event (covers_of here next m event goes tied.0) may sent (line_on these here next m event goes staff.1.lines) staff.1.speak.devices devices;
+        pending = pending_from these TellsPlainly airs here next m event goes may (tied.0, tied.2, tied.3, tied.6) tied.1 next_tied.0 (next_is_so airs these TellsPlainly many m awaits was.frames) was.pending;
+      }
+
+  pub served_walk : WalkWhere (IsPlainly these) AsksNothing (KnowServed these)
   served_walk = record {
     said = λ past m words line read known. (tt, ((plainly.said past m words line read known.0).1, λ is. known.1 (kept_before these past (entry.Said words ∷ []) is)));
-    event = λ here next past m event goes may has known. (
-      nothing_asked past (entries m event),
-      ((plainly.event here next past m event goes may has.0 known.0).1, λ is. record { each = serves_on here next past m event goes may is known; no_task = task_on here next past m event goes has.1 is known }),
-    );
+    event = λ here next past m event goes may plain known.
+        let later = (plainly.event here next past m event goes may plain known.0).1 in (
+          nothing_asked past (entries m event),
+          (
+            later,
+            λ is. record {
+              serve = record { each = serves_on here next past m event goes may is known; no_task = task_on here next past m event goes may is known };
+              speak = speaks_on here next past m event goes may plain is known later;
+            },
+          ),
+        );
     turn = λ here next past m turns known. (plainly.turn here next past m turns known.0, known.1);
   }
 
@@ -458,7 +491,7 @@ soon_then these n command more ticks past m marked node known is enough kept =
     let stretched = kept.worked.stretched in
     let staff = known.0.0.0 kept.worked in
     let tied = (staff.0.0 stretched).0.0.tied stretched.quiet in
-    soon_first these n command more ticks m node (tied.7.facts.nodes.facts n) ((known.1 kept).each n marked) is ((known.0.0.1 kept).waits n marked) enough
+    soon_first these n command more ticks m node (tied.7.facts.nodes.facts n) ((known.1 kept).serve.each n marked) is ((known.0.0.1 kept).waits n marked) enough
 
 pub soon_past : (these : List Bool) (n command : ℕ) (m : Machine) → Soon these n command 0 Between m → HasEnded command (node_of m.host.state n).book
 soon_past these n command m soon = by soon.ends

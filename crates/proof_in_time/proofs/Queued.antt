@@ -1,5 +1,5 @@
--- No task of the host waits, where none waited and the host queues none as it takes bytes: these nodes listen, and the others are still.
-use Rattle.std.proofs.Common.{◌≡◌, ℕ, Bool, true, false, ◌&&◌, List, [], ◌∷◌, length, suc, refl, sym, ap, ◌∙◌, subst}
+-- No task of the host waits, where none waited and what is on its way to it asks for none: these nodes listen, and the others are still.
+use Rattle.std.proofs.Common.{◌≡◌, ℕ, Bool, true, false, List, [], ◌∷◌, length, suc, refl, sym, ap, ◌∙◌, subst}
 use Rattle.std.specs.Prelude.{Option, Some, None}
 use Rattle.std.specs.List.{AllByRecursion}
 use Rattle.serial_link.specs.State.{turn_ticked}
@@ -20,7 +20,7 @@ use Rattle.host_requests.specs.declared.task.Task.TheVariants.{NoMore}
 use Rattle.host_requests.specs.declared.under_way.UnderWay.{UnderWay}
 use Rattle.host_node.specs.Events.NodeEvent.{Ticks as node_ticks}
 use Rattle.host_node.specs.Search.{first_wanting}
-use Rattle.host_node.specs.State.{NodeState, is_false, wants_no_more}
+use Rattle.host_node.specs.State.{NodeState, wants_no_more}
 use Rattle.host_node.specs.Steps.{after_attempt_end, attempt_end, tick_end}
 use Rattle.host_node.specs.declared.attempt.AttemptEnd.{AttemptEnd}
 use Rattle.host_node.specs.declared.attempt.AttemptEnd.TheVariants.{NoneRan, Again, Unanswered}
@@ -39,12 +39,19 @@ use Rattle.serial_frame.specs.Stream.{Rest}
 use Rattle.serial_frame.specs.declared.item.Item.{Item}
 use Rattle.proof_answered.specs.proof_calm.Tied.{All, IsNodeTick, Nodes, Request, TickLeft, TieAt}
 use Rattle.host_node.specs.declared.attempt.Moment.TheVariants.{BeforeItsTick}
-use Rattle.world_model.specs.Events.{Event, Outside_does, Host_does, Host_takes, Decoder_ticks, Refuses, Shows_values, happens}
+use Rattle.world_model.specs.Events.{Event, Outside_does, Host_does, Host_takes, Decoder_ticks, Refuses, Shows_values, happens, May}
 use Rattle.world_model.specs.State.{Machine}
 use Rattle.proof_answered.specs.proof_calm.Resting.{IsEffect, LineAt}
 use Rattle.proof_answered.specs.proof_calm.proof_work.proof_walk.Phases.{Phase, Said_line, Doing, To_tick, Arriving, Giving, Ticking_devices, Ticking_chip, Ticking_decoder, Ticking_host, Sleeping, Submitting, Moving, Moved, Goes}
 use Rattle.proof_answered.specs.Workers.{KnowsWorkers}
-use Rattle.proof_in_time.specs.InHand.{AllServe, AsksNoTask, HearsNoTask, QueuesNone}
+use Rattle.proof_messages.specs.Reporting.{TellsPlainly}
+use Rattle.proof_answered.specs.Workers.{IsFromSaying}
+use Rattle.proof_answered.proofs.Peopled.{takes_are}
+use Rattle.proof_answered.proofs.Staffing.{still_wants}
+use Rattle.proof_answered.proofs.proof_traffic_Parts.{Airs}
+use Rattle.proof_in_time.specs.InHand.{AllServe}
+use Rattle.proof_in_time.specs.Plainly.{SpeakPlainly}
+use Rattle.proof_in_time.proofs.Plainly.{AsksNoTask, QueuesNone, each_none}
 
 -- ---- an event of the host
 
@@ -145,9 +152,7 @@ none_wants these h n serves knows is = by (is_marked these n) refl
 
     by : (b : Bool) → is_marked these n ≡ b → ⊥
     by true marked = absurd (let wrong : true ≡ false = sym (serves.each n marked).listens ∙ parts.1 in cc)
-    by false other =
-        let rests = (knows.others n other).rests in
-        absurd (let wrong : true ≡ false = sym (ap (λ (a : Bool). a && is_false (node_of h n).listens) parts.0 ∙ ap is_false parts.1) ∙ rests in cc)
+    by false other = still_wants (node_of h n) (knows.others n other) (wants h.nodes n is)
 
 -- ---- from phase to phase
 
@@ -194,19 +199,21 @@ tick_none counted first events (Nodes nodes done) = node_tick first nodes.0
 submitted_none : SubmittedAre QueuesNone
 submitted_none = record { abort = tt; front = tt; starts = λ n plan more payload. tt; text = λ n payload. tt; segment = λ n more payload. tt; begins = λ n session command. tt; unkept = λ n. tt }
 
-pub queue_on : (these : List Bool) (here next : Phase) (m : Machine) (event : Event) → Goes here m event next → LineAt here m → TieAt here m → HearsNoTask m event → AllServe these m.host.state → KnowsWorkers these m.host.state → Empty m → Empty (happens m event)
-queue_on these (Said_line line) next m event (is, to) at tie hears serves knows empty = empty_as m event _ is (outer_empty m Begins_line empty)
-queue_on these (Doing line (first ∷ left)) next m event (is, to) at tie hears serves knows empty = empty_as m event first is (effect_empty m first at.0.0 empty)
-queue_on these (To_tick (suc ticks)) next m event (is, to) at tie hears serves knows empty = empty_as m event _ is (outer_empty m Begins_tick empty)
-queue_on these (Arriving (suc frames) ticks) next m event (drawn, route, is, to) at tie hears serves knows empty = empty_as m event _ is (outer_empty m (Arrives drawn route) empty)
-queue_on these (Giving (suc results) ticks) next m event (route, is, to) at tie hears serves knows empty = empty_as m event _ is (outer_empty m (outer_gives route) empty)
-queue_on these (Ticking_devices place (suc count) ticks) next m event (drawn, route, is, to) at tie hears serves knows empty = empty_as m event _ is (outer_empty m (Device_ticks place drawn route) empty)
-queue_on these (Ticking_chip ticks) next m event (is, to) at tie hears serves knows empty = empty_as m event _ is (outer_empty m Chip_ticks empty)
-queue_on these (Ticking_decoder ticks) next m event (is, to) at tie hears serves knows empty = empty_as m event _ is (decoder_empty m empty)
-queue_on these (Ticking_host (first ∷ events) ticks) next m event (is, to) at tie hears serves knows empty = empty_as m event _ is (does_empty m first (tick_none tie.counted first events tie.left) empty)
-queue_on these (Sleeping passes ticks) next m event (n, first, is, to) at tie hears serves knows empty = absurd (none_wants these m.host.state n serves knows first)
-queue_on these (Submitting passes ticks) next m event (asked, next_so, is, to) at tie hears serves knows empty = empty_as m event _ is (does_empty m asked (next_is QueuesNone submitted_none m.host.state asked next_so) empty)
-queue_on these (Moving passes ticks) next m event (rest, ways, is, to) at tie hears serves knows empty = empty_as m event _ is (outer_empty m (Chip_takes (length m.outside.outer.to_chip.bytes) rest ways) empty)
-queue_on these (Moved b passes ticks) next m event (rest, items, events, is, to) at tie hears serves knows empty =
-    empty_as m event _ is (takes_empty m (length m.outside.outer.to_host.bytes) rest items events (subst (HearsNoTask m) is hears) empty)
-queue_on these here next m event goes at tie hears serves knows empty = absurd goes
+pub queue_on : (airs : Airs) (these : List Bool) (here next : Phase) (m : Machine) (event : Event) → Goes here m event next → May m event → LineAt here m → TieAt here m → SpeakPlainly these m → AllServe these m.host.state → KnowsWorkers these m.host.state → Empty m → Empty (happens m event)
+queue_on airs these (Said_line line) next m event (is, to) may at tie speak serves knows empty = empty_as m event _ is (outer_empty m Begins_line empty)
+queue_on airs these (Doing line (first ∷ left)) next m event (is, to) may at tie speak serves knows empty = empty_as m event first is (effect_empty m first at.0.0 empty)
+queue_on airs these (To_tick (suc ticks)) next m event (is, to) may at tie speak serves knows empty = empty_as m event _ is (outer_empty m Begins_tick empty)
+queue_on airs these (Arriving (suc frames) ticks) next m event (drawn, route, is, to) may at tie speak serves knows empty = empty_as m event _ is (outer_empty m (Arrives drawn route) empty)
+queue_on airs these (Giving (suc results) ticks) next m event (route, is, to) may at tie speak serves knows empty = empty_as m event _ is (outer_empty m (outer_gives route) empty)
+queue_on airs these (Ticking_devices place (suc count) ticks) next m event (drawn, route, is, to) may at tie speak serves knows empty = empty_as m event _ is (outer_empty m (Device_ticks place drawn route) empty)
+queue_on airs these (Ticking_chip ticks) next m event (is, to) may at tie speak serves knows empty = empty_as m event _ is (outer_empty m Chip_ticks empty)
+queue_on airs these (Ticking_decoder ticks) next m event (is, to) may at tie speak serves knows empty = empty_as m event _ is (decoder_empty m empty)
+queue_on airs these (Ticking_host (first ∷ events) ticks) next m event (is, to) may at tie speak serves knows empty = empty_as m event _ is (does_empty m first (tick_none tie.counted first events tie.left) empty)
+queue_on airs these (Sleeping passes ticks) next m event (n, first, is, to) may at tie speak serves knows empty = absurd (none_wants these m.host.state n serves knows first)
+queue_on airs these (Submitting passes ticks) next m event (asked, next_so, is, to) may at tie speak serves knows empty = empty_as m event _ is (does_empty m asked (next_is QueuesNone submitted_none m.host.state asked next_so) empty)
+queue_on airs these (Moving passes ticks) next m event (rest, ways, is, to) may at tie speak serves knows empty = empty_as m event _ is (outer_empty m (Chip_takes (length m.outside.outer.to_chip.bytes) rest ways) empty)
+queue_on airs these (Moved b passes ticks) next m event (rest, items, events, is, to) may at tie speak serves knows empty =
+    empty_as m event _ is
+    (takes_empty m (length m.outside.outer.to_host.bytes) rest items events
+    (takes_are QueuesNone (IsFromSaying these TellsPlainly) airs b passes m rest items events (each_none these m.outside.outer.chip.state.joined) (subst (May m) is may) at tie speak.pending) empty)
+queue_on airs these here next m event goes may at tie speak serves knows empty = absurd goes

@@ -37,7 +37,7 @@ use Rattle.proof_answered.proofs.Calm.{takes_calm}
 use Rattle.proof_answered.proofs.Following.{kept}
 use Rattle.proof_answered.proofs.HostTurns.{host_turns}
 use Rattle.proof_answered.proofs.Idle.{host_idles}
-use Rattle.proof_answered.proofs.Judging.{TieBy}
+use Rattle.proof_answered.proofs.Judging.{AnyFrame, TieBy}
 use Rattle.proof_answered.proofs.Peopled.{judged_are}
 use Rattle.proof_answered.proofs.Reading.{goods}
 use Rattle.proof_answered.proofs.Requested.{moved_frames}
@@ -48,7 +48,7 @@ use Rattle.proof_in_time.proofs.Bounded.{NoMore, again_far, does_waits, either_n
 use Rattle.proof_in_time.proofs.Carried.{Fits, IsThere, carry, carry_or, many_on_air}
 use Rattle.proof_in_time.proofs.Grown.{Adds, calm_adds, takes_add}
 use Rattle.proof_in_time.proofs.JudgedWaits.{Judges, Runs, units_judge}
-use Rattle.proof_in_time.proofs.Landed.{Any, has_piled}
+use Rattle.proof_in_time.proofs.Landed.{has_piled}
 use Rattle.proof_in_time.proofs.NodeWaits.{IsBeside}
 
 -- ---- a pump
@@ -128,7 +128,7 @@ module _ (airs : Airs) (these : List Bool) (many : length these ≡ 233) (n most
       (λ left comes.
       carry n (session_of n m) left left (Moving passes ticks) (Moved true passes ticks) m (chip_taken m rest ways)
       (λ asking asks two. Sent (aired (session_of n m) asks.payload (on_air (chip_taken m rest ways).outside.outer.air.frames) asks.message (airs_it asks)) (omega (arith, two)))
-      (takes_add airs m awaits these many (length m.outside.outer.to_chip.bytes) rest ways sent) (λ x has. chip_part_says Any (Has x) (has_piled x) tt passes m rest ways may at room tie later has)
+      (takes_add airs m awaits these many (length m.outside.outer.to_chip.bytes) rest ways sent) (λ x has. chip_part_says AnyFrame (Has x) (has_piled x) tt passes m rest ways may at room tie later has)
       (still_fits n (many_on_air m) left (Moving passes ticks) (Moved true passes ticks) (λ place. omega arith) (omega arith)) comes)
       w
 
@@ -172,7 +172,7 @@ module _ (airs : Airs) (these : List Bool) (many : length these ≡ 233) (n most
         refuses_waits n most (Moved b passes ticks) (Sleeping passes ticks) (omega arith) m (Host_takes (length m.outside.outer.to_host.bytes) rest items events) (host_idles m host turn frames rest items events line may).2
         (λ left comes.
         carry n (session_of n m) left left (Moved b passes ticks) (Sleeping passes ticks) m later (λ asking asks two. absurd asking) adds
-        (λ x has. subst (Has x) (sym (unheard_idle Any (Has x) (has_piled x) airs m rest items events host turn frames line may)) has) (fits left) comes)
+        (λ x has. subst (Has x) (sym (unheard_idle AnyFrame (Has x) (has_piled x) airs m rest items events host turn frames line may)) has) (fits left) comes)
         w
 
     units_wait : (unit : LineUnit) (units : List LineUnit) (host turn : Turn) (frames : List FrameParts) → OnLine [] (unit ∷ units) host turn frames m → AllByRecursion IsPlain (unit ∷ units) → length (unit ∷ units) ≤ 99
@@ -252,7 +252,7 @@ module _ (airs : Airs) (these : List Bool) (many : length these ≡ 233) (n most
               within_most = omega arith;
               comes = in_session 0
                   (Told payload tells
-                  (subst (Has (brings n payload)) (sym (unheard_judged Any (Has (brings n payload)) (has_piled (brings n payload)) airs m rest items events unit units host turn frames line plain few may)) has) (omega arith));
+                  (subst (Has (brings n payload)) (sym (unheard_judged AnyFrame (Has (brings n payload)) (has_piled (brings n payload)) airs m rest items events unit units host turn frames line plain few may)) has) (omega arith));
               waits = again_far (node_of (after_all h events) n).attempt_wait wait 0 0 0 (omega arith) (omega arith) (omega arith) is.waits (no_more is.bound);
             }
 

@@ -40,11 +40,6 @@ pub events_both : (before lines : List Spoken) → events_of (before ++ lines) �
 events_both [] lines = refl
 events_both (spoken ∷ before) lines = ap (λ (es : List Event). spoken.events ++ es) (events_both before lines) ∙ sym (append_assoc spoken.events (events_of before) (events_of lines))
 
--- what is so at each event, and what else is
-pub both_along : (A B : Machine → Event → Type 0) (m : Machine) (events : List Event) → AllAlong A m events → AllAlong B m events → AllAlong (λ (k : Machine) (e : Event). A k e × B k e) m events
-both_along A B m [] a b = tt
-both_along A B m (event ∷ events) a b = ((a.0, b.0), both_along A B (happens m event) events a.1 b.1)
-
 -- what is so of each of these nodes at each event
 pub each_along : (these : List Bool) (m : Machine) (events : List Event) → ((n : ℕ) → is_marked these n ≡ true → AllAlong (GoesInStep n) m events) → AllAlong (IsPlainly these) m events
 each_along these m [] all = tt

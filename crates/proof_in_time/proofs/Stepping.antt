@@ -28,7 +28,7 @@ use Rattle.proof_course_plain.specs.World.{EndsByHearing, IsPlainly as IsAskedPl
 use Rattle.proof_course_plain.proofs.Replies.{one_place, one_stands}
 use Rattle.proof_answered.proofs.Listeners.{same_place, stands_now}
 use Rattle.proof_in_time.specs.Answering.{IsDone, IsInStep, Last, Next}
-use Rattle.proof_in_time.specs.InStep.{GoesInStep, HasInStep, IsAtOnce, IsNear, IsNearAt}
+use Rattle.proof_in_time.specs.InStep.{GoesInStep, HasInStep, IsAtOnce, IsNear, IsNearAt, IsPlainDevice}
 use Rattle.proof_in_time.proofs.AtOnce.{events_at_once}
 
 -- ---- the number of sessions
@@ -67,14 +67,9 @@ pub record Laws : Type 0 where
   pub go : (m : Machine) (event : Event) → GoOn m.outside.devices (happens m event).outside.devices
   pub same : (olds news : List State) → GoOn olds news → AreSame olds news
 
--- a device without levels is at no work
-record Rests (device : State) : Type 0 where
-  pub at_once : lists device.kind 0x26 ≡ false
-  pub is_done : IsDone device
-
-module _ (laws : Laws) (n : ℕ) (within : n < 233) (devices : List State) (has : HasDevice n first_course devices) (none : lists has.device.kind 0x26 ≡ false) (once : IsAtOnce has.device) where
+module _ (laws : Laws) (n : ℕ) (within : n < 233) (devices : List State) (has : HasDevice n first_course devices) (none : lists has.device.kind 0x26 ≡ false) (whole : lists has.device.kind 0x55 ≡ false) (once : IsAtOnce has.device) where
   -- the device of the course, where devices went on to here
-  now_is : (c : Course) (m : Machine) (now : HasDevice n c m.outside.devices) → GoOn devices m.outside.devices → Rests now.device
+  now_is : (c : Course) (m : Machine) (now : HasDevice n c m.outside.devices) → GoOn devices m.outside.devices → IsPlainDevice now.device
   now_is c m now go =
       let same : AreSame devices m.outside.devices = laws.same devices m.outside.devices go in
       let place : has.place ≡ now.place = one_place n m.outside.devices has.place now.place (same_place n devices m.outside.devices same ∙ has.first) now.first in
@@ -86,12 +81,17 @@ module _ (laws : Laws) (n : ℕ) (within : n < 233) (devices : List State) (has 
       let at_once : lists now.device.kind 0x26 ≡ false = subst (λ (k : Kind). lists k 0x26 ≡ false) kind none in
       let still : IsAtOnce now.device = subst IsAtOnce is_now (subst IsAtOnce (sym went.1.1.1) (events_at_once has.device went.1.1.0 once)) in
       let no_work : now.device.work_left ≡ 0 = still at_once in
-      record { at_once = at_once; is_done = record { over = now.at.ended.at_rest no_work; no_work = no_work } }
+      record {
+        openly = now.at.is_open;
+        at_once = at_once;
+        whole = subst (λ (k : Kind). lists k 0x55 ≡ false) kind whole;
+        is_done = record { over = now.at.ended.at_rest no_work; no_work = no_work };
+      }
 
   pub follows_in_step : (orders : List Asked) (c : Course) (up down : List Item) (m : Machine) → WorldFollows n orders c up down m → GoOn devices m.outside.devices → HasInStep n m
   follows_in_step orders c up down m follows go =
       let now : HasDevice n c m.outside.devices = follows.outside.mesh.device in
-      let is : Rests now.device = now_is c m now go in
+      let is : IsPlainDevice now.device = now_is c m now go in
       let begun : begun_of (node_of m.host.state n).book ≡ begun_of c.host = ap (λ (l : List ℕ). length l) follows.host.node_as.0 in
       let taken : now.device.sessions.taken ≡ c.device.taken = ap (λ (t : Taken). t.taken) now.at.sessions in
       let ahead = follows.course.agree.not_ahead in
@@ -101,12 +101,9 @@ module _ (laws : Laws) (n : ℕ) (within : n < 233) (devices : List State) (has 
         device = now.device;
         first = now.first;
         stands = now.stands;
-        hears = λ some. record {
-          openly = now.at.is_open;
-          at_once = is.at_once;
-          step = steps_in now.device (begun_of (node_of m.host.state n).book) (omega (arith, begun, taken, ahead)) (omega (arith, begun, taken, after)) some is.is_done;
-          is_done = is.is_done;
-        };
+        plain = is;
+        others = now.others;
+        step = λ some. steps_in now.device (begun_of (node_of m.host.state n).book) (omega (arith, begun, taken, ahead)) (omega (arith, begun, taken, after)) some is.is_done;
       }
 
   pub along : (orders : List Asked) (c : Course) (up down : List Item) (m : Machine) (events : List Event) → WorldFollows n orders c up down m → IsHeld m.host.state m.records → MayAll m events → AllAtRest m events → AllWriteWell m events

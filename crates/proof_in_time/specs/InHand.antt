@@ -5,11 +5,6 @@ use Rattle.chip_sim.specs.Nodes.{is_marked}
 use Rattle.host_node.specs.State.{NodeState}
 use Rattle.host_node.specs.declared.series.Series.TheVariants.{Idle}
 use Rattle.host_model.specs.State.{HostState, node_of}
-use Rattle.host_requests.specs.Events.{RequestsEvent}
-use Rattle.host_requests.specs.Events.RequestsEvent.{Pushes, PushesInterview, PushesProbe}
-use Rattle.host_model.specs.Events.{HostEvent, Queues, Queues_interview, Queues_probe, Requests_do, Offers, Gives, Resends, Queues_no_more}
-use Rattle.std.specs.List.{AllByRecursion}
-use Rattle.world_model.specs.Events.{Event, Host_takes}
 use Rattle.world_model.specs.State.{Machine}
 use Rattle.proof_answered.specs.Turns.{marked_to}
 
@@ -67,28 +62,3 @@ ticks_of_all these (suc sessions) = ticks_enough these + ticks_of_all these sess
 -- how many ticks have begun
 abbrev pub ticks_begun : Machine → ℕ
 ticks_begun m = m.outside.outer.clock
-
--- ---- what is assumed of events
-
--- an event of the host's requests, or of the host, by which no task comes to wait
-abbrev pub AsksNoTask : RequestsEvent → Type 0
-AsksNoTask (Pushes task) = ⊥
-AsksNoTask (PushesInterview n) = ⊥
-AsksNoTask PushesProbe = ⊥
-AsksNoTask event = Unit {0}
-
-abbrev pub QueuesNone : HostEvent → Type 0
-QueuesNone (Queues task) = ⊥
-QueuesNone (Queues_interview n) = ⊥
-QueuesNone Queues_probe = ⊥
-QueuesNone (Requests_do event moment) = AsksNoTask event
-QueuesNone (Offers n) = ⊥
-QueuesNone (Gives n drawn) = ⊥
-QueuesNone (Resends n payload) = ⊥
-QueuesNone (Queues_no_more n) = ⊥
-QueuesNone event = Unit {0}
-
--- what the host is told asks it for no nonce and no segment
-abbrev pub HearsNoTask : Machine → Event → Type 0
-HearsNoTask m (Host_takes count rest items events) = AllByRecursion QueuesNone events
-HearsNoTask m event = Unit {0}

@@ -11,6 +11,7 @@ use Rattle.host_model.specs.State.{node_of}
 use Rattle.world_model.specs.Events.{Event, Host_does}
 use Rattle.world_model.specs.State.{Machine}
 use Rattle.proof_course.specs.Sessions.{first_course}
+use Rattle.proof_course_plain.specs.Device.{OthersAreIdle}
 use Rattle.proof_course_plain.specs.Mesh.{HasDevice}
 use Rattle.proof_course_plain.specs.World.{OrdersPlain}
 use Rattle.proof_messages.specs.Asking.{takes_openly}
@@ -22,20 +23,27 @@ use Rattle.proof_in_time.specs.Answering.{IsDone, IsInStep}
 abbrev pub IsAtOnce : State → Type 0
 IsAtOnce device = lists device.kind 0x26 ≡ false → device.work_left ≡ 0
 
--- a device without levels, which takes what is not sealed, is in step with the host, at no work
-pub record HearsInStep (session : ℕ) (device : State) : Type 0 where
+-- a device without levels, which takes what is not sealed, whole, at no work
+pub record IsPlainDevice (device : State) : Type 0 where
   pub openly : takes_openly device.kind ≡ true
   pub at_once : lists device.kind 0x26 ≡ false
-  pub step : IsInStep session device
+  pub whole : lists device.kind 0x55 ≡ false
   pub is_done : IsDone device
 
--- so is the first device of a node, once the host has begun a session
+-- such a one in step with the host
+pub record HearsInStep (session : ℕ) (device : State) : Type 0 where
+  pub plain : IsPlainDevice device
+  pub step : IsInStep session device
+
+-- so is the first device of a node, once the host has begun a session; and the others of the node are idle
 pub record HasInStep (n : ℕ) (m : Machine) : Type 0 where
   pub place : ℕ
   pub device : State
   pub first : place_of n m.outside.devices ≡ Some place
   pub stands : slice_get m.outside.devices place ≡ Some device
-  pub hears : 1 ≤ begun_of (node_of m.host.state n).book → HearsInStep (begun_of (node_of m.host.state n).book) device
+  pub plain : IsPlainDevice device
+  pub others : OthersAreIdle n m.outside.devices place
+  pub step : 1 ≤ begun_of (node_of m.host.state n).book → IsInStep (begun_of (node_of m.host.state n).book) device
 
 -- ---- what is assumed of events
 
@@ -58,10 +66,11 @@ IsPlainly these m event = (n : ℕ) → is_marked these n ≡ true → GoesInSte
 
 -- ---- from what that follows
 
--- the first device of a node is as its maker left it, takes what is not sealed and has no levels; and over these events its orders go unsealed
+-- the first device of a node is as its maker left it, takes what is not sealed, whole, and has no levels; and over these events its orders go unsealed
 pub record IsPlainOver (devices : List State) (events : List Event) (n : ℕ) : Type 0 where
   pub at_first : HasDevice n first_course devices
   pub at_once : lists at_first.device.kind 0x26 ≡ false
+  pub whole : lists at_first.device.kind 0x55 ≡ false
   pub orders : AllByRecursion (OrdersPlain n) events
 
 abbrev pub ArePlainOver : List Bool → List State → List Event → Type 0

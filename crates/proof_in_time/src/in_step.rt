@@ -11,11 +11,11 @@ ghost use Rattle.world_lines.specs.Done.{AreDone, events_of};
 ghost use Rattle.proof_answered.specs.Few.{AreIdle};
 ghost use Rattle.proof_in_time.specs.InStep.{GoesInStep, IsAtOnce, IsPlainOver};
 
-use proof_course_plain::device_proofs::{devices_go_on, devices_stay_the_same};
-use proof_course_plain::serial::{hosts_write_well, units_are_judged_whole};
-use proof_course_plain::traffic::at_most_two_are_on_the_air;
-use proof_course_plain::worlds::{lines_keep_and_ask_well, restarts_go_on};
-use proof_course_plain::{lines_ask_plainly, lines_have_a_course, worlds_follow_the_course};
+use proof_course_plain::{
+    at_most_two_are_on_the_air, devices_go_on, devices_stay_the_same, hosts_write_well,
+    lines_ask_plainly, lines_have_a_course, lines_keep_and_ask_well, restarts_go_on,
+    units_are_judged_whole, worlds_follow_the_course,
+};
 
 /// A device without levels is at no work, whatever happens to it. So over any lines from the first machine on, whatever is lost, repeated or changed and
 /// however often the host starts again: where the first device of a node is one, takes what is not sealed, and the orders for the node go unsealed, at each

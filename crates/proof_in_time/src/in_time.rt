@@ -19,8 +19,7 @@ ghost use Rattle.proof_in_time.specs.Coming.{AreWaiting, IsKeptFor, IsReadyFor, 
 ghost use Rattle.proof_in_time.specs.InStep.{ArePlainOver, IsPlainly};
 
 use crate::{messages_are_answered, nodes_stay_in_step};
-use proof_answered::calm::waking::traffic::frames_fly_in_order;
-use proof_answered::{attempts_stay_first, workers_alone_speak};
+use proof_answered::{attempts_stay_first, frames_fly_in_order, workers_alone_speak};
 
 /// Over a stretch of lines for nodes that listen and list neither Transport Service nor Security 0, in which the keeper does not fail, while an attempt of one
 /// of these runs its request is on its way to the chip, or its message is on the air, or the report of its device is, or the chip has that for the host: so the

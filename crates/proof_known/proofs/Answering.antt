@@ -22,11 +22,11 @@ use Rattle.proof_transcript.specs.law_time.Waking.{may_wake}
 use Rattle.proof_transcript.specs.law_host.Heard.{is_of_others, listing_heard}
 use Rattle.host_orders.specs.Errands.{get_refusal, send_refusal}
 use Rattle.host_orders.specs.Refusals.{Known}
-use Rattle.host_model.specs.State.{HostState, node_of}
-use Rattle.host_model.specs.Asking.{carriage_for, places_refusal, refusal_for}
-use Rattle.host_model.specs.Events.{HostEvent, Accepts, Cancels, Hears, Joins}
-use Rattle.host_model.specs.May.{May as MayHost, known_of as known_of_host}
-use Rattle.host_model.specs.Outs.{answers, outs}
+use Rattle.proof_waking.specs.host_model.State.{HostState, node_of}
+use Rattle.proof_waking.specs.host_model.Asking.{carriage_for, places_refusal, refusal_for}
+use Rattle.proof_waking.specs.host_model.Events.{HostEvent, Accepts, Cancels, Hears, Joins}
+use Rattle.proof_waking.specs.host_model.May.{May as MayHost, known_of as known_of_host}
+use Rattle.proof_waking.specs.host_model.Outs.{answers, outs}
 use Rattle.proof_transcript.specs.world_model.Events.{OpensFrom, shown_values}
 use Rattle.proof_transcript.specs.world_model.Refusals.{IsRefused}
 use Rattle.proof_transcript.proofs.ByLine.{last_is}

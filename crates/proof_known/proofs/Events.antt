@@ -1,7 +1,6 @@
 -- Which events a host alone does where: its own, those of the request under way, and those behind a frame that was judged; and what is entered of them.
-use Rattle.std.proofs.Common.{◌⊎◌, ℕ, ◌+◌, length, inl, inr, List, [], ◌∷◌, sym, subst, append-nil, ◌≡◌, ◌++◌, refl, ap, ap₂, ◌∙◌}
+use Rattle.std.proofs.Common.{◌⊎◌, ℕ, ◌+◌, length, inl, inr, List, [], ◌∷◌, sym, subst, ◌≡◌, ◌++◌, refl, ap, ap₂, ◌∙◌}
 use Rattle.std.specs.List.{AllByRecursion}
-use Rattle.zw_base.proofs.Each.{all-append}
 use Rattle.serial_frame.specs.Items.{unit_text}
 use Rattle.zw_words.specs.declared.side.Side.TheVariants.{Host}
 use Rattle.zw_text.specs.declared.entry.Ended.TheVariants.{Cancelled}
@@ -9,23 +8,23 @@ use Rattle.zw_text.specs.declared.entry.Entry.{Entry}
 use Rattle.zw_text.specs.declared.entry.Entry.TheVariants as entry
 use Rattle.zw_text.specs.Transcript.{shown}
 use Rattle.zw_text.proofs.Views.{shown-append}
-use Rattle.host_model.specs.State.{HostState}
-use Rattle.host_model.specs.Events.{HostEvent, Accepts, Cancels}
-use Rattle.host_model.specs.Outs.{answers, outs}
-use Rattle.host_model.specs.declared.out.HostOut.{HostOut}
-use Rattle.host_model.specs.declared.out.HostOut.TheVariants.{Note, Write}
-use Rattle.host_model.proofs.Own.{IsOwn, sleepers_own, submitted_own}
-use Rattle.host_model.proofs.Submitted.{next_is, no_more_is}
+use Rattle.proof_waking.specs.host_model.State.{HostState}
+use Rattle.proof_waking.specs.host_model.Events.{HostEvent, Accepts, Cancels, IsOwn}
+use Rattle.proof_waking.specs.host_model.Outs.{answers}
+use Rattle.proof_waking.specs.host_model.declared.out.HostOut.{HostOut}
+use Rattle.proof_waking.specs.host_model.declared.out.HostOut.TheVariants.{Note, Write}
+use Rattle.proof_waking.proofs.Own.{sleepers_own, submitted_own}
+use Rattle.proof_waking.proofs.Submitted.{next_is, no_more_is}
 use Rattle.proof_transcript.specs.proof_host.Entries.{notes_of}
-use Rattle.proof_transcript.proofs.proof_device_HostOuts.{OutsAre}
-use Rattle.proof_transcript.proofs.HostNotes.{NoteOuts, all_outs_note}
 use Rattle.proof_waking.specs.proof_alone.State.{HostMachine}
 use Rattle.proof_waking.specs.proof_alone.Steps.{AreTold, Does}
 use Rattle.proof_waking.specs.proof_alone.Phases.{Phase, Resting, Asked, Risen, Ticking, Open, Behind, Sleeping, Submitting, May}
 use Rattle.proof_waking.specs.proof_alone.Runs.{Knowledge, Walk, WalkOver, both_know}
 use Rattle.proof_waking.proofs.proof_alone_Apart.{AreOfLine, marks_are}
+pub use Rattle.proof_waking.proofs.proof_alone_Apart.{puts_are as outs_told}
 use Rattle.proof_waking.proofs.Running.{over}
 use Rattle.proof_waking.specs.Judged.{IsBehindFrame, IsOfRequest, KnowsJudged}
+pub use Rattle.proof_waking.proofs.Parts.{event_notes}
 
 -- it does it of itself, or the request under way hears of something, or it follows the frame that was judged last
 abbrev pub IsPartOf : List Entry → HostMachine → HostEvent → Type 0
@@ -60,18 +59,7 @@ beyond Ground More First Law Know walk = record {
 
 -- ---- what is entered
 
-pub event_notes : (h : HostState) (event : HostEvent) → NoteOuts (outs h event)
-event_notes h event = subst NoteOuts (append-nil (outs h event)) (all_outs_note h (event ∷ []))
-
--- what is entered of what it puts out is so, where its notes are
-pub outs_told : (Is : Entry → Type 0) → AreOfLine Is → (puts : List HostOut) (told : List Entry) → OutsAre Is puts → AreTold puts told → AllByRecursion Is told
-outs_told Is line [] told are is = subst (AllByRecursion Is) (sym is) tt
-outs_told Is line (Note e ∷ puts) told are (rest, is, more) = subst (AllByRecursion Is) (sym is) (are.0, outs_told Is line puts rest are.1 more)
-outs_told Is line (Write unit ∷ puts) told are (marks, rest, is, all, more) =
-    subst (AllByRecursion Is) (sym is)
-    (line.written Host (unit_text unit), all-append Is marks rest (marks_are Is line marks all) (outs_told Is line puts rest are.1 more))
-
--- and so is what answers a line
+-- what answers a line is so
 pub record AreAnswers (Is : Entry → Type 0) : Type 0 where
   pub accepted : (command node : ℕ) → Is (entry.Accepted command node)
   pub taken_back : (command : ℕ) → Is (entry.Out command Cancelled)

@@ -29,7 +29,7 @@ use Rattle.supervision.specs.declared.host_node.Told.TheVariants as told
 use Rattle.value_store.specs.Values.{count_with}
 use Rattle.value_store.proofs.Keys.{same_property_laws}
 use Rattle.proof_transcript.specs.law_transcript.Payloads.{messages_of}
-use Rattle.proof_transcript.specs.law_transcript.Units.{Carried, bringing_in, bringing_of, from_node, read_well}
+use Rattle.proof_transcript.specs.law_transcript.Units.{Carried, bringing_in, from_node}
 use Rattle.proof_transcript.specs.law_time.Judged.{may_tell}
 use Rattle.proof_transcript.specs.law_host.Following.{same_setting}
 use Rattle.host_keep.specs.Status.{status_of}
@@ -41,15 +41,15 @@ use Rattle.host_heard.specs.declared.payload.Heard.TheVariants.{Messages, Sealed
 use Rattle.host_heard.specs.declared.told.Told.{Told}
 use Rattle.host_heard.specs.declared.told.Told.TheVariants.{Report, NonceGet, NonceReport, Notification, SegmentRequest, Values}
 use Rattle.host_requests.specs.Events.{interviewed_by}
-use Rattle.host_model.specs.State.{HostState, node_of}
-use Rattle.host_model.specs.After.{after}
-use Rattle.host_model.specs.Did.{after_all}
-use Rattle.host_model.specs.Events.{HostEvent, Interviews, Interview_unkept, Unreads, Is_unkept, Reports_old, Works, Finishes, Offers, Gives, Spends, Spends_unread, Takes_nonce, Notifies, Resends, Hears_value, Has_no_room}
-use Rattle.host_model.specs.May.{says_listens}
-use Rattle.host_model.specs.Outs.{ended_of}
-use Rattle.host_model.specs.Taking.{AreTaken, FinalEvents, FrameEvents, InterviewEvents, IsOpened, IsTaken, NonceGetEvents, NonceReportEvents, NoticeEvents, OpensTo, PayloadEvents, ReportEvents, ResponseEvents, SealedEvents, is_secure, resent, value_event, value_events}
+use Rattle.proof_waking.specs.host_model.State.{HostState, node_of}
+use Rattle.proof_waking.specs.host_model.After.{after}
+use Rattle.proof_waking.specs.host_model.Did.{after_all}
+use Rattle.proof_waking.specs.host_model.Events.{HostEvent, Interviews, Interview_unkept, Unreads, Is_unkept, Reports_old, Works, Finishes, Offers, Gives, Spends, Spends_unread, Takes_nonce, Notifies, Resends, Hears_value, Has_no_room}
+use Rattle.proof_waking.specs.host_model.May.{says_listens}
+use Rattle.proof_waking.specs.host_model.Outs.{ended_of}
+use Rattle.proof_waking.specs.host_model.Taking.{AreTaken, FinalEvents, FrameEvents, InterviewEvents, IsOpened, IsTaken, NonceGetEvents, NonceReportEvents, NoticeEvents, OpensTo, PayloadEvents, ReportEvents, ResponseEvents, SealedEvents, is_secure, resent, value_event, value_events}
 use Rattle.proof_waking.proofs.Always.{either, none, one}
-use Rattle.proof_transcript.proofs.Bodies.{body_is}
+use Rattle.proof_waking.proofs.Followed.{brought_of, text_brings}
 use Rattle.proof_transcript.proofs.Classes.{IsNoInterview, LeavesRecords, event_kept}
 use Rattle.proof_known.specs.Noted.{IsOpenedIf, IsOpenedTo, ends_so, tells_end, tells_property, tells_report, tells_value}
 
@@ -280,12 +280,6 @@ FollowsBy keys known unit (Has_no_room n property) =
 FollowsBy keys known unit (Unreads n payload) = list_any (λ text. bytes_eq text payload) (flat_map (from_node n) (bringing_in unit)) ≡ true
 FollowsBy keys known unit (Spends_unread n payload) = list_any (λ text. bytes_eq text payload) (flat_map (from_node n) (bringing_in unit)) ≡ true
 FollowsBy keys known unit event = Unit {0}
-
-abbrev pub brought_of : Result Notice BodyFault → List Carried
-brought_of read = flat_map bringing_of (read_well read)
-
-pub text_brings : (func : ℕ) (body : List ℕ) (sum : ℕ) → bringing_in (framed (0 ∷ func ∷ body) sum) ≡ brought_of (notice_of func body)
-text_brings func body sum = ap (λ (b : List ℕ). brought_of (notice_of func b)) (body_is body func sum)
 
 module _ (keys : Keys) (known : Known) (unit : List ℕ) (n : ℕ) (payload : List ℕ) (brings : bringing_in unit ≡ record { node = n; payload = payload } ∷ []) where
   payloads_are : (m : ℕ) → m ≡ n → flat_map (from_node m) (bringing_in unit) ≡ payload ∷ []

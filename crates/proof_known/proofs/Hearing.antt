@@ -23,10 +23,10 @@ use Rattle.proof_transcript.specs.law_time.Judged.{notices_here}
 use Rattle.proof_transcript.specs.law_host.Heard.{classes_in}
 use Rattle.host_heard.specs.Telling.{heard_at}
 use Rattle.host_requests.specs.Events.{interviewed_by}
-use Rattle.host_model.specs.State.{HostState}
-use Rattle.host_model.specs.Events.{HostEvent, Interviews, Interview_unkept}
-use Rattle.host_model.specs.May.{says_listens}
-use Rattle.host_model.specs.Taking.{FrameEvents, InterviewEvents, NoticeEvents, ResponseEvents}
+use Rattle.proof_waking.specs.host_model.State.{HostState}
+use Rattle.proof_waking.specs.host_model.Events.{HostEvent, Interviews, Interview_unkept}
+use Rattle.proof_waking.specs.host_model.May.{says_listens}
+use Rattle.proof_waking.specs.host_model.Taking.{FrameEvents, InterviewEvents, NoticeEvents, ResponseEvents}
 use Rattle.proof_waking.specs.proof_alone.State.{HostMachine}
 use Rattle.proof_transcript.proofs.Always.{either, none, one}
 use Rattle.proof_transcript.proofs.proof_spoken_Heard.{IsOfPayload, payload_of}

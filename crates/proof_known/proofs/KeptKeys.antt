@@ -21,14 +21,14 @@ use Rattle.host_requests.specs.declared.task.Purpose.{Purpose}
 use Rattle.host_requests.specs.declared.task.Purpose.TheVariants.{Abort, Attempt, Housekeeping}
 use Rattle.host_requests.specs.declared.task.Task.{Task}
 use Rattle.host_requests.specs.declared.task.Task.TheVariants.{NoMore}
-use Rattle.host_model.specs.State.{HostState, first_host, node_of}
-use Rattle.host_model.specs.Sessions.{open_command}
-use Rattle.host_model.specs.Ends.{after_end, after_end_if, after_part, after_task, attempt_ended, part_end, unanswered, Bad, Good, PartEnd, Passed_over}
-use Rattle.host_model.specs.Events.{HostEvent, Finishes, Gives, Line_ticks, Node_ticks, Offers, Requests_do, Resends}
-use Rattle.host_model.specs.After.{after, failing_if, finishing, gives_up, giving, holding, is_full, is_held, line_ticked, node_does, offering, request_does, requests_do}
-use Rattle.host_model.specs.Did.{after_all}
-use Rattle.host_model.specs.Opening.{restored_all}
-use Rattle.host_model.specs.Restoring.{ending, restored}
+use Rattle.proof_waking.specs.host_model.State.{HostState, first_host, node_of}
+use Rattle.proof_waking.specs.host_model.Sessions.{open_command}
+use Rattle.proof_waking.specs.host_model.Ends.{after_end, after_end_if, after_part, after_task, attempt_ended, part_end, unanswered, Bad, Good, PartEnd, Passed_over}
+use Rattle.proof_waking.specs.host_model.Events.{HostEvent, Finishes, Gives, Line_ticks, Node_ticks, Offers, Requests_do, Resends}
+use Rattle.proof_waking.specs.host_model.After.{after, failing_if, finishing, gives_up, giving, holding, is_full, is_held, line_ticked, node_does, offering, request_does, requests_do}
+use Rattle.proof_waking.specs.host_model.Did.{after_all}
+use Rattle.proof_waking.specs.host_model.Opening.{restored_all}
+use Rattle.proof_waking.specs.host_model.Restoring.{ending, restored}
 use Rattle.s0_session.specs.Nonces.{live_of}
 use Rattle.serial_link.specs.State.{tick_side}
 use Rattle.proof_waking.specs.proof_alone.State.{HostMachine}

@@ -13,77 +13,43 @@ use Rattle.proof_transcript.specs.law_time.Waking.{may_wake}
 use Rattle.proof_transcript.specs.law_host.Heard.{classes_in, listing_heard}
 use Rattle.host_node.specs.Steps.{after_interview}
 use Rattle.host_node.specs.TableState.{node_of}
-use Rattle.host_model.specs.State.{HostState}
-use Rattle.host_model.specs.Events.{HostEvent, Accepts, Hears, Interviews}
-use Rattle.host_model.specs.After.{after}
-use Rattle.host_model.specs.Facts.{HostFacts}
-use Rattle.host_model.specs.May.{May as MayHost}
-use Rattle.host_model.specs.Outs.{answers, outs}
-use Rattle.host_model.proofs.Own.{IsOwn}
+use Rattle.proof_waking.specs.host_model.State.{HostState}
+use Rattle.proof_waking.specs.host_model.Events.{HostEvent, Hears, Interviews}
+use Rattle.proof_waking.specs.host_model.After.{after}
+use Rattle.proof_waking.specs.host_model.Facts.{HostFacts}
+use Rattle.proof_waking.specs.host_model.May.{May as MayHost}
+use Rattle.proof_waking.specs.host_model.Outs.{answers, outs}
 use Rattle.proof_transcript.specs.world_model.State.{Machine}
 use Rattle.proof_transcript.specs.world_model.Events as world
 use Rattle.proof_transcript.specs.world_model.Events.{Event, OpensFrom}
-use Rattle.proof_transcript.proofs.proof_device_HostOuts.{OwnIs, SharedAre, outs_are}
 use Rattle.proof_transcript.specs.proof_spoken.Said.{KnowsAgain, KnowsListing}
 use Rattle.proof_transcript.specs.proof_spoken.Restarts.{AreHeld, IsHeld, KeepsWell, StartsWell}
-use Rattle.proof_transcript.proofs.Classes.{IsNoInterview, LeavesRecords, classes_of, event_kept, joined_place, set_here, set_there}
+use Rattle.proof_transcript.proofs.Classes.{IsNoInterview as ListsNone, LeavesRecords, classes_of, event_kept, joined_place, set_here, set_there}
 use Rattle.proof_transcript.proofs.proof_spoken_Hosts.{of_joined}
 use Rattle.proof_transcript.specs.proof_walk.ByLine.{IsAsked}
 use Rattle.proof_waking.specs.proof_alone.State.{HostMachine, with_world}
-use Rattle.proof_waking.specs.proof_alone.Steps.{AreTold, IsOfOthers, Step, Tells, Comes, Misses, Says, Says_nothing, Asks, Refuses, Shows, Restarts, Begins_tick, Numbers, Judges, Does, entries, happens}
+use Rattle.proof_waking.specs.proof_alone.Steps.{AreTold, Step, Tells, Comes, Misses, Says, Says_nothing, Asks, Refuses, Shows, Restarts, Begins_tick, Numbers, Judges, Does, entries, happens}
 use Rattle.proof_waking.specs.proof_alone.Phases.{Phase, May}
 use Rattle.proof_waking.specs.proof_alone.Runs.{WalkOver, both_know}
 use Rattle.proof_waking.specs.proof_alone.Tables.{KnowsTables, TieTables}
-use Rattle.proof_waking.proofs.proof_alone_Apart.{AreOfLine, missed_are}
+use Rattle.proof_waking.proofs.proof_alone_Apart.{missed_are}
 use Rattle.proof_waking.proofs.InOrder.{is_asked}
+use Rattle.proof_waking.proofs.Listening.{IsNoInterview, TellsNone, answers_none, event_none, line_none, others_none, own_quiet}
 use Rattle.proof_waking.specs.Judged.{IsBehindFrame, IsOfRequest, KnowsJudged}
 use Rattle.proof_known.specs.Known.{KnowsHeard}
-use Rattle.proof_known.proofs.Events.{AreAnswers, IsPartOf, answers_are, event_at, outs_told}
+use Rattle.proof_known.proofs.Events.{IsPartOf, event_at}
 use Rattle.proof_known.proofs.Hearing.{interview_listed}
-use Rattle.proof_known.proofs.Listing.{TellsNone, known_heard, known_here, known_more, known_there}
+use Rattle.proof_known.proofs.Listing.{known_heard, known_here, known_more, known_there}
 
--- ---- entries that tell of no interview that ended well
+-- ---- events that are no interview that ended well
 
-others_none : (e : Entry) → IsOfOthers e → TellsNone e
-others_none (entry.Interviewed node) others = absurd others
-others_none e others = tt
-
-line_none : AreOfLine TellsNone
-line_none = record { written = λ side text. tt; dropped = λ side. tt; garbled = λ side text. tt; overrun = λ side. tt }
-
-answers_none : AreAnswers TellsNone
-answers_none = record { accepted = λ command node. tt; taken_back = λ command. tt }
-
-shared_none : SharedAre TellsNone
-shared_none = record {
-  unanswered = λ command. tt;
-  asleep = λ n. tt;
-  done = λ n how. tt;
-  uninterviewed = λ n. tt;
-  neighbours = λ n nodes. tt;
-  failed = λ n is_failed. tt;
-  stored = λ n setting. tt;
-  held = λ n. tt;
-  full = λ n. tt;
-}
-
-own_none : (event : HostEvent) → IsNoInterview event → OwnIs TellsNone event
-own_none (Accepts order carriage) none = λ number. tt
-own_none (Interviews n listens classes update) none = absurd none
-own_none event none = tt
-
-event_none : (h : HostState) (event : HostEvent) (told : List Entry) → IsNoInterview event → AreTold (outs h event) told → AllByRecursion TellsNone told
-event_none h event told none are = outs_told TellsNone line_none (outs h event) told (outs_are TellsNone shared_none h event (own_none event none)) are
-
--- ---- events that are none
+listed_none : (event : HostEvent) → IsNoInterview event → ListsNone event
+listed_none (Interviews n listens classes update) none = absurd none
+listed_none event none = tt
 
 asked_quiet : (event : HostEvent) → IsAsked event → IsNoInterview event
 asked_quiet (Interviews n listens classes update) asked = absurd asked
 asked_quiet event asked = tt
-
-own_quiet : (event : HostEvent) → IsOwn event → IsNoInterview event
-own_quiet (Interviews n listens classes update) own = absurd own
-own_quiet event own = tt
 
 request_quiet : (event : HostEvent) → IsOfRequest event → IsNoInterview event
 request_quiet (Interviews n listens classes update) of_it = absurd of_it
@@ -110,7 +76,7 @@ module _ (law : LeavesRecords) (again : Again)
     (goes_on : (m : Machine) (event : Event) → HostFacts m.host.state → IsHeld m.host.state m.records → world.May m event → KeepsWell m event
     → StartsWell m event × IsHeld (world.happens m event).host.state (world.happens m event).records) where
   quiet_heard : (past told : List Entry) (h : HostState) (event : HostEvent) → IsNoInterview event → AllByRecursion TellsNone told → Heard past h → Heard (past ++ told) (after h event)
-  quiet_heard past told h event none all knows node = event_kept law h event none node ∙ knows node ∙ sym (known_more past told node all)
+  quiet_heard past told h event none all knows node = event_kept law h event (listed_none event none) node ∙ knows node ∙ sym (known_more past told node all)
 
   -- an interview ends well
   interview_heard : (past : List Entry) (h : HostState) (n : ℕ) (listens : Bool) (classes : List ℕ) (update : Update) → (node_of h.nodes n).joined ≡ true
@@ -159,7 +125,7 @@ module _ (law : LeavesRecords) (again : Again)
   step_goes here next past m (Says words line) may tie judged knows = same_heard past _ m.state (tt, tt) knows
   step_goes here next past m (Says_nothing words) may tie judged knows = same_heard past _ m.state (tt, tt) knows
   step_goes here next past m (Asks event) (line, here_is, asked, may, numbered, is) tie judged knows =
-      quiet_heard past (answers m.state event) m.state event (asked_quiet event (is_asked line m.state event asked)) (answers_are TellsNone answers_none m.state event) knows
+      quiet_heard past (answers m.state event) m.state event (asked_quiet event (is_asked line m.state event asked)) (answers_none m.state event) knows
   step_goes here next past m (Refuses refusal) may tie judged knows = same_heard past _ m.state (tt, tt) knows
   step_goes here next past m (Shows node) may tie judged knows = same_heard past _ m.state (tt, tt) knows
   step_goes here next past m (Restarts state) may tie judged knows = starts_heard past m state may.1 tie knows

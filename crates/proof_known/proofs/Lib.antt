@@ -3,7 +3,7 @@ mod Listing
 pub mod Events
 mod Hearing
 mod Knowing
-mod Saying
+pub mod Saying
 pub mod Telling
 mod Showing
 mod Recording
@@ -26,3 +26,5 @@ pub use Rattle.proof_waking.proofs.Settling
 pub use Rattle.proof_waking.proofs.Followed
 pub use Rattle.proof_waking.proofs.Apart
 pub use Rattle.proof_waking.proofs.Parts
+pub use Rattle.proof_waking.proofs.proof_line_Hosting
+pub use Rattle.proof_transcript.proofs.Ordered

@@ -13,19 +13,15 @@ use Rattle.proof_transcript.specs.law_transcript.Nodes.{is_interviewed, known_at
 use Rattle.proof_transcript.specs.law_time.Judged.{notices_here}
 use Rattle.proof_transcript.specs.law_host.Heard.{classes_at, classes_in, listing_heard}
 use Rattle.proof_transcript.proofs.MarkedFrames.{shown_one}
+use Rattle.proof_waking.proofs.Listening.{TellsNone}
 
 -- what the host is shown to know of a node
 abbrev pub known_heard : List Entry → ℕ → Option (List ℕ)
 known_heard past node = known_classes listing_heard past node
 
--- an entry that tells of no interview that ended well
-abbrev pub TellsNone : Entry → Type 0
-TellsNone (Interviewed node) = ⊥
-TellsNone e = Unit {0}
-
 -- ---- lists
 
-or_none : (a b : Bool) → b ≡ false → a || b ≡ a
+pub or_none : (a b : Bool) → b ≡ false → a || b ≡ a
 or_none true b none = refl
 or_none false b none = none
 

@@ -13,8 +13,8 @@ use Rattle.proof_transcript.specs.law_host.Heard.{listing_heard}
 use Rattle.host_heard.specs.declared.payload.Heard.{Heard}
 use Rattle.host_heard.specs.declared.payload.Heard.TheVariants.{Messages, Sealed, Unread}
 use Rattle.host_orders.specs.Classes.{lists}
-use Rattle.host_model.specs.Did.{after_all}
-use Rattle.host_model.specs.Taking.{is_secure}
+use Rattle.proof_waking.specs.host_model.Did.{after_all}
+use Rattle.proof_waking.specs.host_model.Taking.{is_secure}
 use Rattle.proof_transcript.proofs.Classes.{LeavesRecords}
 use Rattle.proof_transcript.specs.proof_spoken.Said.{AreSaid, KnowsListing}
 use Rattle.proof_transcript.proofs.StoredPlaces.{KeepsNoMore}
@@ -42,15 +42,14 @@ use Rattle.host_heard.specs.declared.told.Told.{Told}
 use Rattle.proof_waking.specs.proof_alone.Tables.{TieTables}
 use Rattle.host_keep.specs.declared.final_status.FinalStatus.{FinalStatus}
 use Rattle.host_keep.specs.declared.final_status.FinalStatus.TheVariants as final
-use Rattle.host_model.specs.State.{HostState, command_at, node_of}
-use Rattle.host_model.specs.Sessions.{settings_with}
-use Rattle.host_model.specs.After.{is_held}
-use Rattle.host_model.specs.Events as events
-use Rattle.host_model.specs.Events.{HostEvent, Requests_do, Interviews, Interview_unkept, Unreads, Is_unkept, Reports_old, Finishes, Spends_unread, Notifies, Hears_value, Has_no_room, Hears}
-use Rattle.host_model.specs.May.{May as MayHost, IsFinal}
-use Rattle.host_model.specs.Outs.{ended_of, held_entries, noted, outs, stored_entries}
-use Rattle.host_model.proofs.OpenSessions.{final_session}
-use Rattle.host_model.proofs.Own.{IsOwn}
+use Rattle.proof_waking.specs.host_model.State.{HostState, command_at, node_of}
+use Rattle.proof_waking.specs.host_model.Sessions.{settings_with}
+use Rattle.proof_waking.specs.host_model.After.{is_held}
+use Rattle.proof_waking.specs.host_model.Events as events
+use Rattle.proof_waking.specs.host_model.Events.{HostEvent, Requests_do, Interviews, Interview_unkept, Unreads, Is_unkept, Reports_old, Finishes, Spends_unread, Notifies, Hears_value, Has_no_room, Hears, IsOwn}
+use Rattle.proof_waking.specs.host_model.May.{May as MayHost, IsFinal}
+use Rattle.proof_waking.specs.host_model.Outs.{ended_of, held_entries, noted, outs, stored_entries}
+use Rattle.proof_waking.proofs.OpenSessions.{final_session}
 use Rattle.proof_transcript.specs.proof_host.Facts.{Facts}
 use Rattle.proof_transcript.proofs.proof_device_HostOuts.{OutsAre, SharedAre, outs_are}
 use Rattle.proof_waking.specs.proof_alone.State.{HostMachine}
@@ -59,6 +58,7 @@ use Rattle.proof_waking.specs.proof_alone.Phases.{Phase, May}
 use Rattle.proof_waking.specs.proof_alone.Runs.{Knowledge, WalkOver, both_know}
 use Rattle.proof_waking.proofs.proof_alone_Apart.{AreOfLine, missed_are}
 use Rattle.proof_waking.specs.Judged.{IsBehindFrame, IsOfRequest, LastFrame}
+pub use Rattle.proof_waking.proofs.Parts.{noted_told}
 use Rattle.proof_known.specs.Known.{KnowsKeys, KnowsWhole, TieTold}
 use Rattle.proof_known.proofs.Places.{no_more_places}
 use Rattle.proof_known.proofs.KeptKeys.{all_keys}
@@ -77,11 +77,6 @@ Rooms = (past : List Entry) (m : HostMachine) → TieTables past m.state m.recor
 -- no more is known
 abbrev pub Nothing : Knowledge
 Nothing here past m = Unit {0}
-
--- notes alone are told as they are
-pub noted_told : (notes told : List Entry) → AreTold (noted notes) told → told ≡ notes
-noted_told [] told is = is
-noted_told (e ∷ notes) told (rest, is, more) = is ∙ ap (λ (l : List Entry). e ∷ l) (noted_told notes rest more)
 
 -- what counts of a node with these classes, by its transcript too
 pub secure_is : (classes : Option (List ℕ)) → is_secure classes ≡ lists (unwrap_or classes []) 0x98

@@ -3,7 +3,7 @@ use Rattle.std.proofs.Common.{ℕ, inl, inr}
 use Rattle.std.specs.Prelude.{◌⊎◌, IsTrue, is_some}
 use Rattle.zw_base.specs.declared.property.Property.{Property}
 use Rattle.value_store.specs.Values.{stored_of}
-use Rattle.host_model.specs.State.{HostState}
+use Rattle.proof_waking.specs.host_model.State.{HostState}
 use Rattle.proof_transcript.proofs.StoredPlaces.{IsSet, KeepsNoMore}
 use Rattle.proof_known.specs.Known.{HasPlaces, IsSetBy}
 

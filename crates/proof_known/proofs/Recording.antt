@@ -9,12 +9,12 @@ use Rattle.proof_transcript.specs.law_transcript.Records.{cancelled_at}
 use Rattle.proof_transcript.specs.law_time.Moments.{Allows}
 use Rattle.proof_transcript.specs.law_time.Waking.{may_wake}
 use Rattle.host_keep.specs.declared.record.Record.{Record}
-use Rattle.host_model.specs.State.{HostState}
-use Rattle.host_model.specs.Did.{MayAll}
-use Rattle.host_model.specs.Events.{HostEvent, Hears}
-use Rattle.host_model.specs.Outs.{answers, outs}
-use Rattle.host_model.specs.Records.{records_at}
-use Rattle.host_model.specs.declared.out.HostOut.{HostOut}
+use Rattle.proof_waking.specs.host_model.State.{HostState}
+use Rattle.proof_waking.specs.host_model.Did.{MayAll}
+use Rattle.proof_waking.specs.host_model.Events.{HostEvent, Hears}
+use Rattle.proof_waking.specs.host_model.Outs.{answers, outs}
+use Rattle.proof_waking.specs.host_model.Records.{records_at}
+use Rattle.proof_waking.specs.host_model.declared.out.HostOut.{HostOut}
 use Rattle.proof_transcript.specs.world_model.Events.{shown_values}
 use Rattle.proof_transcript.specs.proof_host.Entries.{notes_of}
 use Rattle.proof_transcript.specs.Records.{TellsCancelled, cancelled_by}

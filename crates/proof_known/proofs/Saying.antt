@@ -16,13 +16,13 @@ use Rattle.proof_transcript.specs.law_time.Waking.{may_wake}
 use Rattle.proof_transcript.specs.law_host.Heard.{listing_heard}
 use Rattle.host_orders.specs.Wrapping.{carriage_of}
 use Rattle.host_orders.specs.declared.carriage.Carriage.{Carriage}
-use Rattle.host_model.specs.State.{Command, HostState}
-use Rattle.host_model.specs.Events.{HostEvent, Accepts, Hears}
-use Rattle.host_model.specs.After.{after}
-use Rattle.host_model.specs.Asking.{carriage_for}
-use Rattle.host_model.specs.Facts.{HostFacts}
-use Rattle.host_model.specs.May.{IsAccepted, May as MayHost}
-use Rattle.host_model.specs.Outs.{answers, outs}
+use Rattle.proof_waking.specs.host_model.State.{Command, HostState}
+use Rattle.proof_waking.specs.host_model.Events.{HostEvent, Accepts, Hears}
+use Rattle.proof_waking.specs.host_model.After.{after}
+use Rattle.proof_waking.specs.host_model.Asking.{carriage_for}
+use Rattle.proof_waking.specs.host_model.Facts.{HostFacts}
+use Rattle.proof_waking.specs.host_model.May.{IsAccepted, May as MayHost}
+use Rattle.proof_waking.specs.host_model.Outs.{answers, outs}
 use Rattle.proof_transcript.specs.world_model.State.{Machine}
 use Rattle.proof_transcript.specs.world_model.Events as world
 use Rattle.proof_transcript.specs.world_model.Events.{Event, OpensFrom}
@@ -45,11 +45,11 @@ use Rattle.proof_known.proofs.Events.{event_notes}
 
 -- ---- entries that show no order as accepted
 
-abbrev AcceptsNone : Entry → Type 0
+abbrev pub AcceptsNone : Entry → Type 0
 AcceptsNone (entry.Accepted command node) = ⊥
 AcceptsNone e = Unit {0}
 
-others_none : (e : Entry) → IsOfOthers e → AcceptsNone e
+pub others_none : (e : Entry) → IsOfOthers e → AcceptsNone e
 others_none (entry.Accepted command node) others = absurd others
 others_none e others = tt
 
@@ -57,10 +57,10 @@ note_none : (e : Entry) → IsHostNote e → AcceptsNone e
 note_none (entry.Accepted command node) note = absurd note
 note_none e note = tt
 
-line_none : AreOfLine AcceptsNone
+pub line_none : AreOfLine AcceptsNone
 line_none = record { written = λ side text. tt; dropped = λ side. tt; garbled = λ side text. tt; overrun = λ side. tt }
 
-told_none : (h : HostState) (event : HostEvent) (told : List Entry) → AreTold (outs h event) told → AllByRecursion AcceptsNone told
+pub told_none : (h : HostState) (event : HostEvent) (told : List Entry) → AreTold (outs h event) told → AllByRecursion AcceptsNone told
 told_none h event told are = told_are AcceptsNone line_none note_none (outs h event) told (event_notes h event) are
 
 -- ---- what is said of orders

@@ -12,9 +12,9 @@ use Rattle.proof_transcript.specs.law_time.Moments.{Allows}
 use Rattle.proof_transcript.specs.law_time.Waking.{may_wake}
 use Rattle.proof_transcript.specs.law_host.Heard.{is_of_others, listing_heard}
 use Rattle.proof_transcript.specs.law_host.HostLegal.{IsShown, ShowsValues}
-use Rattle.host_model.specs.State.{HostState}
-use Rattle.host_model.specs.Events.{HostEvent, Hears}
-use Rattle.host_model.specs.Outs.{outs}
+use Rattle.proof_waking.specs.host_model.State.{HostState}
+use Rattle.proof_waking.specs.host_model.Events.{HostEvent, Hears}
+use Rattle.proof_waking.specs.host_model.Outs.{outs}
 use Rattle.proof_transcript.specs.world_model.Events.{shown_values}
 use Rattle.proof_transcript.specs.world_model.Refusals.{IsRefused}
 use Rattle.proof_transcript.specs.proof_spoken.Said.{AreSaid}

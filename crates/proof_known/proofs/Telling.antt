@@ -2,10 +2,10 @@
 use Rattle.std.proofs.Common.{◌≡◌, ℕ, ◌<◌, ◌==◌, ◌||◌, Bool, true, false, inl, inr, List, [], ◌∷◌, ◌++◌, length, refl, sym, ap, ◌∙◌, subst, append-nil, append_assoc, arith}
 use Rattle.std.specs.Prelude.{Option, Some, None, Result, Ok, Err}
 use Rattle.std.specs.List.{AllByRecursion, flat_map, list_any}
-use Rattle.std.proofs.lemmas.Bool.{both_ways, cases_eq, eq-eqb, ne_eqb}
+use Rattle.std.proofs.lemmas.Bool.{both_ways, cases_eq, eq-eqb, ne_eqb, or_right}
 use Rattle.std.proofs.lemmas.Grind.{flat_map-append}
 use Rattle.std.proofs.lemmas.List.Folds.{list_any-append}
-use Rattle.zw_base.proofs.Each.{all-right, all-weaker}
+use Rattle.zw_base.proofs.Each.{all-weaker}
 use Rattle.zw_base.specs.declared.property.Property.{Property}
 use Rattle.zw_base.specs.declared.property.Setting.{Setting}
 use Rattle.s0_crypto.specs.declared.key_pair.Keys.{Keys}
@@ -29,13 +29,12 @@ use Rattle.proof_transcript.specs.law_time.Waking.{may_wake}
 use Rattle.host_node.specs.State.{NodeState}
 use Rattle.host_node.specs.Steps.{after_join}
 use Rattle.host_node.specs.TableState.{node_of as node_at, with_node}
-use Rattle.host_model.specs.State.{HostState, first_host}
-use Rattle.host_model.specs.Events.{HostEvent, Hears, Joins}
-use Rattle.host_model.specs.After.{after}
-use Rattle.host_model.specs.Facts.{HostFacts}
-use Rattle.host_model.specs.Outs.{answers, outs}
-use Rattle.host_model.specs.declared.out.HostOut.{HostOut}
-use Rattle.host_model.proofs.Own.{IsOwn}
+use Rattle.proof_waking.specs.host_model.State.{HostState, first_host}
+use Rattle.proof_waking.specs.host_model.Events.{HostEvent, Hears, Joins, IsOwn}
+use Rattle.proof_waking.specs.host_model.After.{after}
+use Rattle.proof_waking.specs.host_model.Facts.{HostFacts}
+use Rattle.proof_waking.specs.host_model.Outs.{answers, outs}
+use Rattle.proof_waking.specs.host_model.declared.out.HostOut.{HostOut}
 use Rattle.proof_transcript.specs.world_model.State.{Machine}
 use Rattle.proof_transcript.specs.world_model.Events as world
 use Rattle.proof_transcript.specs.world_model.Events.{Event, OpensFrom, shown_values}
@@ -45,20 +44,24 @@ use Rattle.proof_transcript.proofs.FirstMachine.{first_told as first_machine_tol
 use Rattle.proof_transcript.proofs.Hosts.{IsNoJoin, LeavesRecords, heard_in, joined_here, joined_in, joined_there}
 use Rattle.proof_transcript.proofs.Over.{OneThing, Opens, starts_over}
 use Rattle.proof_transcript.proofs.TicksBegun.{event_goes_host, last_append}
-use Rattle.proof_transcript.specs.proof_walk.Outside.{IsHostNote}
 use Rattle.proof_waking.specs.proof_alone.State.{HostMachine, with_world}
 use Rattle.proof_waking.specs.proof_alone.Steps.{AreTold, AsksNothing, IsAskedBy, IsOfOthers, Step, Tells, Comes, Misses, Says, Says_nothing, Asks, Refuses, Shows, Restarts, Begins_tick, Numbers, Judges, Does, entries, happens}
-use Rattle.proof_waking.specs.proof_alone.Phases.{Phase, Resting, Asked, Risen, Ticking, Open, Behind, Sleeping, Submitting, GoesBy, IsBetween, May, Turns}
+use Rattle.proof_waking.specs.proof_alone.Phases.{Phase, Resting, Asked, Risen, Ticking, Open, Behind, Sleeping, Submitting, May, Turns}
 use Rattle.proof_waking.specs.proof_alone.Runs.{WalkOver}
 use Rattle.proof_waking.specs.proof_alone.Tables.{TieTables}
-use Rattle.proof_waking.proofs.proof_alone_Apart.{AreOfLine, missed_are, told_are}
+use Rattle.proof_waking.proofs.proof_alone_Apart.{AreOfLine, missed_are}
 use Rattle.proof_waking.proofs.InOrder.{asked_puts, is_asked}
-use Rattle.proof_waking.specs.Judged.{IsOfRequest, KnowsJudged}
+use Rattle.proof_waking.specs.Judged.{KnowsJudged}
 use Rattle.proof_waking.proofs.Apart.{IsWordless, said_anew, said_in_vain, said_on, wordless_more}
-use Rattle.proof_waking.proofs.Followed.{MayFollow, frame_all}
+use Rattle.proof_waking.proofs.Followed.{MayFollow}
 use Rattle.proof_waking.proofs.Judging.{asked_on, nothing_on}
+pub use Rattle.proof_waking.specs.Judged.{IsElse}
+pub use Rattle.proof_waking.proofs.Judging.{between_else, by_else}
+use Rattle.proof_waking.proofs.Parts.{told_wordless}
+use Rattle.proof_waking.proofs.Settling.{may_come, request_follows}
 use Rattle.proof_known.specs.Known.{KnowsNodes, KnowsTold, TieTold, ToldBefore}
-use Rattle.proof_known.proofs.Events.{AreAnswers, IsPartOf, answers_are, event_at, event_notes, told_shown}
+use Rattle.proof_known.proofs.Listing.{or_none}
+use Rattle.proof_known.proofs.Events.{AreAnswers, IsPartOf, answers_are, event_at, told_shown}
 
 -- ---- entries
 
@@ -77,22 +80,11 @@ others_plain (entry.Refused refusal) others = absurd others
 others_plain (entry.Report node setting) others = absurd others
 others_plain e others = tt
 
-note_wordless : (e : Entry) → IsHostNote e → IsWordless e
-note_wordless (entry.Said words) note = absurd note
-note_wordless (entry.Refused refusal) note = absurd note
-note_wordless e note = tt
-
 line_plain : AreOfLine IsPlain
 line_plain = record { written = λ side text. tt; dropped = λ side. tt; garbled = λ side text. tt; overrun = λ side. tt }
 
-line_wordless : AreOfLine IsWordless
-line_wordless = record { written = λ side text. tt; dropped = λ side. tt; garbled = λ side text. tt; overrun = λ side. tt }
-
 answers_plain : AreAnswers IsPlain
 answers_plain = record { accepted = λ command node. tt; taken_back = λ command. tt }
-
-told_wordless : (h : HostState) (event : HostEvent) (told : List Entry) → AreTold (outs h event) told → AllByRecursion IsWordless told
-told_wordless h event told are = told_are IsWordless line_wordless note_wordless (outs h event) told (event_notes h event) are
 
 all_wordless : (told : List Entry) → AllByRecursion IsPlain told → AllByRecursion IsWordless told
 all_wordless told all = all-weaker IsPlain IsWordless plain_wordless told all
@@ -198,21 +190,13 @@ after_words line past h goes_on none known =
     (ap (λ (l : List Line). flat_map join_of l) known.read ∙ append-nil (join_of line) ∙ none) known.told)
 
 -- the node of a `join` line is in range
-read_join : (words : List ℕ) (n : ℕ) (read : Result (Option Line) LineFault) → line_at words ≡ read → read_as read ≡ lines.Join n ∷ [] → IsNode 1 n
+pub read_join : (words : List ℕ) (n : ℕ) (read : Result (Option Line) LineFault) → line_at words ≡ read → read_as read ≡ lines.Join n ∷ [] → IsNode 1 n
 read_join words n (Ok (Some line)) is are =
     let same : line ≡ lines.Join n = cc in
     let text : LineText words (lines.Join n) = line_takes words (Some (lines.Join n)) (subst (λ (l : Line). line_at words ≡ Ok (Some l)) same is) in
     text.stands.0
 read_join words n (Ok None) is are = absurd (let bad : [] ≡ lines.Join n ∷ [] = are in cc)
 read_join words n (Err fault) is are = absurd (let bad : [] ≡ lines.Join n ∷ [] = are in cc)
-
-or_true : (a b : Bool) → b ≡ true → a || b ≡ true
-or_true true b is = refl
-or_true false b is = is
-
-or_none : (a b : Bool) → b ≡ false → a || b ≡ a
-or_none true b none = refl
-or_none false b none = none
 
 -- a node joins
 join_told : (n : ℕ) (past : List Entry) (h : HostState) → length h.nodes ≡ 233 → ToldBefore (lines.Join n) past h → TieTold past (after h (Joins n))
@@ -225,7 +209,7 @@ join_told n past h places known =
         | inl same ↦
             subst (λ (k : ℕ). joined_in (with_node h.nodes n state) k ≡ is_joined (known.before ++ entry.Said known.words ∷ []) k) (sym same)
             (joined_here h.nodes n state within
-            ∙ sym (joined_by known.before known.words n n known.read ∙ or_true (is_joined known.before n) (n == n) (eq-eqb n n refl)))
+            ∙ sym (joined_by known.before known.words n n known.read ∙ or_right (is_joined known.before n) (n == n) (eq-eqb n n refl)))
         | inr other ↦
             joined_there h.nodes n state node other ∙ known.told.joined node
             ∙ sym (joined_by known.before known.words n node known.read ∙ or_none (is_joined known.before node) (n == node) (ne_eqb n node (λ same. other (sym same))))
@@ -251,14 +235,6 @@ first_told keys = let first = first_machine_told keys None [] in record { joined
 
 -- ---- phases
 
-abbrev pub IsElse : Phase → Type 0
-IsElse (Asked line) = ⊥
-IsElse here = Unit {0}
-
-pub between_else : (here : Phase) → IsBetween here → IsElse here
-between_else (Asked line) between = absurd between
-between_else here between = tt
-
 pub rest_of : (here : Phase) (past : List Entry) (m : HostMachine) → IsElse here → KnowsTold here past m → TieTold past m.state
 rest_of (Asked line) past m other known = absurd other
 rest_of here past m other known = known
@@ -269,13 +245,6 @@ of_rest here past m other rest = rest
 
 leads_to : (next to : Phase) (past : List Entry) (m : HostMachine) → IsElse to → next ≡ to → TieTold past m.state → KnowsTold next past m
 leads_to next to past m other is rest = subst (λ (p : Phase). KnowsTold p past m) (sym is) (of_rest to past m other rest)
-
-pub by_else : (here next : Phase) (h : HostState) (event : HostEvent) → GoesBy here h event next → IsElse here × IsElse next
-by_else (Ticking (first ∷ left)) next h event goes = (tt, subst IsElse (sym goes.1) tt)
-by_else (Behind (first ∷ left)) next h event goes = (tt, subst IsElse (sym goes.1) tt)
-by_else Sleeping next h event (node, wants, is, next_is) = (tt, subst IsElse (sym next_is) tt)
-by_else Submitting next h event goes = (tt, subst IsElse (sym goes.1) tt)
-by_else here next h event goes = absurd goes
 
 -- while the number of a tick is to be entered no words of a line stand last
 pub numbered_else : (here : Phase) (past : List Entry) (m : HostMachine) → m.awaits ≡ true → KnowsJudged here past m → IsElse here
@@ -288,21 +257,14 @@ own_joins : (event : HostEvent) → IsOwn event → IsNoJoin event
 own_joins (Joins node) own = absurd own
 own_joins event own = tt
 
-request_joins : (event : HostEvent) → IsOfRequest event → IsNoJoin event
-request_joins (Joins node) of_it = absurd of_it
-request_joins event of_it = tt
-
 follow_joins : (unit : List ℕ) (event : HostEvent) → MayFollow unit event → IsNoJoin event
 follow_joins unit (Joins node) may = absurd may
 follow_joins unit event may = tt
 
 part_joins : (past : List Entry) (m : HostMachine) (event : HostEvent) → IsPartOf past m event → IsNoJoin event
 part_joins past m event (inl own) = own_joins event own
-part_joins past m event (inr (inl of_it)) = request_joins event of_it
-part_joins past m event (inr (inr (left, behind))) =
-    let frame = behind.frame in
-    let unit : List ℕ = unit_text (Framed frame.frame) in
-    follow_joins unit event (all-right (MayFollow unit) frame.gone (event ∷ left) (frame_all frame.first frame.frame (frame.gone ++ event ∷ left) frame.followed)).0
+part_joins past m event (inr (inl of_it)) = follow_joins [] event (request_follows [] event of_it)
+part_joins past m event (inr (inr (left, behind))) = follow_joins (unit_text (Framed behind.frame.frame)) event (may_come past left event behind.frame)
 
 module _ (law : LeavesRecords) (one : OneThing) (opens : Opens)
     (goes_on : (m : Machine) (event : Event) → HostFacts m.host.state → IsHeld m.host.state m.records → world.May m event → KeepsWell m event

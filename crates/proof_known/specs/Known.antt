@@ -20,8 +20,8 @@ use Rattle.proof_transcript.specs.law_host.Heard.{is_of_others, is_refusal_of_ot
 use Rattle.proof_transcript.specs.law_host.HostLegal.{ShowsValues}
 use Rattle.value_store.specs.Values.{IsReserved, is_among, stored_of}
 use Rattle.host_keep.specs.Kept.{Taken, classes_said, node_of as kept_of_node, properties_for}
-use Rattle.host_model.specs.Holding.{listens_said}
-use Rattle.host_model.specs.State.{Command, HostState, node_of}
+use Rattle.proof_waking.specs.host_model.Holding.{listens_said}
+use Rattle.proof_waking.specs.host_model.State.{Command, HostState, node_of}
 use Rattle.proof_transcript.specs.proof_spoken.Said.{AreSaid, KnowsListing}
 use Rattle.proof_transcript.specs.Answering.{HostTies, IsAnswered}
 use Rattle.proof_transcript.specs.Records.{TellsCancelled}

@@ -13,9 +13,8 @@ ghost use Rattle.proof_known.specs.Known.{AreForHost, KeepsWhatIsSaid};
 use crate::known::{hosts_keep_what_is_said, hosts_know_what_was_told};
 use crate::records::hosts_record_what_is_shown;
 use crate::shown::hosts_show_what_they_keep;
-use proof_transcript::host::laws_follow;
-use proof_transcript::spoken::tables_are_what_was_said;
-use proof_waking::alone::{hosts_answer_what_is_asked, hosts_keep_their_tables};
+use proof_transcript::{laws_follow, tables_are_what_was_said};
+use proof_waking::{hosts_answer_what_is_asked, hosts_keep_their_tables};
 
 /// In any run of a host alone, over a keeper that tells its records and has none at first, in which no line is refused that is for others: each line has the
 /// one answer that the transcript before it demands, and no answer stands elsewhere; where the run does not end at rest, its last line may lack its answer.

@@ -14,15 +14,15 @@ ghost use Rattle.proof_waking.specs.proof_alone.Runs.{Run, Told, Walk};
 ghost use Rattle.proof_known.specs.Known.{KnowsHeard, KnowsNodes, KnowsOrders, KnowsWhole};
 
 use host_keep::texts_give_one_thing;
-use host_model::{a_host_begins_with_what_is_kept, a_restart_keeps_what_is_held, facts_are_kept};
 use host_node::a_restart_needs_the_records_alone;
-use proof_transcript::host::laws_follow;
-use proof_transcript::spoken::world::restarts_go_on;
-use proof_transcript::spoken::{
-    interviews_give_what_is_known, tables_are_what_was_said, tables_keep_orders,
+use proof_transcript::{
+    interviews_give_what_is_known, laws_follow, restarts_go_on, tables_are_what_was_said,
+    tables_keep_orders,
 };
-use proof_waking::alone::hosts_keep_their_tables;
-use proof_waking::hosts_judge_as_told;
+use proof_waking::{
+    a_host_begins_with_what_is_kept, a_restart_keeps_what_is_held, facts_are_kept,
+    hosts_judge_as_told, hosts_keep_their_tables,
+};
 
 /// In any run of a host alone, also where it starts again, over a keeper that tells its records and has none at first: at each phase it knows of each node
 /// what that listed in its last interview that ended well, by the frames that were judged, and of a node without one what it knew at first.

@@ -19,8 +19,11 @@ mod shown;
 pub use answers::{hosts_answer_lines, hosts_do_as_is_said};
 pub use known::{hosts_keep_what_is_said, hosts_know_what_nodes_list, hosts_know_what_was_told};
 pub use noted::{hosts_note_what_was_told, rejected_telling, worked_telling};
-pub use proof_transcript as transcript;
-pub use proof_waking as waking;
-pub use proof_waking::alone;
+pub use proof_transcript::{
+    laws_follow, lines_are_answered, orders_are_carried_as_said, tables_are_what_was_said,
+};
+pub use proof_waking::{
+    hosts_wake_as_told, lines_are_a_hosts, lines_wake_as_told, what_is_heard_is_a_hosts,
+};
 pub use records::hosts_record_what_is_shown;
 pub use shown::hosts_show_what_they_keep;

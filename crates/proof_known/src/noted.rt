@@ -23,8 +23,7 @@ ghost use Rattle.proof_known.specs.WorkedNotes.{ended_by_nothing, ended_unreport
 
 use crate::known::hosts_know_what_was_told;
 use host_node::a_restart_needs_the_records_alone;
-use proof_transcript::host::laws_follow;
-use proof_transcript::spoken::tables_are_what_was_said;
+use proof_transcript::{laws_follow, tables_are_what_was_said};
 use proof_waking::hosts_judge_as_told;
 
 /// In any run of a host alone, over a keeper that tells its records and has none at first: a command ends only where a payload of its node was judged that

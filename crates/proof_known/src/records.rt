@@ -11,8 +11,7 @@ ghost use Rattle.proof_known.specs.Known.{KnowsRecords};
 
 use crate::known::hosts_know_what_was_told;
 use host_keep::a_text_is_of_one_record;
-use proof_transcript::host::laws_follow;
-use proof_transcript::spoken::tables_are_what_was_said;
+use proof_transcript::{laws_follow, tables_are_what_was_said};
 
 /// In any run of a host alone that ends at rest, over a keeper that tells its records and has none at first: its records are legal, and give exactly the
 /// orders that were accepted, the commands that were cancelled, the sessions with their final outcomes, and the joined and interviewed nodes that the

@@ -11,8 +11,7 @@ ghost use Rattle.proof_waking.specs.proof_alone.State.{first_alone};
 ghost use Rattle.proof_waking.specs.proof_alone.Runs.{Told, ToldWhole};
 
 use crate::known::hosts_know_what_was_told;
-use proof_transcript::host::laws_follow;
-use proof_transcript::spoken::tables_are_what_was_said;
+use proof_transcript::{laws_follow, tables_are_what_was_said};
 
 /// In any run of a host alone, over a keeper that tells its records and has none at first: the values of a node stand directly after the words of a line
 /// that asks for them, as the transcript gives them, and nowhere else; and where the run ends at rest, none is still to stand.

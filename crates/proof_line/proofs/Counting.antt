@@ -22,9 +22,9 @@ use Rattle.law_wire.specs.Asked.{is_ack}
 use Rattle.law_wire.specs.Marks.{collision_of, collisions, is_can, cans, AnswersBy, MayCollide}
 use Rattle.proof_world.specs.device_sim.State.{State}
 use Rattle.proof_walk.specs.outside_model.Devices.{shown_entries}
-use Rattle.proof_walk.specs.outside_model.Events.{cleared_entries}
+use Rattle.proof_walk.specs.outside_model.Events.{cleared_entries, IsCleared}
 use Rattle.proof_walk.specs.Outside.{IsNote, IsOfAir}
-use Rattle.proof_walk.proofs.Entered.{IsMark, told_by_marks, IsCleared, all_cleared, IsShown, all_shown}
+use Rattle.proof_walk.proofs.Entered.{IsMark, told_by_marks, all_cleared, IsShown, all_shown}
 
 -- ---- more entries
 

@@ -6,6 +6,7 @@ use Rattle.zw_base.proofs.Each.{all-append}
 use Rattle.serial_frame.specs.Frame.{FrameParts}
 use Rattle.serial_frame.specs.Items.{unit_text}
 use Rattle.serial_frame.specs.declared.unit.Unit.{Unit as LineUnit}
+use Rattle.serial_frame.specs.declared.unit.Unit.TheVariants.{Framed}
 use Rattle.serial_link.specs.State.{tick_side, copy_due}
 use Rattle.serial_pipes.specs.Events.{told}
 use Rattle.zw_words.specs.declared.side.Side.TheVariants.{Host as by_host, Chip as by_chip}
@@ -36,9 +37,11 @@ use Rattle.proof_walk.specs.world_model.Events.{notes}
 use Rattle.proof_walk.specs.Outside.{Moves, IsNote, session_begins}
 use Rattle.proof_walk.specs.ByLine.{IsAsked}
 use Rattle.proof_walk.proofs.Stamping.{stamped}
+use Rattle.proof_walk.proofs.HostOuts.{OutsAre}
 use Rattle.proof_walk.proofs.Machines.{UnitsAre, any_told, outs_keep, answers_keep}
 use Rattle.proof_line.specs.Links.{TicksNot}
-use Rattle.proof_line.specs.Pipes.{MayTell, Mode, most, Held, HearsNothing}
+use Rattle.proof_line.specs.Pipes.{MayTell, Mode, most, Held}
+pub use Rattle.proof_line.specs.Pipes.{HearsNothing}
 use Rattle.proof_line.proofs.Holding.{TellsNothing, Grown}
 use Rattle.proof_line.proofs.Filling.{Up, Down, HoldsEmpty, held_same, held_turn, host_writes}
 use Rattle.proof_line.proofs.Chipping.{IsFrame, KnowsAs, apart_moves, number_stands}
@@ -80,6 +83,21 @@ one_frames h event nothing = tt
 
 pub frames_alone : (h : HostState) (event : HostEvent) → HearsNothing event → UnitsAre IsFrame (outs_all h (event ∷ []))
 frames_alone h event nothing = subst (UnitsAre IsFrame) (sym (append-nil (outs h event))) (one_frames h event nothing)
+
+-- a frame, or an entry that is so
+abbrev pub IsFrameOr : (Entry → Type 0) → HostOut → Type 0
+IsFrameOr Is (Write (Framed f)) = Unit {0}
+IsFrameOr Is (Write unit) = ⊥
+IsFrameOr Is (Note e) = Is e
+
+frames_or : (Is : Entry → Type 0) (puts : List HostOut) → UnitsAre IsFrame puts → OutsAre Is puts → AllByRecursion (IsFrameOr Is) puts
+frames_or Is [] frames are = tt
+frames_or Is (Write (Framed f) ∷ puts) frames are = (tt, frames_or Is puts frames.1 are.1)
+frames_or Is (Write unit ∷ puts) frames are = absurd frames.0
+frames_or Is (Note e ∷ puts) frames are = (are.0, frames_or Is puts frames are.1)
+
+pub puts_frames_or : (Is : Entry → Type 0) (h : HostState) (event : HostEvent) → HearsNothing event → OutsAre Is (outs h event) → AllByRecursion (IsFrameOr Is) (outs h event)
+puts_frames_or Is h event nothing are = frames_or Is (outs h event) (one_frames h event nothing) are
 
 -- none where a line asks for something
 abbrev pub NoUnit : LineUnit → Type 0

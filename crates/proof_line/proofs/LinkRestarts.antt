@@ -27,12 +27,11 @@ use Rattle.host_keep.specs.declared.record.Record.{Record}
 use Rattle.proof_world.specs.host_model.Opening.{opened}
 use Rattle.proof_world.specs.host_model.State.{HostParts, HostState}
 use Rattle.proof_walk.specs.outside_model.State.{OuterState}
-use Rattle.proof_walk.specs.outside_model.Events.{Clears_pipe, cleared_entries, outcome, ticked_entry}
+use Rattle.proof_walk.specs.outside_model.Events.{Clears_pipe, cleared_entries, outcome, ticked_entry, IsCleared}
 use Rattle.proof_walk.specs.world_model.State.{Machine}
 use Rattle.zw_text.specs.declared.line.Line.{Line}
 use Rattle.zw_text.specs.declared.entry.Refusal.{Refusal}
 use Rattle.proof_walk.specs.world_model.Events.{Event, Outside_does, Refuses, Restarts, OpensFrom, happens, entries, May}
-use Rattle.proof_walk.proofs.Entered.{IsCleared}
 use Rattle.serial_frame.specs.Stream.{Rest}
 use Rattle.proof_world.specs.proof_serial.Chip.{HasFrames}
 use Rattle.proof_world.specs.proof_serial.Way.{Carries}

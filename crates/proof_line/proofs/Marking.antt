@@ -32,7 +32,7 @@ use Rattle.proof_walk.specs.outside_model.Chip.{put_out, chip_does}
 use Rattle.proof_walk.specs.outside_model.Results.{device_at, gives}
 use Rattle.proof_walk.specs.outside_model.Air.{deals, sent_entries, change_entries, change_at}
 use Rattle.proof_walk.specs.outside_model.Devices.{acts, shown_entries}
-use Rattle.proof_walk.specs.outside_model.Events.{OuterEvent, Begins_line, Host_writes, Host_takes, Host_notes, Shows, Joins, Discovers, Links, Loses, Loses_acks, Marks_loss, Marks_change, Clears_pipe, Collides_next, Stalls, Cuts, way_of, mesh_of, cleared_entries, outcome, devices_after, ticked_entry, is_own}
+use Rattle.proof_walk.specs.outside_model.Events.{OuterEvent, Begins_line, Host_writes, Host_takes, Host_notes, Shows, Joins, Discovers, Links, Loses, Loses_acks, Marks_loss, Marks_change, Clears_pipe, Collides_next, Stalls, Cuts, way_of, mesh_of, cleared_entries, outcome, devices_after, ticked_entry, is_own, IsCleared}
 use Rattle.proof_walk.specs.world_model.State.{Machine}
 use Rattle.proof_walk.specs.world_model.Events.{Event, Outside_does, happens, entries, May}
 use Rattle.proof_walk.specs.world_model.Lines.{IsEffect}
@@ -41,7 +41,7 @@ use Rattle.proof_walk.specs.Phases.{Between}
 use Rattle.proof_walk.specs.Walk.{Walk}
 use Rattle.proof_walk.specs.ByLine.{IsOfTick, CoversLine, ByLine}
 use Rattle.proof_walk.proofs.ByLine.{effect_covered, common_covered, walk_of}
-use Rattle.proof_walk.proofs.Entered.{IsCleared, all_cleared, IsShown, all_shown, IsChange, change_entered}
+use Rattle.proof_walk.proofs.Entered.{all_cleared, IsShown, all_shown, IsChange, change_entered}
 use Rattle.proof_walk.proofs.Linking.{acts_of_air}
 use Rattle.proof_walk.proofs.Machines.{machine_keeps}
 use Rattle.proof_walk.proofs.Results.{Gives, ends_go, gives_go, to_chip_goes}

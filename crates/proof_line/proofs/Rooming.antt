@@ -23,13 +23,13 @@ use Rattle.proof_world.specs.host_model.Ticking.{tick_events}
 use Rattle.proof_world.specs.host_model.declared.out.HostOut.{HostOut}
 use Rattle.proof_world.specs.host_model.declared.out.HostOut.TheVariants.{Write, Note}
 use Rattle.proof_walk.specs.outside_model.State.{OuterState, Outside, first_outer, is_stalled}
-use Rattle.proof_walk.specs.outside_model.Events.{OuterEvent, Begins_line, Begins_tick, Arrives, Gives, Device_ticks, Chip_ticks, Chip_takes, Clears_pipe, Host_notes, outcome, cleared_entries, way_of, happens as happens_outside, entries as entries_outside}
+use Rattle.proof_walk.specs.outside_model.Events.{OuterEvent, Begins_line, Begins_tick, Arrives, Gives, Device_ticks, Chip_ticks, Chip_takes, Clears_pipe, Host_notes, outcome, cleared_entries, way_of, happens as happens_outside, entries as entries_outside, IsCleared}
 use Rattle.proof_walk.specs.world_model.State.{Machine, first_machine}
 use Rattle.proof_walk.specs.world_model.Events.{Event, Outside_does, Host_does, Host_takes, Decoder_ticks, Refuses, Shows_values, Restarts, shown_values, happens, entries, May}
 use Rattle.proof_walk.specs.world_model.Did.{AllAlong}
 use Rattle.proof_walk.specs.world_model.Lines.{IsEffect}
 use Rattle.proof_walk.specs.world_model.Settling.{OuterTakesAll}
-use Rattle.proof_walk.proofs.Entered.{IsCleared, all_cleared}
+use Rattle.proof_walk.proofs.Entered.{all_cleared}
 use Rattle.proof_world.specs.proof_serial.Line.{AreAtRest, WritesWell, AllWriteWell, host_writes}
 use Rattle.proof_world.specs.proof_serial.Chip.{HasFrames}
 use Rattle.proof_world.proofs.Events.{at_rest, whole_after, rests_after}

@@ -19,11 +19,10 @@ use Rattle.zw_text.specs.Transcript.{line_of, line_last}
 use Rattle.law_wire.specs.law_transcript.Restarts.{is_restart}
 use Rattle.law_wire.specs.Pipes.{Pipe, empty_pipe, pipe_from, sum_of, unit_last, is_marked, may_fit}
 use Rattle.law_wire.specs.Links.{other}
-use Rattle.proof_walk.proofs.Entered.{IsCleared}
 use Rattle.proof_world.specs.host_model.State.{HostState}
 use Rattle.proof_world.specs.host_model.May.{IsFree}
 use Rattle.proof_walk.specs.outside_model.State.{is_stalled}
-use Rattle.proof_walk.specs.outside_model.Events.{Clears_pipe}
+use Rattle.proof_walk.specs.outside_model.Events.{Clears_pipe, IsCleared}
 use Rattle.proof_walk.specs.world_model.State.{Machine}
 use Rattle.proof_walk.specs.world_model.Events.{Event, Outside_does, Refuses}
 use Rattle.proof_walk.specs.world_model.Lines.{restart_events}

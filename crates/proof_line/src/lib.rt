@@ -23,9 +23,16 @@ pub use pipes::{
     lines_clear_at_restarts, lines_clear_nowhere_else, lines_overrun_only_when_full,
     lines_overrun_when_full,
 };
-pub use proof_traffic as traffic;
-pub use proof_walk::host;
-pub use proof_world as world;
-pub use proof_world::serial;
+pub use proof_traffic::{
+    frames_fly_in_order, hosts_make_requests, hosts_obey_the_line, lines_make_requests,
+    outsides_make_requests, requests_keep_facts,
+};
+pub use proof_walk::{
+    asides_keep_facts, events_keep_facts, first_facts_hold, laws_follow, restarts_keep_facts,
+};
+pub use proof_world::{
+    hosts_write_well, lines_keep_and_ask_well, restarts_go_on, runs_take_once,
+    the_machine_keeps_facts, units_are_judged_whole,
+};
 pub use ties::{collisions_go_on, marks_go_on, numbers_go_on, pipes_go_on, rooms_go_on};
 pub use times::ticks_are_told;

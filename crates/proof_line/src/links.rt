@@ -17,8 +17,7 @@ ghost use Rattle.proof_line.specs.Linked.{Anything, HostObeyed, IsOrderly, KnowA
 use crate::lines_clear_nowhere_else;
 use proof_traffic::hosts_obey_the_line;
 use proof_walk::time_goes_on;
-use proof_world::lines_keep_and_ask_well;
-use proof_world::serial::hosts_write_well;
+use proof_world::{hosts_write_well, lines_keep_and_ask_well};
 
 /// At each phase of a line, where the format carries what the host writes, and bytes are taken where there are some: each side of the line has done steps that
 /// obey its rules in the ticks of the transcript, has written just its units, has heard what arrived of the other side's since the host started, in order and

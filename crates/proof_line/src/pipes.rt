@@ -12,8 +12,7 @@ ghost use Rattle.proof_walk.specs.world_lines.Whole.{AreWhole};
 ghost use Rattle.proof_line.specs.Pipes.{ClearsAtRestarts, ClearsNowhereElse, OverrunsOnlyWhenFull};
 
 use crate::{pipes_go_on, rooms_go_on};
-use proof_world::lines_keep_and_ask_well;
-use proof_world::serial::hosts_write_well;
+use proof_world::{hosts_write_well, lines_keep_and_ask_well};
 
 /// Over any lines from the first on, the last of which an allocation failure may have cut short, a unit is overrun only where what its pipe may still hold, by
 /// what stands before it, leaves it no room in 4,096 bytes.

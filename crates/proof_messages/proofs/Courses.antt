@@ -9,7 +9,7 @@ use Rattle.transport_segments.specs.Kept.{Empty}
 use Rattle.proof_course.specs.Sessions.{is_segment_of_next}
 use Rattle.device_kinds.specs.declared.verdict.Verdict.{Verdict}
 use Rattle.device_kinds.specs.declared.verdict.Verdict.TheVariants.{NoSupport, Fails, Makes, Works}
-use Rattle.device_stack.specs.State.{State}
+use Rattle.device_sim.specs.device_stack.State.{State}
 use Rattle.device_kinds.specs.Judging.{status_of}
 use Rattle.proof_messages.specs.Asking.{HasTaken, Follows}
 use Rattle.proof_messages.specs.Landing.{IsOf, LandsAs}

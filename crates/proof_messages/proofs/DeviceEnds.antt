@@ -13,9 +13,9 @@ use Rattle.device_kinds.specs.declared.kind.Kind.{Kind}
 use Rattle.device_kinds.specs.declared.verdict.Verdict.{Verdict}
 use Rattle.device_kinds.specs.declared.verdict.Verdict.TheVariants.{NoSupport, Fails, Makes, Works}
 use Rattle.device_kinds.specs.Kind.{main_name_of}
-use Rattle.device_stack.specs.State.{State, silent, fresh}
+use Rattle.device_sim.specs.device_stack.State.{State, silent, fresh}
 use Rattle.device_kinds.specs.Judging.{setting_of, status_of}
-use Rattle.device_stack.specs.Ticking.{aged, works_out, ticked, by_hand, set_by_hand}
+use Rattle.device_sim.specs.device_stack.Ticking.{aged, works_out, ticked, by_hand, set_by_hand}
 use Rattle.device_sim.specs.Event.{DeviceEvent, Hears, Ticks, Wakes, Sets, outcome_of, device_after}
 use Rattle.device_sim.specs.Laws.{IsChanged, IsUntaken, IsMade, IsHeard, with_number, numbers}
 use Rattle.device_sim.proofs.OrderLemmas.{numbers_append, woken_by as wakes_by}

@@ -27,12 +27,12 @@ use Rattle.device_kinds.specs.declared.effect.Effect.TheVariants.{Ignores, Sleep
 use Rattle.device_kinds.specs.declared.verdict.Verdict.{Verdict}
 use Rattle.device_kinds.specs.declared.verdict.Verdict.TheVariants.{NoSupport, Fails, Makes, Works}
 use Rattle.device_kinds.specs.Kind.{listens}
-use Rattle.device_stack.specs.State.{State, silent, fresh}
+use Rattle.device_sim.specs.device_stack.State.{State, silent, fresh}
 use Rattle.device_kinds.specs.Answers.{swapped}
-use Rattle.device_stack.specs.Effects.{effect_of, late_answer, takes, after_effect}
+use Rattle.device_sim.specs.device_stack.Effects.{effect_of, late_answer, takes, after_effect}
 use Rattle.device_kinds.specs.Segments.{segment_session}
-use Rattle.device_stack.specs.Hearing.{Answered, answers, answers_opened, answers_bytes, sent_openly, hears_openly, nonce_named, sent_sealed, hears_inside, hears_plain, hears_for, hears_sealed, seals_for, hears_nonces, hears_securely, assembles, repeats_segment, hears_segment, hears_in_segments, hears_by, active, hears}
-use Rattle.device_stack.specs.Ticking.{aged, works_out, ticked, woken, set_by_hand}
+use Rattle.device_sim.specs.device_stack.Hearing.{Answered, answers, answers_opened, answers_bytes, sent_openly, hears_openly, nonce_named, sent_sealed, hears_inside, hears_plain, hears_for, hears_sealed, seals_for, hears_nonces, hears_securely, assembles, repeats_segment, hears_segment, hears_in_segments, hears_by, active, hears}
+use Rattle.device_sim.specs.device_stack.Ticking.{aged, works_out, ticked, woken, set_by_hand}
 use Rattle.s0_crypto.specs.Sealing.{keys_of, unsealed_at}
 use Rattle.device_sim.specs.Event.{DeviceEvent, Hears, Ticks, Wakes, Sets, outcome_of, device_after}
 use Rattle.proof_messages.specs.Reporting.{CanBeAnswered, CanSay}

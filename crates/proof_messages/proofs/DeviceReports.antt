@@ -5,6 +5,7 @@ use Rattle.std.specs.List.{AllByRecursion, list_all, range_with_len}
 use Rattle.std.specs.Option.{option_map, option_to_list, option_and_then}
 use Rattle.std.proofs.lemmas.Bool.{eqb-true}
 use Rattle.std.proofs.lemmas.Bool.Decides.{nat_tests}
+use Rattle.zw_base.proofs.Each.{all-weaker}
 use Rattle.zw_base.specs.declared.property.Name.{Name}
 use Rattle.zw_base.specs.declared.property.Name.TheVariants as names
 use Rattle.zw_base.specs.declared.property.Property.{Property}
@@ -53,7 +54,7 @@ use Rattle.transport_segments.specs.declared.assembler.Taken.TheVariants.{Kept, 
 use Rattle.host_heard.specs.declared.payload.Heard.{Heard}
 use Rattle.host_heard.specs.declared.payload.Heard.TheVariants.{Messages, Sealed, Unread}
 use Rattle.host_heard.specs.declared.told.Told.{Told}
-use Rattle.host_heard.specs.declared.told.Told.TheVariants.{Report}
+use Rattle.host_heard.specs.declared.told.Told.TheVariants.{Report, Values}
 use Rattle.host_heard.specs.Telling.{told_by, told_in, heard_by, heard_at, end_of as from_end}
 use Rattle.device_kinds.specs.declared.kind.Kind.{Kind}
 use Rattle.device_kinds.specs.declared.kind.Kind.TheVariants.{Lock, Configurable}
@@ -62,22 +63,23 @@ use Rattle.device_kinds.specs.declared.effect.Effect.TheVariants.{Ignores, Sleep
 use Rattle.device_kinds.specs.declared.verdict.Verdict.{Verdict}
 use Rattle.device_kinds.specs.declared.verdict.Verdict.TheVariants.{NoSupport, Fails, Makes, Works}
 use Rattle.device_kinds.specs.Kind.{listens, lists, has_end, tells, nodes_from, main_name_of}
-use Rattle.device_stack.specs.State.{State, Outcome, silent, value_of, last_level_of}
+use Rattle.device_sim.specs.device_stack.State.{State, Outcome, silent, value_of, last_level_of}
 use Rattle.device_kinds.specs.Judging.{judged_set, status_of}
 use Rattle.device_kinds.specs.Telling.{report_of, asked_name, members_of, is_member_of, value_told, told, IsAnswer}
 use Rattle.device_kinds.specs.Answers.{report_status, swapped, answer_plan, worded}
-use Rattle.device_stack.specs.Answers.{asks_to_wake, status_report, final_report}
+use Rattle.device_sim.specs.device_stack.Answers.{asks_to_wake, status_report, final_report}
 use Rattle.device_kinds.proofs.WordedLemmas.{wrappable}
 use Rattle.device_kinds.specs.Effects.{end_of, set_plainly, effect_untold, telling, effect_alone, effect_in_session, effect_by}
-use Rattle.device_stack.specs.Effects.{effect_of, takes, after_effect, answer_of}
+use Rattle.device_sim.specs.device_stack.Effects.{effect_of, takes, after_effect, answer_of}
 use Rattle.device_kinds.specs.Segments.{segment_session}
-use Rattle.device_stack.specs.Hearing.{Answered, answers, answers_opened, answers_bytes, sent_openly, hears_openly, nonce_named, sent_sealed, hears_inside, hears_plain, hears_for, hears_sealed, seals_for, hears_nonces, hears_securely, assembles, repeats_segment, hears_segment, hears_in_segments, hears_by, active, hears}
-use Rattle.device_stack.specs.Ticking.{aged, works_out, ticked, woken, by_hand, main_told, tells_by_hand, set_by_hand}
+use Rattle.device_sim.specs.device_stack.Hearing.{Answered, answers, answers_opened, answers_bytes, sent_openly, hears_openly, nonce_named, sent_sealed, hears_inside, hears_plain, hears_for, hears_sealed, seals_for, hears_nonces, hears_securely, assembles, repeats_segment, hears_segment, hears_in_segments, hears_by, active, hears}
+use Rattle.device_sim.specs.device_stack.Ticking.{aged, works_out, ticked, woken, by_hand, main_told, tells_by_hand, set_by_hand}
 use Rattle.s0_crypto.specs.Sealing.{keys_of, cipher_text_of, unsealed_at, sealed_text}
 use Rattle.device_sim.specs.Event.{DeviceEvent, Hears, Ticks, Wakes, Sets, outcome_of, device_after, device_replies}
 use Rattle.proof_messages.proofs.Bare.{bare, bare_opens, high_command, middle_command, low_command, never_begins}
 use Rattle.host_model.proofs.Pumps.{and_false as never_ends}
-use Rattle.proof_messages.specs.Reporting.{TellsOwn, IsNoReport, TellsNone, TellsTrue, CanBeAnswered, CanSay}
+use Rattle.proof_messages.specs.Asking.{takes_openly}
+use Rattle.proof_messages.specs.Reporting.{CanBeAnswered, CanSay, IsNoReport, IsPlainTold, TellsNone, TellsOwn, TellsPlainly, TellsTrue, asks_now}
 use Rattle.host_node.proofs.Keeps.{first_holds, second_holds}
 
 -- ---- statuses
@@ -192,10 +194,22 @@ sealed_is keys own nonce plain ends =
 
 -- ---- what tells a value
 
+abbrev IsValues : Told → Type 0
+IsValues (Values values) = Unit {0}
+IsValues told = ⊥
+
+values_no_report : (told : Told) → IsValues told → IsNoReport told
+values_no_report (Values values) is = tt
+values_no_report told is = absurd is
+
+values_plain : (told : Told) → IsValues told → IsPlainTold told
+values_plain (Values values) is = tt
+values_plain told is = absurd is
+
 record IsValue (message : InfoMessage) : Type 0 where
   answer : IsAnswer message
   range : IsInRange message
-  none : (end : ℕ) → IsNoReport (told_by end message)
+  values : (end : ℕ) → IsValues (told_by end message)
 
 by_some : (made message : InfoMessage) → IsValue made → Some made ≡ Some message → IsValue message
 by_some made message is e = let same : made ≡ message = cc in subst (λ (m : InfoMessage). IsValue m) same is
@@ -211,16 +225,16 @@ level_fits value = by (nat_le (min value 99) 99) refl
     by false e = absurd (grind (arith, nat_tests))
 
 report_value : (name : Name) (value : ℕ) (message : InfoMessage) → report_of name value ≡ Some message → IsValue message
-report_value names.Switch value message e = by_some _ message (record { answer = tt; range = tt; none = λ end. tt }) e
-report_value names.Level value message e = by_some _ message (record { answer = tt; range = level_fits value; none = λ end. tt }) e
+report_value names.Switch value message e = by_some _ message (record { answer = tt; range = tt; values = λ end. tt }) e
+report_value names.Level value message e = by_some _ message (record { answer = tt; range = level_fits value; values = λ end. tt }) e
 report_value names.Lock value message e = no_some message e
-report_value names.Mode value message e = by_some _ message (record { answer = tt; range = omega arith; none = λ end. tt }) e
-report_value (names.Setpoint type) value message e = by_some _ message (record { answer = tt; range = (omega arith, (omega arith, omega arith)); none = λ end. tt }) e
-report_value (names.Config parameter) value message e = by_some _ message (record { answer = tt; range = tt; none = λ end. tt }) e
+report_value names.Mode value message e = by_some _ message (record { answer = tt; range = omega arith; values = λ end. tt }) e
+report_value (names.Setpoint type) value message e = by_some _ message (record { answer = tt; range = (omega arith, (omega arith, omega arith)); values = λ end. tt }) e
+report_value (names.Config parameter) value message e = by_some _ message (record { answer = tt; range = tt; values = λ end. tt }) e
 report_value (names.Member group node) value message e = no_some message e
-report_value names.Interval value message e = by_some _ message (record { answer = tt; range = refl; none = λ end. tt }) e
-report_value names.Sensor value message e = by_some _ message (record { answer = tt; range = (omega arith, omega arith); none = λ end. tt }) e
-report_value names.Battery value message e = by_some _ message (record { answer = tt; range = refl; none = λ end. tt }) e
+report_value names.Interval value message e = by_some _ message (record { answer = tt; range = refl; values = λ end. tt }) e
+report_value names.Sensor value message e = by_some _ message (record { answer = tt; range = (omega arith, omega arith); values = λ end. tt }) e
+report_value names.Battery value message e = by_some _ message (record { answer = tt; range = refl; values = λ end. tt }) e
 
 if_some : (b : Bool) (made : Option InfoMessage) (message : InfoMessage) → (if b then made else None) ≡ Some message → made ≡ Some message
 if_some true made message e = e
@@ -270,7 +284,7 @@ few_members nodes = omega (arith, length-take 5 nodes)
 told_value : (kind : Kind) (values : Property → ℕ) (end : ℕ) (asked message : InfoMessage) → told kind values end asked ≡ Some message → IsValue message
 unfolding told
 told_value kind values end (AssociationGet group) message e =
-    by_some _ message (record { answer = few_members (members_of values end group); range = members_are values end group; none = λ end. tt }) (if_some (has_end kind end && lists kind 0x85) _ message e)
+    by_some _ message (record { answer = few_members (members_of values end group); range = members_are values end group; values = λ end. tt }) (if_some (has_end kind end && lists kind 0x85) _ message e)
 told_value kind values end asked message e = asked_value kind values end (asked_name asked) message (if_some (has_end kind end) _ message e)
 
 -- ---- an answer in its wraps
@@ -317,7 +331,15 @@ worded_told channel outer message ends is range =
     (again (form message) message (form_spells message range))
 
 value_none : (channel : Option Ends) (outer : Outer) (message : InfoMessage) → AreEnds channel → IsValue message → TellsNone (text_by channel outer message)
-value_none channel outer message ends is = told_none _ (told_by (from_end channel) message) (is.none (from_end channel)) (worded_told channel outer message ends is.answer is.range)
+value_none channel outer message ends is =
+    told_none _ (told_by (from_end channel) message) (values_no_report (told_by (from_end channel) message) (is.values (from_end channel))) (worded_told channel outer message ends is.answer is.range)
+
+value_plain : (channel : Option Ends) (outer : Outer) (message : InfoMessage) → AreEnds channel → IsValue message → TellsPlainly (text_by channel outer message)
+value_plain channel outer message ends is = record {
+  told = told_by (from_end channel) message;
+  heard = worded_told channel outer message ends is.answer is.range;
+  plain = values_plain (told_by (from_end channel) message) (is.values (from_end channel));
+}
 
 -- ---- a report of a status
 
@@ -366,6 +388,19 @@ IsSaid device asked (Takes verdict) = asked.id ≡ wire_id (device.sessions.take
 abbrev AllTrue : State → List (List ℕ) → Type 0
 AllTrue device replies = AllByRecursion (TellsTrue device) replies
 
+-- and asks for nothing
+abbrev IsOpen : State → List ℕ → Type 0
+IsOpen device payload = TellsTrue device payload × TellsPlainly payload
+
+abbrev AllOpen : State → List (List ℕ) → Type 0
+AllOpen device replies = AllByRecursion (IsOpen device) replies
+
+open_own : (device : State) (payload : List ℕ) → TellsOwn device payload → IsOpen device payload
+open_own device payload own = (inl own, record { told = Report (wire_id device.sessions.taken) (report_status device.sessions.status) (asks_now device); heard = own; plain = tt })
+
+open_value : (device : State) (channel : Option Ends) (outer : Outer) (message : InfoMessage) → AreEnds channel → IsValue message → IsOpen device (text_by channel outer message)
+open_value device channel outer message ends is = (inr (value_none channel outer message ends is), value_plain channel outer message ends is)
+
 pub taken_own : (plan : Plan) (channel : Option Ends) (outer : Outer) (device : State) (asked : Supervised) (verdict : Verdict) → AreEnds channel → asked.id ≡ wire_id (device.sessions.taken + 1)
     → TellsOwn (takes device plan asked verdict) (text_by channel outer (status_report device asked (status_of verdict)))
 taken_own plan channel outer device asked (Makes settings) ends id = own_heard channel outer device (takes device plan asked (Makes settings)) asked SUCCESS ends id refl refl
@@ -373,16 +408,18 @@ taken_own plan channel outer device asked (Works settings) ends id = own_heard c
 taken_own plan channel outer device asked Fails ends id = own_heard channel outer device (takes device plan asked Fails) asked _ ends id refl refl
 taken_own plan channel outer device asked NoSupport ends id = own_heard channel outer device (takes device plan asked NoSupport) asked _ ends id refl refl
 
-supervised_true : (device : State) (batch : Bool) (asked : Supervised) (channel : Option Ends) (outer : Outer) (effect : Effect) → AreEnds (swapped channel) → IsSaid device asked effect
-    → AllTrue (after_effect device (record { batch = batch; session = Some asked; channel = channel; outer = outer }) effect)
+supervised_open : (device : State) (batch : Bool) (asked : Supervised) (channel : Option Ends) (outer : Outer) (effect : Effect) → AreEnds (swapped channel) → IsSaid device asked effect
+    → AllOpen (after_effect device (record { batch = batch; session = Some asked; channel = channel; outer = outer }) effect)
     (option_to_list (option_map (worded (answer_plan (record { batch = batch; session = Some asked; channel = channel; outer = outer }))) (answer_of device (record { batch = batch; session = Some asked; channel = channel; outer = outer }) effect)))
-supervised_true device batch asked channel outer Ignores ends is = tt
-supervised_true device batch asked channel outer Sleeps ends is = tt
-supervised_true device batch asked channel outer (Tells report) ends is = (inr (value_none (swapped channel) outer report ends is), tt)
-supervised_true device batch asked channel outer (Sets settings) ends is = tt
-supervised_true device batch asked channel outer (Repeats status) ends is = (inl (own_heard (swapped channel) outer device device asked status ends is.1 (sym is.0) refl), tt)
-supervised_true device batch asked channel outer (Takes verdict) ends is =
-    (inl (taken_own (record { batch = batch; session = Some asked; channel = channel; outer = outer }) (swapped channel) outer device asked verdict ends is), tt)
+supervised_open device batch asked channel outer Ignores ends is = tt
+supervised_open device batch asked channel outer Sleeps ends is = tt
+supervised_open device batch asked channel outer (Tells report) ends is = (open_value device (swapped channel) outer report ends is, tt)
+supervised_open device batch asked channel outer (Sets settings) ends is = tt
+supervised_open device batch asked channel outer (Repeats status) ends is =
+    (open_own device (text_by (swapped channel) outer (status_report device asked status)) (own_heard (swapped channel) outer device device asked status ends is.1 (sym is.0) refl), tt)
+supervised_open device batch asked channel outer (Takes verdict) ends is =
+    let plan : Plan = record { batch = batch; session = Some asked; channel = channel; outer = outer } in
+    (open_own (takes device plan asked verdict) (text_by (swapped channel) outer (status_report device asked (status_of verdict))) (taken_own plan (swapped channel) outer device asked verdict ends is), tt)
 
 -- without a session nothing but values is told
 abbrev IsUnasked : Effect → Type 0
@@ -393,15 +430,15 @@ IsUnasked Ignores = Unit {0}
 IsUnasked Sleeps = Unit {0}
 IsUnasked (Sets settings) = Unit {0}
 
-unasked_true : (device : State) (batch : Bool) (channel : Option Ends) (outer : Outer) (effect : Effect) → AreEnds (swapped channel) → IsUnasked effect
-    → AllTrue (after_effect device (record { batch = batch; session = None; channel = channel; outer = outer }) effect)
+unasked_open : (device : State) (batch : Bool) (channel : Option Ends) (outer : Outer) (effect : Effect) → AreEnds (swapped channel) → IsUnasked effect
+    → AllOpen (after_effect device (record { batch = batch; session = None; channel = channel; outer = outer }) effect)
     (option_to_list (option_map (worded (answer_plan (record { batch = batch; session = None; channel = channel; outer = outer }))) (answer_of device (record { batch = batch; session = None; channel = channel; outer = outer }) effect)))
-unasked_true device batch channel outer Ignores ends is = tt
-unasked_true device batch channel outer Sleeps ends is = tt
-unasked_true device batch channel outer (Tells report) ends is = (inr (value_none (swapped channel) outer report ends is), tt)
-unasked_true device batch channel outer (Sets settings) ends is = tt
-unasked_true device batch channel outer (Repeats status) ends is = absurd is
-unasked_true device batch channel outer (Takes verdict) ends is = absurd is
+unasked_open device batch channel outer Ignores ends is = tt
+unasked_open device batch channel outer Sleeps ends is = tt
+unasked_open device batch channel outer (Tells report) ends is = (open_value device (swapped channel) outer report ends is, tt)
+unasked_open device batch channel outer (Sets settings) ends is = tt
+unasked_open device batch channel outer (Repeats status) ends is = absurd is
+unasked_open device batch channel outer (Takes verdict) ends is = absurd is
 
 -- ---- what an effect is
 
@@ -458,16 +495,16 @@ asked_said device plan commands asked = supervised (lists device.kind 0x6C)
 
 -- ---- a message
 
-abbrev true_answer : State → Message → Type 0
-true_answer device message = AllTrue (answers device message).device (option_to_list (answers device message).answer)
+abbrev open_answer : State → Message → Type 0
+open_answer device message = AllOpen (answers device message).device (option_to_list (answers device message).answer)
 
-message_true : (device : State) (batch : Bool) (session : Option Supervised) (channel : Option Ends) (outer : Outer) (commands : List (List ℕ)) → AreEnds (swapped channel)
-    → true_answer device (record { plan = record { batch = batch; session = session; channel = channel; outer = outer }; commands = commands })
+message_open : (device : State) (batch : Bool) (session : Option Supervised) (channel : Option Ends) (outer : Outer) (commands : List (List ℕ)) → AreEnds (swapped channel)
+    → open_answer device (record { plan = record { batch = batch; session = session; channel = channel; outer = outer }; commands = commands })
 unfolding answers effect_of
-message_true device batch (Some asked) channel outer commands ends =
-    supervised_true device batch asked channel outer _ ends (asked_said device (record { batch = batch; session = Some asked; channel = channel; outer = outer }) commands asked)
-message_true device batch None channel outer commands ends =
-    unasked_true device batch channel outer _ ends (none_unasked device (record { batch = batch; session = None; channel = channel; outer = outer }) commands)
+message_open device batch (Some asked) channel outer commands ends =
+    supervised_open device batch asked channel outer _ ends (asked_said device (record { batch = batch; session = Some asked; channel = channel; outer = outer }) commands asked)
+message_open device batch None channel outer commands ends =
+    unasked_open device batch channel outer _ ends (none_unasked device (record { batch = batch; session = None; channel = channel; outer = outer }) commands)
 
 -- the end points of a message that is opened can be answered
 pub opened_ends : (payload : List ℕ) (message : Message) → opened_at payload ≡ Some message → AreEnds (swapped message.plan.channel)
@@ -477,13 +514,17 @@ opened_ends payload message e = let wraps = opened_back payload message e in by 
     by None inner bytes is = tt
     by (Some ends) inner bytes is = (omega (arith, is.target), (let source = is.source in omega (arith, source)))
 
-openly_true : (device : State) (payload : List ℕ) → AllTrue (hears_openly device payload).device (hears_openly device payload).replies
+openly_open : (device : State) (payload : List ℕ) → AllOpen (hears_openly device payload).device (hears_openly device payload).replies
 unfolding hears_openly answers_bytes
-openly_true device payload = by (opened_at payload) refl
+openly_open device payload = by (opened_at payload) refl
   where
-    by : (opened : Option Message) → opened_at payload ≡ opened → AllTrue (sent_openly (answers_opened device opened)).device (sent_openly (answers_opened device opened)).replies
+    by : (opened : Option Message) → opened_at payload ≡ opened → AllOpen (sent_openly (answers_opened device opened)).device (sent_openly (answers_opened device opened)).replies
     by None e = tt
-    by (Some message) e = message_true device message.plan.batch message.plan.session message.plan.channel message.plan.outer message.commands (opened_ends payload message e)
+    by (Some message) e = message_open device message.plan.batch message.plan.session message.plan.channel message.plan.outer message.commands (opened_ends payload message e)
+
+openly_true : (device : State) (payload : List ℕ) → AllTrue (hears_openly device payload).device (hears_openly device payload).replies
+openly_true device payload =
+    all-weaker (IsOpen (hears_openly device payload).device) (TellsTrue (hears_openly device payload).device) (λ reply is. is.0) (hears_openly device payload).replies (openly_open device payload)
 
 -- ---- sealed
 
@@ -597,6 +638,24 @@ hears_true device payload drawn = by device.awake
     by : (b : Bool) → (λ (o : Outcome). AllTrue o.device o.replies) (if b then hears_by device.kind (active device) payload drawn else silent device)
     by true = kind_true device.kind (active device) payload drawn
     by false = tt
+
+-- ---- where it takes what is not sealed, whole
+
+kind_plain : (kind : Kind) (device : State) (payload drawn : List ℕ) → takes_openly kind ≡ true → lists kind 0x55 ≡ false → AllByRecursion TellsPlainly (hears_by kind device payload drawn).replies
+kind_plain Lock device payload drawn openly whole = absurd (let no : false ≡ true = openly in cc)
+kind_plain Configurable device payload drawn openly whole = absurd (let no : true ≡ false = whole in cc)
+kind_plain _ device payload drawn openly whole =
+    all-weaker (IsOpen (hears_openly device payload).device) TellsPlainly (λ reply is. is.1) (hears_openly device payload).replies (openly_open device payload)
+
+pub heard_plain : (device : State) (payload drawn : List ℕ) → takes_openly device.kind ≡ true → lists device.kind 0x55 ≡ false → AllByRecursion TellsPlainly (device_replies device (Hears payload drawn))
+unfolding device_replies outcome_of hears
+heard_plain device payload drawn openly whole = by device.awake
+  where
+    by : (b : Bool) → AllByRecursion TellsPlainly (if b then hears_by device.kind (active device) payload drawn else silent device).replies
+    by true = kind_plain device.kind (active device) payload drawn openly whole
+    by false = tt
+
+-- ---- a tick, a wake-up, a hand
 
 late_true : (device new : State) (answer : Option Plan) → CanBeAnswered answer → new.sessions ≡ record { taken = device.sessions.taken; status = SUCCESS } → asks_to_wake new ≡ asks_to_wake device
     → AllTrue new (option_to_list (option_map (λ plan. worded (answer_plan plan) (final_report device)) answer))

@@ -19,9 +19,9 @@ use Rattle.transport_segments.proofs.TakingLemmas.{segment_decides, sound_taken 
 use Rattle.device_kinds.specs.declared.kind.Kind.{Kind}
 use Rattle.device_kinds.specs.declared.kind.Kind.TheVariants.{Relay, Switch, Dimmer, Lock, Sensor, Thermostat, Strip, Configurable}
 use Rattle.device_kinds.specs.Kind.{lists}
-use Rattle.device_stack.specs.State.{State, Outcome, silent}
+use Rattle.device_sim.specs.device_stack.State.{State, Outcome, silent}
 use Rattle.device_kinds.specs.Segments.{segment_session}
-use Rattle.device_stack.specs.Hearing.{hears_openly, assembles, repeats_segment, hears_segment, hears_in_segments, hears_by, active, hears}
+use Rattle.device_sim.specs.device_stack.Hearing.{hears_openly, assembles, repeats_segment, hears_segment, hears_in_segments, hears_by, active, hears}
 use Rattle.device_sim.specs.Event.{Hears, outcome_of, device_after, device_replies}
 use Rattle.proof_messages.specs.Asking.{IsLeft}
 use Rattle.proof_messages.specs.Others.{IsNoGet}

@@ -19,3 +19,5 @@ mod ShownNonces
 pub mod LockSessions
 pub mod SealedTexts
 mod Unnumbered
+pub use Rattle.host_model.proofs.Submitted
+pub use Rattle.host_model.proofs.Own

@@ -31,15 +31,15 @@ use Rattle.device_kinds.specs.declared.effect.Effect.TheVariants as effects
 use Rattle.device_kinds.specs.declared.verdict.Verdict.{Verdict}
 use Rattle.device_kinds.specs.declared.verdict.Verdict.TheVariants.{NoSupport, Fails, Makes, Works}
 use Rattle.device_kinds.specs.Kind.{listens, lists, has_end, main_name_of, tells, host_node}
-use Rattle.device_stack.specs.State.{State, Outcome, silent, value_of, last_level_of}
+use Rattle.device_sim.specs.device_stack.State.{State, Outcome, silent, value_of, last_level_of}
 use Rattle.device_kinds.specs.Values.{value_by}
 use Rattle.device_kinds.specs.Settings.{merged}
 use Rattle.device_kinds.specs.Judging.{judged_set, judged, judged_all, judged_message}
 use Rattle.device_kinds.specs.Telling.{told}
 use Rattle.device_kinds.specs.Effects.{end_of, set_plainly, effect_untold, telling, effect_alone, effect_in_session, effect_by}
-use Rattle.device_stack.specs.Effects.{effect_of, takes, after_effect}
-use Rattle.device_stack.specs.Hearing.{Answered, answers, sent_sealed, hears_inside, hears_plain, hears_for, hears_sealed, seals_for, takes_nonce, hears_nonces, hears_securely, hears_by, active, hears}
-use Rattle.device_stack.specs.Ticking.{aged, works_out, ticked, woken, by_hand, tells_by_hand, main_told, set_by_hand}
+use Rattle.device_sim.specs.device_stack.Effects.{effect_of, takes, after_effect}
+use Rattle.device_sim.specs.device_stack.Hearing.{Answered, answers, sent_sealed, hears_inside, hears_plain, hears_for, hears_sealed, seals_for, takes_nonce, hears_nonces, hears_securely, hears_by, active, hears}
+use Rattle.device_sim.specs.device_stack.Ticking.{aged, works_out, ticked, woken, by_hand, tells_by_hand, main_told, set_by_hand}
 use Rattle.device_kinds.specs.Telling.{report_of as value_report}
 use Rattle.s0_crypto.specs.Sealing.{keys_of, unsealed_at, sealed_text}
 use Rattle.device_sim.specs.Event.{DeviceEvent, Hears, Ticks, Wakes, Sets, outcome_of, device_after, device_replies}

@@ -19,7 +19,7 @@ use Rattle.device_kinds.specs.declared.verdict.Verdict.{Verdict}
 use Rattle.device_kinds.specs.Kind.{listens, host_node}
 use Rattle.device_kinds.specs.Answers.{report_status}
 use Rattle.s0_crypto.specs.Sealing.{keys_of, sealed_text}
-use Rattle.device_stack.specs.State.{State, fresh}
+use Rattle.device_sim.specs.device_stack.State.{State, fresh}
 use Rattle.device_sim.specs.Event.{Hears, device_after}
 use Rattle.proof_messages.specs.Asking.{verdict_on, Follows}
 use Rattle.proof_messages.specs.Reporting.{asks_now, TellsOwn, HasAnswered}

@@ -35,12 +35,12 @@ use Rattle.device_kinds.specs.declared.effect.Effect.TheVariants.{Ignores, Sleep
 use Rattle.device_kinds.specs.declared.verdict.Verdict.{Verdict}
 use Rattle.device_kinds.specs.declared.verdict.Verdict.TheVariants.{NoSupport, Fails, Makes, Works}
 use Rattle.device_kinds.specs.Kind.{listens, lists, has_end}
-use Rattle.device_stack.specs.State.{State, value_of, last_level_of}
+use Rattle.device_sim.specs.device_stack.State.{State, value_of, last_level_of}
 use Rattle.device_kinds.specs.Judging.{judged_set}
 use Rattle.device_kinds.specs.Telling.{told}
 use Rattle.device_kinds.specs.Effects.{end_of, set_plainly, effect_untold, telling, effect_alone, effect_by}
-use Rattle.device_stack.specs.Effects.{effect_of, after_effect}
-use Rattle.device_stack.specs.Hearing.{answers, answers_opened, answers_bytes, sent_openly, hears_openly, seals_for, hears_nonces, hears_securely, hears_in_segments, hears_by, active}
+use Rattle.device_sim.specs.device_stack.Effects.{effect_of, after_effect}
+use Rattle.device_sim.specs.device_stack.Hearing.{answers, answers_opened, answers_bytes, sent_openly, hears_openly, seals_for, hears_nonces, hears_securely, hears_in_segments, hears_by, active}
 use Rattle.device_sim.specs.Event.{Hears, device_after}
 use Rattle.proof_messages.specs.Asking.{IsLeft}
 use Rattle.proof_messages.specs.Others.{IsNoGet, IsOther}

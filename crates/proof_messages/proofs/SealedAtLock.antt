@@ -35,14 +35,14 @@ use Rattle.device_kinds.specs.declared.kind.Kind.{Kind}
 use Rattle.device_kinds.specs.declared.kind.Kind.TheVariants.{Lock}
 use Rattle.device_kinds.specs.declared.verdict.Verdict.{Verdict}
 use Rattle.device_kinds.specs.Kind.{lists, host_node}
-use Rattle.device_stack.specs.State.{State, Outcome, value_of, last_level_of}
+use Rattle.device_sim.specs.device_stack.State.{State, Outcome, value_of, last_level_of}
 use Rattle.device_kinds.specs.Answers.{swapped, answer_plan, worded}
 use Rattle.device_kinds.specs.Judging.{judged_message}
 use Rattle.s0_crypto.specs.Sealing.{keys_of, cipher_text_of, unsealed_at, sealed_text}
 use Rattle.s0_crypto.proofs.SealingLemmas.{opened_is}
 use Rattle.device_kinds.specs.Effects.{end_of, effect_in_session}
-use Rattle.device_stack.specs.Effects.{effect_of, answer_of, after_effect}
-use Rattle.device_stack.specs.Hearing.{Answered, answers, sent_sealed, hears_sealed, hears_securely, hears_by, active}
+use Rattle.device_sim.specs.device_stack.Effects.{effect_of, answer_of, after_effect}
+use Rattle.device_sim.specs.device_stack.Hearing.{Answered, answers, sent_sealed, hears_sealed, hears_securely, hears_by, active}
 use Rattle.device_sim.specs.Event.{Hears, device_after}
 use Rattle.proof_messages.specs.Asking.{message_in, verdict_on, Follows}
 use Rattle.proof_messages.specs.Reporting.{HasAnswered}

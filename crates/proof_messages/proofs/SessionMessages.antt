@@ -27,11 +27,11 @@ use Rattle.device_kinds.specs.declared.kind.Kind.TheVariants.{Relay, Switch, Dim
 use Rattle.device_kinds.specs.declared.verdict.Verdict.{Verdict}
 use Rattle.device_kinds.specs.declared.verdict.Verdict.TheVariants.{NoSupport, Fails, Makes, Works}
 use Rattle.device_kinds.specs.Kind.{lists}
-use Rattle.device_stack.specs.State.{State, Outcome, silent, value_of, last_level_of}
+use Rattle.device_sim.specs.device_stack.State.{State, Outcome, silent, value_of, last_level_of}
 use Rattle.device_kinds.specs.Judging.{judged_message}
 use Rattle.device_kinds.specs.Effects.{end_of, effect_in_session}
-use Rattle.device_stack.specs.Effects.{effect_of, takes, after_effect}
-use Rattle.device_stack.specs.Hearing.{answers, answers_bytes, hears_openly, hears_nonces, hears_securely, hears_in_segments, hears_by, active, hears}
+use Rattle.device_sim.specs.device_stack.Effects.{effect_of, takes, after_effect}
+use Rattle.device_sim.specs.device_stack.Hearing.{answers, answers_bytes, hears_openly, hears_nonces, hears_securely, hears_in_segments, hears_by, active, hears}
 use Rattle.device_sim.specs.Event.{Hears, outcome_of, device_after}
 use Rattle.device_sim.proofs.LawLemmas.{not_working}
 use Rattle.proof_messages.specs.Asking.{message_in, takes_openly, verdict_on, HasTaken, IsLeft, Follows}

@@ -37,7 +37,7 @@ use Rattle.device_kinds.specs.declared.kind.Kind.{Kind}
 use Rattle.device_kinds.specs.declared.verdict.Verdict.{Verdict}
 use Rattle.device_kinds.specs.declared.verdict.Verdict.TheVariants.{NoSupport, Fails, Makes, Works}
 use Rattle.device_kinds.specs.Kind.{lists, has_end}
-use Rattle.device_stack.specs.State.{State, value_of, last_level_of}
+use Rattle.device_sim.specs.device_stack.State.{State, value_of, last_level_of}
 use Rattle.device_kinds.specs.Values.{value_by}
 use Rattle.device_kinds.specs.Settings.{with_setting, merged}
 use Rattle.device_kinds.specs.Judging.{where_inside, level_meant, is_setpoint, configured, member_count, memberships, judged_members, judged_set, judged, judged_all, judged_message}

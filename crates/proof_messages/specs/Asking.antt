@@ -23,8 +23,8 @@ use Rattle.device_kinds.specs.declared.kind.Kind.{Kind}
 use Rattle.device_kinds.specs.declared.kind.Kind.TheVariants.{Relay, Switch, Dimmer, Lock, Sensor, Thermostat, Strip, Configurable}
 use Rattle.device_kinds.specs.declared.verdict.Verdict.{Verdict}
 use Rattle.device_kinds.specs.declared.verdict.Verdict.TheVariants.{NoSupport, Fails, Makes, Works}
-use Rattle.device_stack.specs.declared.work.Work.{Work}
-use Rattle.device_stack.specs.State.{State, value_of, last_level_of}
+use Rattle.device_sim.specs.device_stack.declared.work.Work.{Work}
+use Rattle.device_sim.specs.device_stack.State.{State, value_of, last_level_of}
 use Rattle.device_kinds.specs.Judging.{judged_message, status_of}
 use Rattle.device_sim.specs.Laws.{IsMade}
 

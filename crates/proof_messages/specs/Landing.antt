@@ -4,7 +4,7 @@ use Rattle.supervision.specs.Device.{Taken, finished}
 use Rattle.supervision.specs.declared.session.TheConstants.{WORKING}
 use Rattle.transport_segments.specs.Kept.{Reassembly, Empty, Partial}
 use Rattle.proof_course.specs.Sessions.{Message, after_message, kept_after}
-use Rattle.device_stack.specs.State.{State}
+use Rattle.device_sim.specs.device_stack.State.{State}
 
 -- the message landed, and the commands of a session that it began may have come to their end at once
 abbrev pub HasLanded : Taken → Message → Bool → Taken → Type 0

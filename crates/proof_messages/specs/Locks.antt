@@ -6,7 +6,7 @@ use Rattle.class_info.specs.declared.message.InfoMessage.TheVariants.{NonceGet}
 use Rattle.device_kinds.specs.declared.kind.Kind.TheVariants as kinds
 use Rattle.s0_crypto.specs.Sealing.{sealed_text, keys_of}
 use Rattle.device_kinds.specs.Kind.{host_node}
-use Rattle.device_stack.specs.State.{State}
+use Rattle.device_sim.specs.device_stack.State.{State}
 use Rattle.device_sim.specs.Event.{DeviceEvent, Hears, Ticks, Wakes, Sets}
 use Rattle.proof_messages.specs.Asking.{IsLeft}
 use Rattle.proof_messages.specs.Payloads.{report_of}

@@ -12,9 +12,9 @@ use Rattle.host_heard.specs.declared.payload.Heard.TheVariants.{Messages}
 use Rattle.host_heard.specs.declared.told.Told.{Told}
 use Rattle.host_heard.specs.declared.told.Told.TheVariants.{Report, NonceGet, NonceReport, Notification, SegmentRequest, Values}
 use Rattle.host_heard.specs.Telling.{heard_at}
-use Rattle.device_stack.specs.State.{State}
+use Rattle.device_sim.specs.device_stack.State.{State}
 use Rattle.device_kinds.specs.Answers.{report_status, swapped}
-use Rattle.device_stack.specs.Answers.{asks_to_wake}
+use Rattle.device_sim.specs.device_stack.Answers.{asks_to_wake}
 
 -- a device asks with each final status to be kept awake, if it ever asks
 abbrev pub asks_now : State → Bool
@@ -37,6 +37,21 @@ IsNoReport (Values values) = Unit {0}
 -- a payload is heard as no report: it is not read, or sealed, or tells something else
 abbrev pub TellsNone : List ℕ → Type 0
 TellsNone payload = (told : List Told) → heard_at payload ≡ Messages told → AllByRecursion IsNoReport told
+
+-- it asks the host for nothing: for no nonce, and for no segment
+abbrev pub IsPlainTold : Told → Type 0
+IsPlainTold (Report id status wake_request) = Unit {0}
+IsPlainTold NonceGet = ⊥
+IsPlainTold (NonceReport nonce) = Unit {0}
+IsPlainTold Notification = Unit {0}
+IsPlainTold (SegmentRequest id offset) = ⊥
+IsPlainTold (Values values) = Unit {0}
+
+-- a payload is heard as one such message, and nothing else
+pub record TellsPlainly (payload : List ℕ) : Type 0 where
+  pub told : Told
+  pub heard : heard_at payload ≡ Messages (told ∷ [])
+  pub plain : IsPlainTold told
 
 -- a payload of a device that is so by now
 abbrev pub TellsTrue : State → List ℕ → Type 0

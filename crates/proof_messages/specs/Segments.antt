@@ -6,7 +6,7 @@ use Rattle.class_info.specs.declared.message.InfoMessage.TheVariants.{TransportC
 use Rattle.class_info.specs.InfoSpelling.{form}
 use Rattle.transport_segments.specs.Kept.{Empty, Partial}
 use Rattle.transport_segments.specs.Runs.{Agrees}
-use Rattle.device_stack.specs.State.{State}
+use Rattle.device_sim.specs.device_stack.State.{State}
 use Rattle.proof_messages.specs.Asking.{IsUntouched}
 use Rattle.proof_messages.specs.Reporting.{TellsNone}
 

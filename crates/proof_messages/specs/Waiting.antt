@@ -1,7 +1,7 @@
 -- What waits at a lock to be sealed, and what it says then (this project's own rule over the Supervision and Security 0 Command Classes).
 use Rattle.std.specs.Prelude.{◌≡◌, ◌<◌, ℕ, List, [], ◌∷◌, Some}
 use Rattle.s0_crypto.specs.Sealing.{keys_of}
-use Rattle.device_stack.specs.State.{State}
+use Rattle.device_sim.specs.device_stack.State.{State}
 use Rattle.proof_messages.specs.Reporting.{TellsOwn}
 use Rattle.proof_messages.specs.Payloads.{IsSealed}
 

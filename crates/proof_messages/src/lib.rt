@@ -32,6 +32,8 @@ mod sessions;
 mod shown;
 mod waiting;
 
+pub use device_sim::when_changes_come;
+pub use host_model::attempts_have_what_they_give;
 pub use hosts::hosts_leave_nonces;
 pub use landing::messages_follow_the_course;
 pub use locks::locks_hear_by_numbers;

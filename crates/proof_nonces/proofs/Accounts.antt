@@ -14,7 +14,7 @@ use Rattle.host_model.specs.State.{HostState}
 use Rattle.host_model.specs.After.{after, giving, is_full, offering, requests_do}
 use Rattle.host_model.specs.Events.{HostEvent, Gives, Gives_text, Spends, Spends_unread, Starts, Takes_nonce}
 use Rattle.host_model.specs.May.{May}
-use Rattle.proof_messages.proofs.SealedTexts.{TextsLeft}
+use Rattle.proof_notes.proofs.SealedTexts.{TextsLeft}
 use Rattle.proof_notes.specs.proof_known.proof_alone.Tables.{TieTables}
 use Rattle.proof_nonces.specs.Counted.{IsLast, LiveSo, spent_by, spent_of}
 

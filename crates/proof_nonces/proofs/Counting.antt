@@ -16,13 +16,12 @@ use Rattle.serial_frame.specs.declared.unit.Unit.TheVariants.{Ack, Nak, Can, Fra
 use Rattle.supervision.specs.Host.{open_session}
 use Rattle.zw_words.specs.declared.side.Side.TheVariants.{Host}
 use Rattle.zw_text.specs.declared.line.Line.{Line}
-use Rattle.zw_text.specs.declared.line.Line.TheVariants as lines
 use Rattle.zw_text.specs.declared.entry.Entry.{Entry}
 use Rattle.zw_text.specs.declared.entry.Entry.TheVariants as entry
 use Rattle.zw_text.proofs.Views.{folded-append}
 use Rattle.law_transcript.specs.Lists.{EachAfter, shown_after}
 use Rattle.law_transcript.specs.Units.{Carried, bringing_in}
-use Rattle.law_time.specs.Judged.{after_step, brought_here, is_following, judged, last_of}
+use Rattle.proof_notes.specs.law_time.Judged.{after_step, brought_here, is_following, judged, last_of}
 use Rattle.host_heard.specs.Telling.{heard_at}
 use Rattle.host_heard.specs.declared.payload.Heard.{Heard}
 use Rattle.host_heard.specs.declared.payload.Heard.TheVariants.{Messages, Sealed, Unread}
@@ -38,12 +37,12 @@ use Rattle.host_model.specs.After.{after, task_purpose}
 use Rattle.host_model.specs.May.{May}
 use Rattle.host_model.specs.Outs.{answer_to, answers, outs}
 use Rattle.host_model.specs.Pumping.{IsNext}
-use Rattle.host_model.specs.Events.{HostEvent, Hears, Finishes, Hears_value, Has_no_room, Reports_old, Requests_do, Submits_abort, Submits_front, Starts, Gives_text, Gives_segment, Begins, Begin_unkept}
+use Rattle.host_model.specs.Events.{HostEvent, Hears, Finishes, Hears_value, Has_no_room, Reports_old, Requests_do, Submits_abort, Submits_front, Starts, Gives_text, Gives_segment, Begins, Begin_unkept, IsOwn}
 use Rattle.host_model.specs.Taking.{FrameEvents, told_if}
 use Rattle.host_model.specs.declared.out.HostOut.TheVariants.{Write}
-use Rattle.host_model.proofs.Own.{IsOwn, sleepers_own, submitted_own}
+use Rattle.host_model.proofs.Own.{sleepers_own, submitted_own}
 use Rattle.host_model.proofs.Submitted.{next_is, no_more_is}
-use Rattle.proof_messages.proofs.SealedTexts.{TextsLeft}
+use Rattle.proof_notes.proofs.SealedTexts.{TextsLeft}
 use Rattle.proof_notes.specs.proof_attempts.Since.{WalkBoth}
 use Rattle.proof_notes.specs.proof_attempts.proof_requests.Walking.{ReadsAs}
 use Rattle.proof_notes.specs.proof_attempts.proof_requests.Asking.{doing_of}
@@ -56,15 +55,18 @@ use Rattle.proof_notes.proofs.Wrote.{Wrote, writes}
 use Rattle.proof_notes.proofs.Wrote.Wrote.{Quietly, Again, Anew}
 use Rattle.proof_notes.specs.proof_known.proof_alone.State.{HostMachine}
 use Rattle.proof_notes.specs.proof_known.proof_alone.Steps.{AreTold, IsAskedBy, IsOfOthers, IsOfUnit, Step, Tells, Comes, Misses, Says, Says_nothing, Asks, Refuses, Shows, Restarts, Begins_tick, Numbers, Judges, Does, entries, happens}
-use Rattle.proof_notes.specs.proof_known.proof_alone.Phases.{Phase, Resting, Asked, Risen, Ticking, Open, Behind, Sleeping, Submitting, IsBetween, IsJudgedNow, May as MayStep, Turns}
+use Rattle.proof_notes.specs.proof_known.proof_alone.Phases.{Phase, Resting, Asked, Risen, Ticking, Open, Behind, Sleeping, Submitting, IsJudgedNow, May as MayStep, Turns}
 use Rattle.proof_notes.specs.proof_known.proof_alone.Tables.{TieTables}
 use Rattle.proof_notes.specs.proof_known.proof_waking.Judged.{IsBehindFrame, IsOfRequest, KnowsJudged, TieFrames, frames_of}
+use Rattle.proof_notes.specs.proof_attempts.proof_walk.ByLine.{IsAsked}
 use Rattle.proof_notes.proofs.Apart.{acknowledged_frames}
 use Rattle.proof_notes.proofs.Events.{answers_are}
 use Rattle.proof_notes.proofs.Followed.{MayFollow, frame_all}
 use Rattle.proof_notes.proofs.Parts.{IsNoted, follow_told}
 use Rattle.proof_notes.proofs.Settling.{behind_brought}
 use Rattle.proof_notes.proofs.proof_alone_Apart.{missed_are}
+use Rattle.proof_notes.proofs.InOrder.{is_asked}
+use Rattle.proof_notes.proofs.Walking.{NotBehind, between_not}
 use Rattle.proof_nonces.specs.Giving.{AllOpen, IsOpenedOnce, MayTell, Opened, OpensOnce, before_judged, reports_at}
 use Rattle.proof_nonces.specs.Known.{AreOther, offered_by, offered_in}
 use Rattle.proof_nonces.specs.Counted.{AtPhase, BehindSo, CountingGround, GivenSo, IsLast, KnowsNonces, LiveSo, NoncesSo, OpenedSo, TellsNothing, spent_by, spent_of}
@@ -73,19 +75,11 @@ use Rattle.proof_nonces.proofs.Opening.{Grew, NoAck, NoTell, Stayed, Stays, befo
 use Rattle.proof_nonces.proofs.Ordered.{has-last}
 use Rattle.proof_nonces.proofs.Payloads.{open_other, start_is}
 use Rattle.proof_nonces.proofs.Queued.{AddsOther, asked_adds, does_add}
-use Rattle.proof_nonces.proofs.Reports.{either_unreported, event_offers, front_goes, goes_on, none_reported, other_unreported, reports_in, sealed_unreported, starts_again, task_reported, unit_reported}
+use Rattle.proof_nonces.proofs.Reports.{either_unreported, event_offers, front_goes, goes_on, none_reported, other_unreported, reports_in, sealed_unreported, starts_again, task_reported, unit_reported, NotFront}
 use Rattle.proof_nonces.proofs.Since.{IsWritten, NoRequest, answers_none, item_none, missed_none, others_none, quiets_none, written_so}
 use Rattle.proof_nonces.proofs.Walking.{carried_by, sends_so, unit_of}
 
 -- ---- phases
-
-abbrev NotBehind : Phase → Type 0
-NotBehind (Behind left) = ⊥
-NotBehind here = Unit {0}
-
-between_not : (here : Phase) → IsBetween here → NotBehind here
-between_not (Behind left) between = absurd between
-between_not here between = tt
 
 at_else : (here : Phase) (keys : Keys) (drawn : ℕ → ℕ → List ℕ) (openings : List Opened) (past : List Entry) (h : HostState) → NotBehind here → AtPhase here keys drawn openings past h
 at_else (Behind left) keys drawn openings past h not = absurd not
@@ -117,45 +111,16 @@ request_tells : (event : HostEvent) → IsOfRequest event → TellsNothing event
 request_tells (Requests_do event moment) is = tt
 request_tells event is = absurd is
 
-as_tells : (event these : HostEvent) → event ≡ these → TellsNothing these → TellsNothing event
-as_tells event these is quiet = subst TellsNothing (sym is) quiet
-
-asked_tells : (line : Line) (h : HostState) (event : HostEvent) → IsAskedBy line h event → TellsNothing event
-asked_tells (lines.Command order) h event is = as_tells event _ is tt
-asked_tells (lines.Send node word) h event is = as_tells event _ is.1 tt
-asked_tells (lines.Get node end) h event is = as_tells event _ is.1 tt
-asked_tells (lines.Join node) h event is = as_tells event _ is tt
-asked_tells (lines.Interview node) h event is = as_tells event _ is.1 tt
-asked_tells (lines.Cancel command) h event is = as_tells event _ is tt
-asked_tells lines.Discover h event is = as_tells event _ is.1 tt
-asked_tells (lines.Neighbours node) h event is = as_tells event _ is.1 tt
-asked_tells (lines.Failed node) h event is = as_tells event _ is.1 tt
-asked_tells lines.Probe h event is = as_tells event _ is.1 tt
-asked_tells line h event is = absurd is
-
-abbrev NotFront : HostEvent → Type 0
-NotFront Submits_front = ⊥
-NotFront event = Unit {0}
-
 unsubmitted_not : (event : HostEvent) → Unsubmitted event → NotFront event
 unsubmitted_not Submits_front un = absurd un
 unsubmitted_not event un = tt
 
-as_not : (event these : HostEvent) → event ≡ these → NotFront these → NotFront event
-as_not event these is not = subst NotFront (sym is) not
-
 asked_not : (line : Line) (h : HostState) (event : HostEvent) → IsAskedBy line h event → NotFront event
-asked_not (lines.Command order) h event is = as_not event _ is tt
-asked_not (lines.Send node word) h event is = as_not event _ is.1 tt
-asked_not (lines.Get node end) h event is = as_not event _ is.1 tt
-asked_not (lines.Join node) h event is = as_not event _ is tt
-asked_not (lines.Interview node) h event is = as_not event _ is.1 tt
-asked_not (lines.Cancel command) h event is = as_not event _ is tt
-asked_not lines.Discover h event is = as_not event _ is.1 tt
-asked_not (lines.Neighbours node) h event is = as_not event _ is.1 tt
-asked_not (lines.Failed node) h event is = as_not event _ is.1 tt
-asked_not lines.Probe h event is = as_not event _ is.1 tt
-asked_not line h event is = absurd is
+asked_not line h event is = by event (is_asked line h event is)
+  where
+    by : (e : HostEvent) → IsAsked e → NotFront e
+    by Submits_front asked = absurd asked
+    by e asked = tt
 
 heard_if : (b : Bool) (event : RequestsEvent) (events : List HostEvent) → events ≡ told_if b event → AllByRecursion TellsNothing events
 heard_if true event events is = subst (AllByRecursion TellsNothing) (sym is) (tt, tt)

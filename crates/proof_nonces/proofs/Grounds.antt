@@ -2,8 +2,8 @@
 use Rattle.std.proofs.Common.{[], refl}
 use Rattle.std.specs.Prelude.{Some}
 use Rattle.s0_crypto.specs.declared.key_pair.Keys.{Keys}
-use Rattle.law_time.specs.Moments.{Allows}
-use Rattle.law_time.specs.Waking.{may_wake}
+use Rattle.proof_notes.specs.law_time.Moments.{Allows}
+use Rattle.proof_notes.specs.law_time.Waking.{may_wake}
 use Rattle.proof_notes.specs.proof_attempts.Since.{AlongRuns}
 use Rattle.proof_notes.specs.proof_attempts.proof_requests.Walking.{Ground as RequestsGround, KnowsAsked}
 use Rattle.proof_notes.specs.proof_known.Known.{KnowsKeys, KnowsWhole}

@@ -25,7 +25,9 @@ pub use Rattle.proof_notes.proofs.proof_alone_Apart as proof_alone_Apart
 pub use Rattle.proof_notes.proofs.Ending
 pub use Rattle.proof_notes.proofs.Apart
 pub use Rattle.proof_notes.proofs.Followed
+pub use Rattle.proof_notes.proofs.Settling
 pub use Rattle.proof_notes.proofs.proof_waking_Judging
+pub use Rattle.proof_notes.proofs.Parts as proof_waking_Parts
 pub use Rattle.proof_notes.proofs.Line
 pub use Rattle.proof_notes.proofs.OnLine
 pub use Rattle.proof_notes.proofs.proof_work_Doing as Doing
@@ -33,6 +35,7 @@ pub use Rattle.proof_notes.proofs.proof_device_HostOuts
 pub use Rattle.proof_notes.proofs.Opening as proof_attempts_Opening
 pub use Rattle.proof_notes.proofs.Releasing
 pub use Rattle.proof_notes.proofs.Sleeping
+pub use Rattle.proof_notes.proofs.Asleep
 pub use Rattle.proof_notes.proofs.KeptAwake
 pub use Rattle.proof_notes.proofs.Late
 pub use Rattle.proof_notes.proofs.Requested

@@ -10,9 +10,8 @@ use Rattle.s0_crypto.specs.Opening.{sender_nonce_in}
 use Rattle.s0_crypto.specs.Seal.{Seals}
 use Rattle.s0_session.specs.declared.account.Account.{Account}
 use Rattle.s0_session.specs.Nonces.{account_of, given_of, live_of, unused}
-use Rattle.serial_frame.specs.Frame.{FrameParts, checksum, framed, kind_code}
+use Rattle.serial_frame.specs.Frame.{FrameParts}
 use Rattle.serial_frame.specs.Items.{unit_text}
-use Rattle.serial_frame.specs.declared.frame.Kind.{Kind}
 use Rattle.serial_frame.specs.declared.frame.Kind.TheVariants as kind
 use Rattle.serial_frame.specs.declared.unit.Unit.TheVariants.{Framed}
 use Rattle.chip_functions.specs.Notice.{notice_of}
@@ -27,7 +26,8 @@ use Rattle.zw_text.specs.Transcript.{folded}
 use Rattle.zw_text.proofs.Views.{folded-append}
 use Rattle.law_transcript.specs.Lists.{EachAfter, Has}
 use Rattle.law_transcript.specs.Units.{Carried, bringing_in, bringing_of, body_in, function_in, is_frame, read_well}
-use Rattle.law_time.specs.Judged.{after_step, brought_here, is_acknowledgement, is_following, judged, last_of}
+use Rattle.law_transcript.proofs.Having.{all_has, has_left}
+use Rattle.proof_notes.specs.law_time.Judged.{after_step, brought_here, is_acknowledgement, is_following, judged, last_of}
 use Rattle.host_heard.specs.Telling.{heard_at}
 use Rattle.host_heard.specs.declared.payload.Heard.{Heard}
 use Rattle.host_heard.specs.declared.payload.Heard.TheVariants.{Messages, Sealed, Unread}
@@ -36,12 +36,12 @@ use Rattle.host_model.specs.Sessions.{settings_with}
 use Rattle.host_model.specs.After.{after, is_held}
 use Rattle.host_model.specs.Events.{HostEvent, Accepts, Finishes, Hears_value, Has_no_room, Is_unkept, Reports_old, Spends, Spends_unread, Unreads}
 use Rattle.host_model.specs.Outs.{ended_of, held_entries, outs, stored_entries}
-use Rattle.host_model.specs.Taking.{FrameEvents, NoticeEvents, PayloadEvents, SealedEvents, ends_from, named_by}
+use Rattle.host_model.specs.Taking.{FrameEvents, PayloadEvents, SealedEvents, ends_from, named_by}
 use Rattle.proof_notes.specs.proof_known.law_host.Nonces.{nonce_with}
 use Rattle.proof_notes.specs.proof_known.proof_alone.Phases.{Phase}
 use Rattle.proof_notes.specs.proof_known.proof_alone.Steps.{AreTold, IsOfUnit}
 use Rattle.proof_notes.proofs.Apart.{IsApart, apart_judged}
-use Rattle.proof_notes.proofs.Bodies.{body_is}
+use Rattle.proof_notes.proofs.ByPayload.{frame_follows}
 use Rattle.proof_notes.proofs.Events.{outs_told}
 use Rattle.proof_notes.proofs.Lists.{each-append, each-weaker}
 use Rattle.proof_notes.proofs.Noting.{noted_told}
@@ -51,7 +51,7 @@ use Rattle.proof_notes.proofs.proof_device_HostOuts.{OwnIs, SharedAre, outs_are}
 use Rattle.proof_nonces.specs.Giving.{Acknowledged, AllOpen, IsBefore, IsOpenedOnce, MayTell, Opened, OpensFor, OpensOnce, acknowledged_step, before_judged}
 use Rattle.proof_nonces.specs.Counted.{AreBehind, AtPhase, BehindSo, IsLast, LiveSo, OpenedSo, TellsNothing, spent_by, spent_of}
 use Rattle.proof_nonces.proofs.Accounts.{Grown, spent_given}
-use Rattle.proof_nonces.proofs.Ordered.{all_has, has-left, ordered-last}
+use Rattle.proof_nonces.proofs.Ordered.{ordered-last}
 use Rattle.proof_nonces.proofs.Reports.{Agrees}
 
 -- ---- entries of which nothing is asked
@@ -276,27 +276,6 @@ bringing_short unit = by (is_frame unit 0) (notice_of (function_in unit) (body_i
     by true (Ok notice) = notice_short notice
     by true (Err fault) = inl refl
 
--- ---- events that follow a frame follow its payload
-
-abbrev AllFollow : HostState → List HostEvent → List Carried → Type 0
-AllFollow h events brought = AllByRecursion (λ (carried : Carried). PayloadEvents h carried.node carried.payload (heard_at carried.payload) events) brought
-
-abbrev brought_of : Result Notice BodyFault → List Carried
-brought_of read = flat_map bringing_of (read_well read)
-
-notice_follows : (h : HostState) (read : Result Notice BodyFault) (events : List HostEvent) → NoticeEvents h read events → AllFollow h events (brought_of read)
-notice_follows h (Ok (ApplicationCommandHandler rx_status source payload)) events is = (is, tt)
-notice_follows h (Ok (SendData callback_id status)) events is = tt
-notice_follows h (Ok (ApplicationUpdate update)) events is = tt
-notice_follows h (Ok (AddNode callback_id status information)) events is = tt
-notice_follows h (Err fault) events is = tt
-
-kind_follows : (h : HostState) (k : Kind) (func : ℕ) (body : List ℕ) (sum : ℕ) (events : List HostEvent) → FrameEvents h k func body events
-    → AllFollow h events (bringing_in (framed (kind_code k ∷ func ∷ body) sum))
-kind_follows h kind.Response func body sum events is = tt
-kind_follows h kind.Request func body sum events is =
-    subst (AllFollow h events) (sym (ap (λ (b : List ℕ). brought_of (notice_of func b)) (body_is body func sum))) (notice_follows h (notice_of func body) events is)
-
 -- ---- behind a frame
 
 module _ (keys : Keys) where
@@ -314,7 +293,7 @@ module _ (keys : Keys) where
   frame_behind drawn openings h f left past later shorter events =
       all-weaker (λ (carried : Carried). PayloadEvents h carried.node carried.payload (heard_at carried.payload) left) (λ carried. BehindSo keys drawn openings h left past carried (heard_at carried.payload))
       (λ carried these. to_open drawn openings h left past carried (heard_at carried.payload) later shorter these) (bringing_in (unit_text (Framed f)))
-      (kind_follows h f.kind f.func f.body (checksum (kind_code f.kind ∷ f.func ∷ f.body)) left events)
+      (frame_follows h f left events)
 
   quiet_one : (drawn : ℕ → ℕ → List ℕ) (openings : List Opened) (h : HostState) (left : List HostEvent) (past : List Entry) (carried : Carried) (heard : Heard) → AllByRecursion TellsNothing left
       → BehindSo keys drawn openings h left past carried heard
@@ -437,7 +416,7 @@ module _ (keys : Keys) (drawn next : ℕ → ℕ → List ℕ) (here : Phase) (p
   no_more = record { keeps = λ one has. (has, agrees one.node one.number (low one has)) }
 
   one_more : (more : Opened) → Changes drawn next was.openings (was.openings ++ more ∷ [])
-  one_more more = record { keeps = λ one has. (has-left was.openings (more ∷ []) one has, agrees one.node one.number (low one has)) }
+  one_more more = record { keeps = λ one has. (has_left was.openings (more ∷ []) one has, agrees one.node one.number (low one has)) }
 
   longer : (n : ℕ) → n < length past → n < length (past ++ told)
   longer n less = let long = length-append past told in omega (arith, less, long)

@@ -1,5 +1,5 @@
--- Lists in order, one item more; what has an item; and what entries show, some more of them.
-use Rattle.std.proofs.Common.{◌≡◌, inl, inr, List, [], ◌∷◌, ◌++◌, refl, sym, ap, ◌∙◌, subst, append-nil, append_assoc}
+-- Lists in order, one item more; the last item of a list; and what entries show, some more of them.
+use Rattle.std.proofs.Common.{◌≡◌, inl, inr, List, [], ◌∷◌, ◌++◌, refl, sym, ap, ◌∙◌, append-nil, append_assoc}
 use Rattle.std.specs.List.{AllByRecursion}
 use Rattle.zw_base.proofs.Each.{all-append, all-left}
 use Rattle.law_transcript.specs.Lists.{Has, shown_after}
@@ -12,16 +12,6 @@ ordered-last Before (x ∷ xs) y ordered all = (all-append (Before x) xs (y ∷ 
 pub ordered-left : {A : Type 0} (Before : A → A → Type 0) (xs ys : List A) → Ordered Before (xs ++ ys) → Ordered Before xs
 ordered-left Before [] ys ordered = tt
 ordered-left Before (x ∷ xs) ys ordered = (all-left (Before x) xs ys ordered.0, ordered-left Before xs ys ordered.1)
-
-pub all_has : {A : Type 0} (P : A → Type 0) (xs : List A) (x : A) → AllByRecursion P xs → Has xs x → P x
-all_has P [] x all has = absurd has
-all_has P (first ∷ xs) x all (inl is) = subst P is all.0
-all_has P (first ∷ xs) x all (inr has) = all_has P xs x all.1 has
-
-pub has-left : {A : Type 0} (xs ys : List A) (x : A) → Has xs x → Has (xs ++ ys) x
-has-left [] ys x has = absurd has
-has-left (first ∷ xs) ys x (inl is) = inl is
-has-left (first ∷ xs) ys x (inr has) = inr (has-left xs ys x has)
 
 pub has-last : {A : Type 0} (xs : List A) (y : A) → Has (xs ++ y ∷ []) y
 has-last [] y = inl refl

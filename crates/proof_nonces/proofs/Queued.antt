@@ -1,9 +1,7 @@
 -- No message that waits to be asked by a host alone is of Security 0, whatever it does.
-use Rattle.std.proofs.Common.{refl, ◌≡◌, Bool, true, false, if◌then◌else◌, inl, inr, List, [], ◌∷◌, ◌++◌, Option, Some, None, ℕ, sym, ap, subst}
+use Rattle.std.proofs.Common.{refl, ◌≡◌, Bool, true, false, if◌then◌else◌, List, [], ◌∷◌, ◌++◌, Option, Some, None, ℕ, sym, ap, subst}
 use Rattle.std.specs.Prelude.{IsSome}
-use Rattle.zw_base.proofs.Each.{all-append, all-right}
-use Rattle.serial_frame.specs.Items.{unit_text}
-use Rattle.serial_frame.specs.declared.unit.Unit.TheVariants.{Framed}
+use Rattle.zw_base.proofs.Each.{all-append}
 use Rattle.serial_link.specs.State.{Side, tick_side}
 use Rattle.supervision.specs.Host.{open_session}
 use Rattle.s0_crypto.specs.declared.key_pair.Keys.{Keys}
@@ -24,9 +22,9 @@ use Rattle.host_node.specs.declared.attempt.Moment.TheVariants.{BeforeItsTick}
 use Rattle.host_model.specs.State.{HostState, first_host, node_of}
 use Rattle.host_model.specs.Sessions.{open_command}
 use Rattle.host_model.specs.After.{after, failing_if, finishing, gives_up, giving, is_full, is_held, line_ticked, node_does, offering, queues_if_room, request_does, requests_do}
-use Rattle.host_model.specs.Events.{HostEvent, Accepts, Cancels, Joins, Queues, Queues_interview, Queues_probe, Hears, Requests_do, Interviews, Interview_unkept, Unreads, Is_unkept, Reports_old, Works, Finishes, Offers, Gives, Spends, Spends_unread, Takes_nonce, Notifies, Resends, Hears_value, Has_no_room, Line_ticks, Node_ticks, Queues_no_more, Drops_no_more, Submits_abort, Submits_front, Starts, Gives_text, Gives_segment, Begins, Begin_unkept}
+use Rattle.host_model.specs.Events.{HostEvent, Accepts, Cancels, Joins, Queues, Queues_interview, Queues_probe, Hears, Requests_do, Interviews, Interview_unkept, Unreads, Is_unkept, Reports_old, Works, Finishes, Offers, Gives, Spends, Spends_unread, Takes_nonce, Notifies, Resends, Hears_value, Has_no_room, Line_ticks, Node_ticks, Queues_no_more, Drops_no_more, Submits_abort, Submits_front, Starts, Gives_text, Gives_segment, Begins, Begin_unkept, IsOwn}
 use Rattle.host_model.specs.May.{May, known_of}
-use Rattle.host_model.proofs.Own.{IsOwn, sleepers_own, submitted_own}
+use Rattle.host_model.proofs.Own.{sleepers_own, submitted_own}
 use Rattle.host_model.proofs.Submitted.{next_is, no_more_is}
 use Rattle.proof_notes.specs.proof_attempts.proof_requests.Walking.{AddsWell, Ground as RequestsGround, IsOfChip}
 use Rattle.proof_notes.proofs.Doing.{asks_of, attempt_asks, end_if_asks, holds_asks}
@@ -36,8 +34,9 @@ use Rattle.proof_notes.specs.proof_known.proof_transcript.world_model.Events.{Op
 use Rattle.proof_notes.specs.proof_known.proof_alone.State.{HostMachine}
 use Rattle.proof_notes.specs.proof_known.proof_alone.Steps.{Does, IsAskedBy}
 use Rattle.proof_notes.specs.proof_known.proof_alone.Phases.{Phase, Resting, Asked, Risen, Ticking, Open, Behind, Sleeping, Submitting, May as MayStep}
-use Rattle.proof_notes.specs.proof_known.proof_waking.Judged.{IsOfRequest, KnowsJudged}
-use Rattle.proof_notes.proofs.Followed.{MayFollow, frame_all}
+use Rattle.proof_notes.specs.proof_known.proof_waking.Judged.{KnowsJudged}
+use Rattle.proof_notes.proofs.Followed.{MayFollow}
+use Rattle.proof_notes.proofs.Settling.{behind_follows}
 use Rattle.proof_nonces.specs.Known.{AreOther, AsksOther, offered_by}
 use Rattle.proof_nonces.proofs.Payloads.{gets_other, open_other, sends_other}
 
@@ -150,16 +149,8 @@ follow_adds unit (Queues task) follows adds = absurd follows
 follow_adds unit (Requests_do event moment) follows adds = adds
 follow_adds unit event follows adds = tt
 
-request_adds : (event : HostEvent) → IsOfRequest event → AddsWell event → AddsOther event
-request_adds (Requests_do event moment) is adds = adds
-request_adds event is adds = absurd is
-
 behind_adds : (first : HostEvent) (left : List HostEvent) (past : List Entry) (m : HostMachine) → KnowsJudged (Behind (first ∷ left)) past m → AddsWell first → AddsOther first
-behind_adds first left past m (frames, inl behind) adds =
-    let unit : List ℕ = unit_text (Framed behind.frame.frame) in
-    follow_adds unit first
-    (all-right (MayFollow unit) behind.frame.gone (first ∷ left) (frame_all behind.frame.first behind.frame.frame (behind.frame.gone ++ (first ∷ left)) behind.frame.followed)).0 adds
-behind_adds first left past m (frames, inr (requests, settled)) adds = request_adds first requests.0 adds
+behind_adds first left past m judged adds = let (unit, may) = behind_follows first left past m judged.1 in follow_adds unit first may adds
 
 pub does_add : (here next : Phase) (past : List Entry) (m : HostMachine) (event : HostEvent) (told : List Entry) → MayStep here m (Does event told) next → RequestsGround here past m → AddsOther event
 does_add (Ticking (first ∷ left)) next past m event told may ground = own_adds event (subst IsOwn (sym may.0.0) ground.0.0.1.0.0)

@@ -14,7 +14,7 @@ use Rattle.zw_text.specs.declared.entry.Entry.TheVariants as entry
 use Rattle.law_transcript.specs.Lists.{shown_after}
 use Rattle.law_transcript.specs.Payloads.{nonce_report}
 use Rattle.law_transcript.specs.Units.{Carried, sending_in}
-use Rattle.law_time.specs.Requests.{asked, is_new}
+use Rattle.proof_notes.specs.law_time.Requests.{asked, is_new}
 use Rattle.host_node.specs.Events.NodeEvent.{Ticks as node_ticks}
 use Rattle.host_node.specs.Steps.{tick_end}
 use Rattle.host_node.specs.declared.attempt.Moment.{Moment}
@@ -113,7 +113,7 @@ OffersSo old new nonces =
     (offered_in new ≡ offered_in old)
     ⊎ ((n : ℕ) × (nonce : List ℕ) × (live_of nonces n ≡ Some nonce) × (offered_in new ≡ offered_in old ++ record { node = n; payload = nonce_report nonce } ∷ []))
 
-abbrev NotFront : HostEvent → Type 0
+abbrev pub NotFront : HostEvent → Type 0
 NotFront Submits_front = ⊥
 NotFront event = Unit {0}
 

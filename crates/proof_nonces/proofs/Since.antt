@@ -2,22 +2,20 @@
 use Rattle.std.proofs.Common.{◌≡◌, ℕ, ◌&&◌, not, Bool, true, false, List, [], ◌∷◌, ◌++◌, refl, sym, ap, ◌∙◌, subst, append-nil, append_assoc}
 use Rattle.std.specs.List.{AllByRecursion}
 use Rattle.std.proofs.lemmas.Bool.{both_ways}
-use Rattle.zw_base.proofs.Each.{all-append, all-weaker}
+use Rattle.zw_base.proofs.Each.{all-weaker}
 use Rattle.s0_crypto.specs.declared.key_pair.Keys.{Keys}
 use Rattle.serial_frame.specs.Frame.{FrameParts}
 use Rattle.serial_frame.specs.Items.{unit_text}
 use Rattle.serial_frame.specs.declared.item.Item.{Item}
-use Rattle.serial_frame.specs.declared.item.Item.TheVariants.{Good, Refused as refused_item}
-use Rattle.serial_frame.specs.declared.item.Refusal.TheVariants.{Stray, BadLength, BadSum, BadKind, Aborted}
 use Rattle.serial_frame.specs.declared.unit.Unit.{Unit as LineUnit}
-use Rattle.serial_frame.specs.declared.unit.Unit.TheVariants.{Ack, Nak, Can, Framed}
+use Rattle.serial_frame.specs.declared.unit.Unit.TheVariants.{Ack, Nak, Framed}
 use Rattle.zw_words.specs.declared.side.Side.TheVariants.{Host, Chip}
 use Rattle.zw_text.specs.declared.entry.Entry.{Entry}
 use Rattle.zw_text.specs.declared.entry.Entry.TheVariants as entry
 use Rattle.law_transcript.specs.Lists.{EachAfter}
 use Rattle.law_transcript.specs.Units.{Carried, sending_in}
-use Rattle.law_time.specs.Judged.{is_data}
-use Rattle.law_time.specs.Requests.{asked, is_copy, is_new}
+use Rattle.proof_notes.specs.law_time.Judged.{is_data}
+use Rattle.proof_notes.specs.law_time.Requests.{asked, is_copy, is_new}
 use Rattle.host_model.specs.Events.{HostEvent}
 use Rattle.host_model.specs.State.{HostState}
 use Rattle.host_model.specs.Outs.{answer_to, answers}
@@ -26,6 +24,7 @@ use Rattle.proof_notes.proofs.proof_requests_Telling.{IsQuiet}
 use Rattle.proof_notes.specs.proof_known.proof_alone.Steps.{AreTold, DidNotCome, IsOfOthers, IsOfUnit}
 use Rattle.proof_notes.proofs.Events.{answers_are}
 use Rattle.proof_notes.proofs.Lists.{each-append}
+use Rattle.proof_notes.proofs.Parts.{item_told, unit_told}
 use Rattle.proof_nonces.specs.Sealing.{HasAsked, IsSealedSo, IsToldSince, MaySeal, SealsNothing, is_sealed}
 
 -- ---- further entries
@@ -121,21 +120,12 @@ missed_none marks did = absurd did
 pub answers_none : (h : HostState) (event : HostEvent) → AllByRecursion NoRequest (answers h event)
 answers_none h event = answers_are NoRequest (record { accepted = λ command node. tt; taken_back = λ command. tt }) h event
 
-answer_none : (told : List Entry) (unit : LineUnit) → is_data (unit_text unit) ≡ false → AreTold (Write unit ∷ []) told → AllByRecursion NoRequest told
-answer_none told unit none (marks, rest, are, all, more) =
-    subst (AllByRecursion NoRequest) (sym are) (none, all-append NoRequest marks rest (marks_none marks all) (subst (AllByRecursion NoRequest) (sym more) tt))
+answer_none : (unit : LineUnit) (told : List Entry) → is_data (unit_text unit) ≡ false → AreTold (Write unit ∷ []) told → AllByRecursion NoRequest told
+answer_none unit told none are = unit_told NoRequest mark_none unit told none are
 
 -- what answers an item
 pub item_none : (item : Item) (told : List Entry) → AreTold (answer_to item) told → AllByRecursion NoRequest told
-item_none (Good (Framed f)) told is = answer_none told Ack refl is
-item_none (Good Ack) told is = subst (AllByRecursion NoRequest) (sym is) tt
-item_none (Good Nak) told is = subst (AllByRecursion NoRequest) (sym is) tt
-item_none (Good Can) told is = subst (AllByRecursion NoRequest) (sym is) tt
-item_none (refused_item (BadSum want got)) told is = answer_none told Nak refl is
-item_none (refused_item (BadKind x)) told is = answer_none told Nak refl is
-item_none (refused_item (Stray x)) told is = subst (AllByRecursion NoRequest) (sym is) tt
-item_none (refused_item (BadLength n)) told is = subst (AllByRecursion NoRequest) (sym is) tt
-item_none (refused_item Aborted) told is = subst (AllByRecursion NoRequest) (sym is) tt
+item_none item told are = item_told (AllByRecursion NoRequest) (λ l is. answer_none Ack l refl is) (λ l is. answer_none Nak l refl is) tt item told are
 
 -- ---- a unit that is written
 

@@ -9,7 +9,7 @@ use Rattle.zw_text.specs.declared.entry.Entry.TheVariants as entry
 use Rattle.law_transcript.specs.Lists.{EachAfter, Has}
 use Rattle.law_transcript.specs.Payloads.{nonce_get}
 use Rattle.law_transcript.specs.Units.{Carried, sending_in}
-use Rattle.law_time.specs.Requests.{asked, is_new}
+use Rattle.proof_notes.specs.law_time.Requests.{asked, is_new}
 use Rattle.proof_nonces.specs.Sealing.{HasAsked, SealsNothing, is_sealed}
 
 -- a Nonce Get goes to the node, or something that is sealed

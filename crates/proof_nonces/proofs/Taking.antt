@@ -30,7 +30,7 @@ use Rattle.value_store.specs.Values.{count_with}
 use Rattle.law_transcript.specs.Lists.{Has}
 use Rattle.law_transcript.specs.Payloads.{messages_of}
 use Rattle.law_transcript.specs.Units.{Carried, bringing_in, bringing_of, read_well}
-use Rattle.law_time.specs.Judged.{may_tell}
+use Rattle.proof_notes.specs.law_time.Judged.{may_tell}
 use Rattle.host_keep.specs.declared.final_status.FinalStatus.{FinalStatus}
 use Rattle.host_heard.specs.Telling.{heard_at}
 use Rattle.host_heard.specs.declared.payload.Heard.{Heard}

@@ -10,7 +10,7 @@ use Rattle.zw_text.specs.declared.entry.Entry.TheVariants as entry
 use Rattle.law_transcript.specs.Lists.{EachAfter}
 use Rattle.law_transcript.specs.Units.{Carried, sending_in}
 use Rattle.law_transcript.proofs.Deciding.{AllKept}
-use Rattle.law_time.specs.Requests.{asked, is_new}
+use Rattle.proof_notes.specs.law_time.Requests.{asked, is_new}
 use Rattle.proof_nonces.specs.Sealing.{IsSealedSo, MaySeal, SealsNothing, is_sealed}
 
 abbrev none_sealed : List Carried → Bool

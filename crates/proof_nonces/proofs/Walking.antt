@@ -12,14 +12,13 @@ use Rattle.serial_frame.specs.Items.{unit_text}
 use Rattle.serial_frame.specs.declared.unit.Unit.TheVariants.{Framed}
 use Rattle.zw_words.specs.declared.side.Side.TheVariants.{Host}
 use Rattle.zw_text.specs.declared.line.Line.{Line}
-use Rattle.zw_text.specs.declared.line.Line.TheVariants as lines
 use Rattle.zw_text.specs.declared.entry.Entry.{Entry}
 use Rattle.zw_text.specs.declared.entry.Entry.TheVariants as entry
 use Rattle.law_transcript.specs.Lists.{EachAfter, Has}
 use Rattle.law_transcript.specs.Payloads.{nonce_get}
 use Rattle.law_transcript.specs.Units.{Carried, bringing_in, sending_in, sending_of}
-use Rattle.law_time.specs.Judged.{brought_here}
-use Rattle.law_time.specs.Requests.{asked, is_new}
+use Rattle.proof_notes.specs.law_time.Judged.{brought_here}
+use Rattle.proof_notes.specs.law_time.Requests.{asked, is_new}
 use Rattle.host_orders.specs.declared.carriage.Form.{Form}
 use Rattle.host_orders.specs.declared.carriage.Form.TheVariants.{Plain as whole, Cut, Sealed as in_seal}
 use Rattle.host_orders.specs.Wrapping.{form_of}
@@ -46,13 +45,12 @@ use Rattle.host_model.specs.May.{May}
 use Rattle.host_model.specs.Opening.{opened, restored_all}
 use Rattle.host_model.specs.Outs.{answers, outs}
 use Rattle.host_model.specs.Pumping.{IsNext}
-use Rattle.host_model.specs.Events.{HostEvent, Hears, Requests_do, Takes_nonce, Submits_abort, Submits_front, Starts, Gives_text, Gives_segment, Begins, Begin_unkept}
+use Rattle.host_model.specs.Events.{HostEvent, Hears, Takes_nonce, Submits_abort, Submits_front, Starts, Gives_text, Gives_segment, Begins, Begin_unkept, IsOwn}
 use Rattle.host_model.specs.declared.out.HostOut.TheVariants.{Write}
-use Rattle.host_model.proofs.Own.{IsOwn}
 use Rattle.host_model.proofs.Submitted.{next_is}
-use Rattle.proof_messages.specs.Hosts.{HasTexts}
-use Rattle.proof_messages.proofs.SealedByNumber.{sealed_length}
-use Rattle.proof_messages.proofs.SealedTexts.{BringsText, TextsLeft, bare_texts, first_bare, has_place, restarting_bare, texts_go}
+use Rattle.proof_notes.specs.proof_messages.Hosts.{HasTexts}
+use Rattle.proof_notes.proofs.SealedByNumber.{sealed_length}
+use Rattle.proof_notes.proofs.SealedTexts.{BringsText, TextsLeft, bare_texts, first_bare, has_place, restarting_bare, texts_go}
 use Rattle.proof_notes.specs.proof_attempts.proof_requests.Walking.{ReadsAs}
 use Rattle.proof_notes.proofs.Queued.{PayloadsBring, served_is_node}
 use Rattle.proof_notes.proofs.Requested.{Unsubmitted}
@@ -67,9 +65,11 @@ use Rattle.proof_notes.specs.proof_known.proof_alone.Steps.{AreTold, IsAskedBy, 
 use Rattle.proof_notes.specs.proof_known.proof_alone.Phases.{Phase, Submitting, May as MayStep}
 use Rattle.proof_notes.specs.proof_known.proof_alone.Runs.{WalkOver}
 use Rattle.proof_notes.specs.proof_known.proof_waking.Judged.{IsBehindFrame, IsOfRequest}
+use Rattle.proof_notes.specs.proof_attempts.proof_walk.ByLine.{IsAsked}
 use Rattle.proof_notes.proofs.Events.{event_at}
 use Rattle.proof_notes.proofs.KeptKeys.{all_keys}
 use Rattle.proof_notes.proofs.Settling.{behind_brought}
+use Rattle.proof_notes.proofs.InOrder.{is_asked}
 use Rattle.proof_nonces.specs.Sealing.{HasAsked, IsSealedSo, MaySeal, SealsNothing, is_sealed}
 use Rattle.proof_nonces.specs.Known.{AreOther, AsksOther, Ground, IsUnsealed, KnowsSealing, PlainSo, TextSo, TieSealing}
 use Rattle.proof_nonces.proofs.Payloads.{either_unsealed, open_other, other_unsealed, report_unsealed, start_is}
@@ -89,30 +89,13 @@ none_brought Of_text Of_plain n (Starts m plan more payload) none = absurd none
 none_brought Of_text Of_plain n (Takes_nonce m seen text) none = absurd none
 none_brought Of_text Of_plain n event none = tt
 
-as_none : (event these : HostEvent) → event ≡ these → BringsNone these → BringsNone event
-as_none event these is none = subst BringsNone (sym is) none
-
 asked_none : (line : Line) (h : HostState) (event : HostEvent) → IsAskedBy line h event → BringsNone event
-asked_none (lines.Command order) h event is = as_none event _ is tt
-asked_none (lines.Send node word) h event is = as_none event _ is.1 tt
-asked_none (lines.Get node end) h event is = as_none event _ is.1 tt
-asked_none (lines.Join node) h event is = as_none event _ is tt
-asked_none (lines.Interview node) h event is = as_none event _ is.1 tt
-asked_none (lines.Cancel command) h event is = as_none event _ is tt
-asked_none lines.Discover h event is = as_none event _ is.1 tt
-asked_none (lines.Neighbours node) h event is = as_none event _ is.1 tt
-asked_none (lines.Failed node) h event is = as_none event _ is.1 tt
-asked_none lines.Probe h event is = as_none event _ is.1 tt
-asked_none line h event is = absurd is
-
-own_none : (event : HostEvent) → Unsubmitted event → IsOwn event → BringsNone event
-own_none (Starts n plan more payload) un own = absurd un
-own_none (Takes_nonce n seen text) un own = absurd own
-own_none event un own = tt
-
-request_none : (event : HostEvent) → IsOfRequest event → BringsNone event
-request_none (Requests_do event moment) is = tt
-request_none event is = absurd is
+asked_none line h event is = by event (is_asked line h event is)
+  where
+    by : (e : HostEvent) → IsAsked e → BringsNone e
+    by (Starts n plan more payload) asked = absurd asked
+    by (Takes_nonce n seen text) asked = absurd asked
+    by e asked = tt
 
 -- ---- what a request carries
 
@@ -147,9 +130,6 @@ front_carries [] id are = tt
 front_carries (task ∷ rest) id are = task_carries task id are.0
 
 -- ---- a text that is given
-
-no_some : (x : List ℕ) → ◌≡◌ {A = Option (List ℕ)} None (Some x) → ⊥
-no_some x e = cc
 
 -- then none waits for a nonce
 pub none_pending : (n : NodeState) (payload : List ℕ) → NodeFacts n → n.text ≡ Some payload → n.pending ≡ None

@@ -8,7 +8,7 @@ use Rattle.s0_session.specs.Nonces.{account_of, given_of, live_of}
 use Rattle.zw_text.specs.declared.entry.Entry.{Entry}
 use Rattle.law_transcript.specs.Lists.{EachAfter, shown_after}
 use Rattle.law_transcript.specs.Units.{Carried}
-use Rattle.law_time.specs.Judged.{brought_here}
+use Rattle.proof_notes.specs.law_time.Judged.{brought_here}
 use Rattle.host_heard.specs.Telling.{heard_at}
 use Rattle.host_heard.specs.declared.payload.Heard.{Heard}
 use Rattle.host_heard.specs.declared.payload.Heard.TheVariants.{Sealed}

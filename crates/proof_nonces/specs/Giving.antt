@@ -17,8 +17,8 @@ use Rattle.law_transcript.specs.Lists.{EachAfter, Has, shown_after}
 use Rattle.law_transcript.specs.Nodes.{controller}
 use Rattle.law_transcript.specs.Payloads.{nonce_report}
 use Rattle.law_transcript.specs.Units.{Carried, sending_in}
-use Rattle.law_time.specs.Judged.{brought_here, is_acknowledgement}
-use Rattle.law_time.specs.Requests.{asked, is_new}
+use Rattle.proof_notes.specs.law_time.Judged.{brought_here, is_acknowledgement}
+use Rattle.proof_notes.specs.law_time.Requests.{asked, is_new}
 use Rattle.proof_notes.specs.proof_known.law_host.Course.{Offer}
 use Rattle.proof_notes.specs.proof_known.law_host.Nonces.{IsOffer, nonce_with}
 

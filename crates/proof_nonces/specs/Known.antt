@@ -10,7 +10,7 @@ use Rattle.law_transcript.specs.Units.{Carried}
 use Rattle.host_requests.specs.declared.task.Task.{Task}
 use Rattle.host_requests.specs.declared.task.Task.TheVariants.{Plain, Offer, Segment}
 use Rattle.host_model.specs.State.{HostState, node_of}
-use Rattle.proof_messages.specs.Hosts.{HasTexts}
+use Rattle.proof_notes.specs.proof_messages.Hosts.{HasTexts}
 use Rattle.proof_notes.specs.proof_attempts.proof_requests.Walking.{Ground as RequestsGround, KnowsAsked}
 use Rattle.proof_notes.specs.proof_known.proof_alone.Runs.{Knowledge, both_know}
 use Rattle.proof_notes.specs.proof_known.Known.{KnowsKeys}

@@ -15,8 +15,8 @@ use Rattle.law_transcript.specs.Lists.{EachAfter, Has}
 use Rattle.law_transcript.specs.Nodes.{controller}
 use Rattle.law_transcript.specs.Payloads.{nonce_get}
 use Rattle.law_transcript.specs.Units.{Carried, sending_in}
-use Rattle.law_time.specs.Judged.{brought_here, may_tell}
-use Rattle.law_time.specs.Requests.{asked, is_new}
+use Rattle.proof_notes.specs.law_time.Judged.{brought_here, may_tell}
+use Rattle.proof_notes.specs.law_time.Requests.{asked, is_new}
 use Rattle.proof_notes.specs.proof_known.Noted.{IsOpenedIf}
 
 -- ---- what a payload is, and tells

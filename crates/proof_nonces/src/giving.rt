@@ -4,9 +4,9 @@ ghost use Rattle.std.specs.Prelude.{Some, List, []};
 ghost use Rattle.s0_crypto.specs.declared.key_pair.Keys.{Keys};
 ghost use Rattle.device_sim.specs.State.{State};
 ghost use Rattle.zw_text.specs.declared.entry.Entry.{Entry};
-ghost use Rattle.world_model.specs.State.{first_machine};
-ghost use Rattle.world_lines.specs.Spoken.{Spoken, transcript_of};
-ghost use Rattle.world_lines.specs.Done.{AreDone};
+ghost use Rattle.proof_notes.specs.world_model.State.{first_machine};
+ghost use Rattle.proof_notes.specs.world_lines.Spoken.{Spoken, transcript_of};
+ghost use Rattle.proof_notes.specs.world_lines.Done.{AreDone};
 ghost use Rattle.proof_notes.specs.proof_known.law_host.Heard.{heard_by_host};
 ghost use Rattle.proof_notes.specs.proof_known.proof_alone.State.{HostMachine, first_alone};
 ghost use Rattle.proof_notes.specs.proof_known.proof_alone.Phases.{Phase};
@@ -17,10 +17,10 @@ ghost use Rattle.proof_nonces.specs.Giving.{CountsNonces};
 use crate::sealing::hosts_seal_once;
 use host_keep::texts_give_one_thing;
 use host_model::attempts_have_what_they_give;
-use proof_messages::hosts_leave_nonces;
-use proof_notes::attempts::requests::hosts_ask_as_told;
-use proof_notes::known::hosts_know_what_was_told;
-use proof_notes::known::waking::alone::{lines_are_a_hosts, what_is_heard_is_a_hosts};
+use proof_notes::{
+    hosts_ask_as_told, hosts_know_what_was_told, hosts_leave_nonces, lines_are_a_hosts,
+    what_is_heard_is_a_hosts,
+};
 
 /// In any run of a host alone, also where it starts again, over a keeper that tells its records and has none at first: its nonces have numbers, by which their
 /// first bytes count, and seven bytes that were drawn for each. Each Nonce Report that it asks its chip to send gives one, with no number below those that it

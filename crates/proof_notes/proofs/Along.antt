@@ -4,8 +4,8 @@ use Rattle.std.specs.Prelude.{Some}
 use Rattle.s0_crypto.specs.declared.key_pair.Keys.{Keys}
 use Rattle.zw_text.specs.declared.entry.Entry.{Entry}
 use Rattle.law_transcript.specs.Lists.{EachAfter}
-use Rattle.law_time.specs.Moments.{Allows}
-use Rattle.law_time.specs.Waking.{may_wake}
+use Rattle.proof_attempts.specs.law_time.Moments.{Allows}
+use Rattle.proof_attempts.specs.law_time.Waking.{may_wake}
 use Rattle.proof_attempts.specs.Since.{AlongRuns}
 use Rattle.proof_attempts.proofs.Lasting.{law_along}
 use Rattle.proof_known.specs.proof_alone.Listening.{KnowsListening}

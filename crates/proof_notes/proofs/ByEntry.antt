@@ -1,14 +1,11 @@
 -- How the notes of the payload that was judged last stand after further entries, and which entries may stand where they do.
 use Rattle.std.proofs.Common.{◌≡◌, ◌⊎◌, ℕ, ◌&&◌, not, Bool, true, false, if◌then◌else◌, inl, inr, List, [], ◌∷◌, ◌++◌, refl, sym, ap, ap₂, ◌∙◌, subst, append-nil, append_assoc}
-use Rattle.std.specs.Prelude.{Option, Some, None}
 use Rattle.std.specs.List.{AllByRecursion, flat_map}
-use Rattle.std.proofs.lemmas.Bool.{both_ways}
+use Rattle.std.proofs.lemmas.Bool.{both_ways, and_parts}
 use Rattle.zw_base.proofs.Each.{all-append, all-weaker}
 use Rattle.s0_crypto.specs.declared.key_pair.Keys.{Keys}
-use Rattle.serial_frame.specs.Frame.{FrameParts}
 use Rattle.serial_frame.specs.Items.{unit_text}
 use Rattle.serial_frame.specs.declared.unit.Unit.TheVariants.{Framed}
-use Rattle.serial_link.specs.State.{copy_due, tick_side}
 use Rattle.zw_words.specs.declared.side.Side.TheVariants.{Chip, Host}
 use Rattle.zw_text.specs.declared.entry.Entry.{Entry}
 use Rattle.zw_text.specs.declared.entry.Entry.TheVariants as entry
@@ -16,28 +13,26 @@ use Rattle.zw_text.specs.Transcript.{folded}
 use Rattle.zw_text.proofs.Views.{folded-append}
 use Rattle.law_transcript.specs.Lists.{EachAfter}
 use Rattle.law_transcript.specs.Units.{Carried, bringing_in}
-use Rattle.law_time.specs.Judged.{after_step, brought_here, is_acknowledgement, is_following, is_mark, is_no_note, judged, last_of}
-use Rattle.law_time.specs.Requests.{are_none}
+use Rattle.proof_attempts.specs.law_time.Judged.{after_step, brought_here, is_acknowledgement, is_following, is_mark, is_no_note, judged, last_of}
+use Rattle.proof_attempts.specs.law_time.Requests.{are_none}
 use Rattle.host_heard.specs.Telling.{heard_at}
 use Rattle.host_heard.specs.declared.told.Told.{Told}
-use Rattle.host_node.specs.Steps.{tick_end}
-use Rattle.host_model.specs.State.{HostState, node_of}
-use Rattle.host_model.specs.Sessions.{open_command}
-use Rattle.host_model.specs.Ends.{attempt_entries}
-use Rattle.host_model.specs.After.{after, gives_up, line_ticked}
+use Rattle.host_model.specs.State.{HostState}
+use Rattle.host_model.specs.After.{after}
 use Rattle.host_model.specs.Events as happening
-use Rattle.host_model.specs.Events.{HostEvent, Requests_do}
-use Rattle.host_model.specs.Outs.{copy_out, failing_entries, noted, outs, request_entries}
+use Rattle.host_model.specs.Events.{HostEvent, Requests_do, IsOwn}
+use Rattle.host_model.specs.Outs.{outs}
 use Rattle.host_model.specs.Taking.{AreTaken, PayloadEvents}
 use Rattle.host_model.specs.declared.out.HostOut.{HostOut}
 use Rattle.host_model.specs.declared.out.HostOut.TheVariants.{Note, Write}
-use Rattle.host_model.proofs.Own.{IsOwn}
 use Rattle.proof_known.proofs.Lists.{each-append}
-use Rattle.proof_known.proofs.proof_device_HostOuts.{OutsAre, OwnIs, SharedAre, outs_are}
+use Rattle.proof_known.proofs.proof_device_HostOuts.{OwnIs, SharedAre, outs_are}
+use Rattle.proof_known.proofs.proof_line_Hosting.{HearsNothing, IsFrameOr, puts_frames_or}
 use Rattle.proof_known.specs.proof_alone.Steps.{AreTold, IsOfUnit}
 use Rattle.proof_known.specs.proof_waking.Judged.{IsOfRequest}
 use Rattle.proof_known.proofs.Apart.{IsApart, apart_judged}
 use Rattle.proof_known.proofs.Parts.{IsNoted}
+pub use Rattle.proof_known.proofs.Settling.{after_one as following_one}
 use Rattle.proof_notes.specs.Full.{AreWhole, GoesOnWith, IsElse, MayGoOn, MessagesNotes, PayloadNotes, SinceUnit, goes_on, hearing_of, since_step, since_unit}
 use Rattle.proof_notes.specs.Ties.{Ties}
 use Rattle.proof_notes.proofs.ByPayload.{messages_go, messages_over, messages_some, payload_goes, payload_over}
@@ -51,17 +46,13 @@ none_is : (l : List Entry) → are_none l ≡ true → l ≡ []
 none_is [] is = refl
 none_is (e ∷ l) is = absurd (let bad : false ≡ true = is in cc)
 
-and_parts_of : (a b : Bool) → (a && b) ≡ true → b ≡ true
-and_parts_of true b is = is
-and_parts_of false b is = absurd (let bad : false ≡ true = is in cc)
-
 abbrev grown : SinceUnit → Entry → Bool → SinceUnit
 grown since e both = if both then record { upto = since.upto ++ e ∷ []; notes = [] } else record { upto = since.upto; notes = since.notes ++ e ∷ [] }
 
 grown_joined : (since : SinceUnit) (e : Entry) (both : Bool) → (is_mark e && are_none since.notes) ≡ both
     → (grown since e both).upto ++ (grown since e both).notes ≡ (since.upto ++ since.notes) ++ e ∷ []
 grown_joined since e true is =
-    let none : since.notes ≡ [] = none_is since.notes (and_parts_of (is_mark e) (are_none since.notes) is) in
+    let none : since.notes ≡ [] = none_is since.notes (and_parts (is_mark e) (are_none since.notes) is).1 in
     append-nil (since.upto ++ e ∷ []) ∙ sym (ap (λ (l : List Entry). l ++ e ∷ []) (ap (λ (l : List Entry). since.upto ++ l) none ∙ append-nil since.upto))
 grown_joined since e false is = sym (append_assoc since.upto since.notes (e ∷ []))
 
@@ -80,9 +71,6 @@ joined past = fold_joined (record { upto = []; notes = [] }) past
 
 -- ---- what was brought here
 
-pub following_one : (past : List Entry) (e : Entry) → is_following (past ++ e ∷ []) ≡ after_step (is_following past) e
-following_one past e = folded-append after_step false past (e ∷ [])
-
 none_here : (past : List Entry) → is_following past ≡ false → brought_here past ≡ []
 none_here past off = ap (λ (b : Bool). flat_map bringing_in (if b then last_of (judged past) else [])) off
 
@@ -97,10 +85,6 @@ and_true false = refl
 pub and_none : (b : Bool) → (b && false) ≡ false
 and_none true = refl
 and_none false = refl
-
-and_left_of : (a b : Bool) → (a && b) ≡ true → a ≡ true
-and_left_of true b is = refl
-and_left_of false b is = is
 
 -- ---- a note
 
@@ -161,7 +145,7 @@ plain_still b (entry.Written Chip unit) apart mark is = absurd apart
 plain_still b (entry.Dropped Host) apart mark is = absurd (let bad : true ≡ false = mark in cc)
 plain_still b (entry.Overrun Host) apart mark is = absurd (let bad : true ≡ false = mark in cc)
 plain_still b (entry.Garbled Host unit) apart mark is = absurd (let bad : true ≡ false = mark in cc)
-plain_still b e apart mark is = record { was = and_left_of b (not (is_no_note e)) is; step = λ since. refl }
+plain_still b e apart mark is = record { was = (and_parts b (not (is_no_note e)) is).0; step = λ since. refl }
 
 module _ (keys : Keys) where
   abbrev pub Stand : List Entry → List Entry → Type 0
@@ -276,9 +260,7 @@ module _ (keys : Keys) where
   -- ---- what a host puts out of itself, or on an answer
 
   abbrev IsPut : HostOut → Type 0
-  IsPut (Write (Framed f)) = Unit {0}
-  IsPut (Write unit) = ⊥
-  IsPut (Note e) = IsPlain e
+  IsPut = IsFrameOr IsPlain
 
   puts_go : (past : List Entry) (puts : List HostOut) (told : List Entry) → AllByRecursion IsPut puts → AreTold puts told → NotesWhole past → Goes past told
   puts_go past [] told all is whole = nothing_goes past told is whole
@@ -294,42 +276,6 @@ module _ (keys : Keys) where
       (then_goes past e (marks ++ rest) (whole_may past e tt whole)
       (each-append (MayGoOn keys) here marks rest stand later.0, subst NotesWhole (append_assoc here marks rest) later.1))
   puts_go past (Write unit ∷ puts) told all is whole = absurd all.0
-
-  abbrev IsFrameOrNote : HostOut → Type 0
-  IsFrameOrNote (Write (Framed f)) = Unit {0}
-  IsFrameOrNote (Write unit) = ⊥
-  IsFrameOrNote (Note e) = Unit {0}
-
-  put_is : (puts : List HostOut) → AllByRecursion IsFrameOrNote puts → OutsAre IsPlain puts → AllByRecursion IsPut puts
-  put_is [] framed plain = tt
-  put_is (Write (Framed f) ∷ puts) framed plain = (tt, put_is puts framed.1 plain.1)
-  put_is (Write unit ∷ puts) framed plain = absurd framed.0
-  put_is (Note e ∷ puts) framed plain = (plain.0, put_is puts framed.1 plain.1)
-
-  noted_framed : (told : List Entry) → AllByRecursion IsFrameOrNote (noted told)
-  noted_framed [] = tt
-  noted_framed (e ∷ told) = (tt, noted_framed told)
-
-  copy_framed : (copy : Option FrameParts) → AllByRecursion IsFrameOrNote (copy_out copy)
-  copy_framed None = tt
-  copy_framed (Some f) = (tt, tt)
-
-  own_framed : (h : HostState) (event : HostEvent) → IsOwn event → AllByRecursion IsFrameOrNote (outs h event)
-  own_framed h happening.Line_ticks own =
-      let told : List Entry = failing_entries (gives_up h.side.turn (tick_side h.side).turn) (line_ticked h) in
-      all-append IsFrameOrNote (copy_out (copy_due h.side.turn)) (noted told) (copy_framed (copy_due h.side.turn)) (noted_framed told)
-  own_framed h (Requests_do event moment) own = noted_framed (request_entries h event)
-  own_framed h (happening.Node_ticks n) own = noted_framed (attempt_entries n (tick_end (node_of h n)) (open_command (node_of h n)))
-  own_framed h (happening.Queues_no_more n) own = tt
-  own_framed h (happening.Drops_no_more n) own = (tt, tt)
-  own_framed h happening.Submits_abort own = (tt, tt)
-  own_framed h happening.Submits_front own = (tt, tt)
-  own_framed h (happening.Starts n plan more payload) own = (tt, tt)
-  own_framed h (happening.Gives_text n payload) own = (tt, tt)
-  own_framed h (happening.Gives_segment n more payload) own = (tt, tt)
-  own_framed h (happening.Begins n session command) own = (tt, tt)
-  own_framed h (happening.Begin_unkept n) own = (tt, tt)
-  own_framed h event own = absurd own
 
   shared_plain : SharedAre IsPlain
   shared_plain = record {
@@ -361,14 +307,18 @@ module _ (keys : Keys) where
   own_plain (happening.Begin_unkept n) own = (tt, tt, refl)
   own_plain event own = tt
 
+  own_nothing : (event : HostEvent) → IsOwn event → HearsNothing event
+  own_nothing (happening.Hears item) own = absurd own
+  own_nothing event own = tt
+
   pub own_goes : (past : List Entry) (h : HostState) (event : HostEvent) (told : List Entry) → IsOwn event → AreTold (outs h event) told → NotesWhole past → Goes past told
   own_goes past h event told own are whole =
-      puts_go past (outs h event) told (put_is (outs h event) (own_framed h event own) (outs_are IsPlain shared_plain h event (own_plain event own))) are whole
+      puts_go past (outs h event) told (puts_frames_or IsPlain h event (own_nothing event own) (outs_are IsPlain shared_plain h event (own_plain event own))) are whole
 
   pub request_goes : (past : List Entry) (h : HostState) (event : HostEvent) (told : List Entry) → IsOfRequest event → AreTold (outs h event) told → NotesWhole past → Goes past told
   request_goes past h (Requests_do event moment) told of are whole =
       puts_go past (outs h (Requests_do event moment)) told
-      (put_is (outs h (Requests_do event moment)) (noted_framed (request_entries h event)) (outs_are IsPlain shared_plain h (Requests_do event moment) tt)) are whole
+      (puts_frames_or IsPlain h (Requests_do event moment) tt (outs_are IsPlain shared_plain h (Requests_do event moment) tt)) are whole
   request_goes past h event told of are whole = absurd of
 
   -- ---- what is left of a payload

@@ -25,9 +25,9 @@ use Rattle.law_transcript.specs.Lists.{Has}
 use Rattle.law_transcript.specs.Nodes.{host_list}
 use Rattle.law_transcript.specs.Stores.{stores_asked_at, stores_of}
 use Rattle.law_transcript.proofs.Having.{all_has}
-use Rattle.law_time.specs.Interviews.{listens}
-use Rattle.law_time.specs.Judged.{last_of}
-use Rattle.law_time.specs.Sessions.{last_command}
+use Rattle.proof_attempts.specs.law_time.Interviews.{listens}
+use Rattle.proof_attempts.specs.law_time.Judged.{last_of}
+use Rattle.proof_attempts.specs.law_time.Sessions.{last_command}
 use Rattle.host_heard.specs.declared.told.Told.{Told}
 use Rattle.host_heard.specs.declared.told.Told.TheVariants.{Report, NonceGet, NonceReport, Notification, SegmentRequest, Values}
 use Rattle.host_keep.specs.Status.{status_of}
@@ -43,8 +43,8 @@ use Rattle.host_model.specs.Events.{HostEvent, Unreads, Is_unkept, Reports_old, 
 use Rattle.host_model.specs.Outs.{dropped_if, ended_of, held_entries, noted, outs, stored_entries}
 use Rattle.host_model.specs.Taking.{FinalEvents, IsKeptOr, IsTaken, NonceGetEvents, NonceReportEvents, ReportEvents, is_secure, resent, value_event}
 use Rattle.host_model.specs.declared.out.HostOut.TheVariants.{Note}
-use Rattle.proof_host.specs.Laws.{accepted_for, numbers_for}
-use Rattle.proof_host.specs.Tables.{nodes_by, taken_at, taken_by}
+use Rattle.proof_attempts.specs.proof_host.Laws.{accepted_for, numbers_for}
+use Rattle.proof_attempts.specs.proof_host.Tables.{nodes_by, taken_at, taken_by}
 use Rattle.proof_known.proofs.Noting.{noted_told, secure_is}
 use Rattle.proof_known.specs.proof_transcript.proof_once.Tied.{settings_taken}
 use Rattle.proof_known.proofs.StoredValues.{number_among}

@@ -1,7 +1,7 @@
 -- What a payload that a host takes has it note, one event after another, is what the transcript asks.
 use Rattle.std.proofs.Common.{◌≡◌, ℕ, Bool, true, false, inl, inr, List, [], ◌∷◌, ◌++◌, refl, sym, ap, ◌∙◌, subst, append-nil, append_assoc}
 use Rattle.std.specs.Prelude.{Option, Some, None, Result, Ok, Err}
-use Rattle.std.specs.List.{AllByRecursion, flat_map}
+use Rattle.std.specs.List.{AllByRecursion}
 use Rattle.zw_base.specs.declared.property.Setting.{Setting}
 use Rattle.s0_crypto.specs.declared.key_pair.Keys.{Keys}
 use Rattle.s0_crypto.specs.Opening.{sender_nonce_in}
@@ -20,7 +20,7 @@ use Rattle.class_info.specs.declared.report_status.ReportStatus.{ReportStatus}
 use Rattle.class_info.specs.declared.report_status.ReportStatus.TheVariants as statuses
 use Rattle.zw_text.specs.declared.entry.Entry.{Entry}
 use Rattle.zw_text.specs.declared.entry.Entry.TheVariants as entry
-use Rattle.law_transcript.specs.Units.{Carried, bringing_in, bringing_of, read_well}
+use Rattle.law_transcript.specs.Units.{Carried, bringing_in}
 use Rattle.host_heard.specs.Telling.{heard_at}
 use Rattle.host_heard.specs.declared.payload.Heard.{Heard}
 use Rattle.host_heard.specs.declared.payload.Heard.TheVariants.{Messages, Sealed, Unread}
@@ -32,7 +32,7 @@ use Rattle.host_model.specs.Did.{after_all}
 use Rattle.host_model.specs.Events.{HostEvent, Unreads, Is_unkept, Spends, Spends_unread}
 use Rattle.host_model.specs.Outs.{outs}
 use Rattle.host_model.specs.Taking.{AreTaken, FrameEvents, IsOpened, IsTaken, NoticeEvents, OpensTo as HostOpens, PayloadEvents, SealedEvents, ends_from, named_by, value_event, value_events}
-use Rattle.proof_known.proofs.Bodies.{body_is}
+use Rattle.proof_known.proofs.Followed.{brought_of, text_brings}
 use Rattle.proof_known.specs.law_host.Messages.{Hearing, is_of_open}
 use Rattle.proof_known.specs.proof_alone.Steps.{AreTold}
 use Rattle.proof_notes.specs.Ties.{Ties}
@@ -262,9 +262,6 @@ module _ (keys : Keys) (n : ℕ) (payload : List ℕ) where
 abbrev pub AllFollow : HostState → List HostEvent → List Carried → Type 0
 AllFollow h events brought = AllByRecursion (λ (carried : Carried). PayloadEvents h carried.node carried.payload (heard_at carried.payload) events) brought
 
-abbrev brought_of : Result Notice BodyFault → List Carried
-brought_of read = flat_map bringing_of (read_well read)
-
 notice_follows : (h : HostState) (read : Result Notice BodyFault) (events : List HostEvent) → NoticeEvents h read events → AllFollow h events (brought_of read)
 notice_follows h (Ok (ApplicationCommandHandler rx_status source payload)) events is = (is, tt)
 notice_follows h (Ok (SendData callback_id status)) events is = tt
@@ -276,7 +273,7 @@ kind_follows : (h : HostState) (k : Kind) (func : ℕ) (body : List ℕ) (sum : 
     → AllFollow h events (bringing_in (framed (kind_code k ∷ func ∷ body) sum))
 kind_follows h kind.Response func body sum events is = tt
 kind_follows h kind.Request func body sum events is =
-    subst (AllFollow h events) (sym (ap (λ (b : List ℕ). brought_of (notice_of func b)) (body_is body func sum))) (notice_follows h (notice_of func body) events is)
+    subst (AllFollow h events) (sym (text_brings func body sum)) (notice_follows h (notice_of func body) events is)
 
 pub frame_follows : (h : HostState) (f : FrameParts) (events : List HostEvent) → FrameEvents h f.kind f.func f.body events → AllFollow h events (bringing_in (unit_text (Framed f)))
 frame_follows h f events is = kind_follows h f.kind f.func f.body (checksum (kind_code f.kind ∷ f.func ∷ f.body)) events is

@@ -26,12 +26,12 @@ use Rattle.zw_text.specs.declared.entry.Entry.TheVariants as entry
 use Rattle.law_transcript.specs.Commands.{waiting}
 use Rattle.law_transcript.specs.Lists.{EachAfter}
 use Rattle.law_transcript.specs.Units.{Carried, bringing_in, bringing_of, notice_in, read_well}
-use Rattle.law_time.specs.Choice.{is_to_begin}
-use Rattle.law_time.specs.Interviews.{informs}
-use Rattle.law_time.specs.Judged.{brought_here, notices_here}
-use Rattle.law_time.specs.Requests.{are_none}
-use Rattle.law_time.specs.Sessions.{is_open}
-use Rattle.law_time.specs.Waking.{is_up}
+use Rattle.proof_attempts.specs.law_time.Choice.{is_to_begin}
+use Rattle.proof_attempts.specs.law_time.Interviews.{informs}
+use Rattle.proof_attempts.specs.law_time.Judged.{brought_here, notices_here}
+use Rattle.proof_attempts.specs.law_time.Requests.{are_none}
+use Rattle.proof_attempts.specs.law_time.Sessions.{is_open}
+use Rattle.proof_attempts.specs.law_time.Waking.{is_up}
 use Rattle.host_heard.specs.Telling.{heard_at}
 use Rattle.host_node.proofs.Searches.{what_is_least}
 use Rattle.host_node.specs.Facts.{SeriesFacts}
@@ -43,16 +43,16 @@ use Rattle.host_node.specs.declared.series.Series.TheVariants.{Idle, Due, Runnin
 use Rattle.host_requests.specs.Events.{interviewed_by}
 use Rattle.host_model.specs.State.{HostState, node_of}
 use Rattle.host_model.specs.Events as happening
-use Rattle.host_model.specs.Events.{HostEvent, Is_unkept, Interviews, Interview_unkept, Begin_unkept}
+use Rattle.host_model.specs.Events.{HostEvent, Is_unkept, Interviews, Interview_unkept, Begin_unkept, IsOwn}
 use Rattle.host_model.specs.May.{May as MayHost, says_listens}
 use Rattle.host_model.specs.Outs.{answers, outs}
 use Rattle.host_model.specs.Taking.{FrameEvents, InterviewEvents, NoticeEvents, ResponseEvents}
 use Rattle.host_model.specs.declared.out.HostOut.TheVariants.{Note}
-use Rattle.host_model.proofs.Own.{IsOwn, sleepers_own, submitted_own}
+use Rattle.host_model.proofs.Own.{sleepers_own, submitted_own}
 use Rattle.host_model.proofs.Pumps.{next_works}
 use Rattle.host_model.proofs.Submitted.{next_is, no_more_is}
-use Rattle.proof_host.specs.Facts.{Facts}
-use Rattle.proof_host.specs.Laws.{numbers_for}
+use Rattle.proof_attempts.specs.proof_host.Facts.{Facts}
+use Rattle.proof_attempts.specs.proof_host.Laws.{numbers_for}
 use Rattle.law_transcript.specs.Commands.{numbers_of}
 use Rattle.zw_text.specs.Transcript.{accepted}
 use Rattle.proof_known.proofs.Bodies.{body_is}
@@ -60,8 +60,8 @@ use Rattle.proof_known.proofs.proof_device_HostOuts.{OwnIs, SharedAre, outs_are}
 use Rattle.proof_attempts.specs.Series.{NodeAsTold}
 use Rattle.proof_attempts.specs.Since.{KnowsSince}
 use Rattle.proof_attempts.specs.Waking.{CountsAwake, TieAwake}
-use Rattle.law_time.specs.Interviews.{listens}
-use Rattle.law_time.specs.Waking.{counts_awake}
+use Rattle.proof_attempts.specs.law_time.Interviews.{listens}
+use Rattle.proof_attempts.specs.law_time.Waking.{counts_awake}
 use Rattle.proof_known.specs.proof_alone.State.{HostMachine}
 use Rattle.proof_known.specs.proof_alone.Steps.{AreTold, IsOfOthers, Step, Tells, Comes, Misses, Says, Says_nothing, Asks, Refuses, Shows, Restarts, Begins_tick, Numbers, Judges, Does, entries}
 use Rattle.proof_known.specs.proof_alone.Phases.{Phase, Resting, Asked, Risen, Ticking, Open, Behind, Sleeping, Submitting, May}

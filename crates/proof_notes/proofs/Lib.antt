@@ -1,5 +1,5 @@
 pub mod ByMessage
-mod ByPayload
+pub mod ByPayload
 mod ByEntry
 pub mod Walking
 mod Lacking
@@ -7,6 +7,7 @@ pub mod Along
 pub use Rattle.proof_attempts.proofs.Times
 pub use Rattle.proof_attempts.proofs.HostNotes
 pub use Rattle.proof_attempts.proofs.Doing
+pub use Rattle.proof_attempts.proofs.InOrder
 pub use Rattle.proof_attempts.proofs.Queued
 pub use Rattle.proof_attempts.proofs.Requested
 pub use Rattle.proof_attempts.proofs.Stepping
@@ -39,6 +40,7 @@ pub use Rattle.proof_attempts.proofs.proof_work_Doing
 pub use Rattle.proof_attempts.proofs.Opening
 pub use Rattle.proof_attempts.proofs.Releasing
 pub use Rattle.proof_attempts.proofs.Sleeping
+pub use Rattle.proof_attempts.proofs.Asleep
 pub use Rattle.proof_attempts.proofs.KeptAwake
 pub use Rattle.proof_attempts.proofs.Late
 pub use Rattle.proof_attempts.proofs.Slept
@@ -48,3 +50,7 @@ pub use Rattle.proof_attempts.proofs.proof_requests_EndsHere as EndsHere
 pub use Rattle.proof_attempts.proofs.EndsLate
 pub use Rattle.proof_attempts.proofs.EndsTold
 pub use Rattle.proof_attempts.proofs.proof_requests_Judging as Judging
+pub use Rattle.proof_attempts.proofs.Payloads as attempts_Payloads
+pub use Rattle.proof_attempts.proofs.Computing
+pub use Rattle.proof_attempts.proofs.SealedByNumber
+pub use Rattle.proof_attempts.proofs.SealedTexts

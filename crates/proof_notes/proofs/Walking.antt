@@ -2,7 +2,7 @@
 use Rattle.std.proofs.Common.{◌≡◌, ◌⊎◌, ℕ, Bool, true, false, inl, inr, List, [], ◌∷◌, ◌++◌, refl, sym, ap, ◌∙◌, subst, append-nil, append_assoc, if◌then◌else◌}
 use Rattle.std.specs.List.{AllByRecursion, flat_map}
 use Rattle.std.proofs.lemmas.Bool.{both_ways, false_from_ne_true}
-use Rattle.zw_base.proofs.Each.{all-right, all-weaker}
+use Rattle.zw_base.proofs.Each.{all-weaker}
 use Rattle.s0_crypto.specs.declared.key_pair.Keys.{Keys}
 use Rattle.serial_frame.specs.Frame.{FrameParts}
 use Rattle.serial_frame.specs.Items.{unit_text}
@@ -15,21 +15,20 @@ use Rattle.zw_words.specs.declared.side.Side.TheVariants.{Chip, Host}
 use Rattle.zw_text.specs.declared.entry.Entry.{Entry}
 use Rattle.zw_text.specs.declared.entry.Entry.TheVariants as entry
 use Rattle.law_transcript.specs.Units.{Carried, bringing_in}
-use Rattle.law_time.specs.Judged.{after_step, brought_here, is_following, judged, last_of}
-use Rattle.law_time.specs.Sessions.{is_open}
+use Rattle.proof_attempts.specs.law_time.Judged.{after_step, brought_here, is_following, judged, last_of}
+use Rattle.proof_attempts.specs.law_time.Sessions.{is_open}
 use Rattle.host_heard.specs.Telling.{heard_at}
-use Rattle.host_requests.specs.Events.{RequestsEvent}
 use Rattle.host_node.specs.State.{is_open as has_open}
 use Rattle.host_model.specs.State.{HostState, node_of}
 use Rattle.host_model.specs.After.{after}
 use Rattle.host_model.specs.Events as happening
-use Rattle.host_model.specs.Events.{HostEvent, Hears, Requests_do}
+use Rattle.host_model.specs.Events.{HostEvent, Hears, IsOwn}
 use Rattle.host_model.specs.Outs.{answer_to, answers, outs}
-use Rattle.host_model.specs.Taking.{FrameEvents, PayloadEvents, told_if}
-use Rattle.host_model.proofs.Own.{IsOwn, sleepers_own, submitted_own}
+use Rattle.host_model.specs.Taking.{FrameEvents, PayloadEvents}
+use Rattle.host_model.proofs.Own.{sleepers_own, submitted_own}
 use Rattle.host_model.proofs.Submitted.{next_is, no_more_is}
-use Rattle.world_model.specs.Events.{shown_values}
-use Rattle.proof_host.specs.Facts.{Facts}
+use Rattle.proof_attempts.specs.world_model.Events.{shown_values}
+use Rattle.proof_attempts.specs.proof_host.Facts.{Facts}
 use Rattle.proof_known.specs.proof_transcript.proof_once.ByTable.{IsTable}
 use Rattle.proof_known.specs.proof_transcript.proof_spoken.Said.{AreSaid, KnowsListing}
 use Rattle.proof_known.specs.law_host.Heard.{listing_heard}
@@ -44,8 +43,9 @@ use Rattle.proof_known.specs.Known.{HasPlaces, KnowsKeys, KnowsWhole, TieTold}
 use Rattle.proof_known.proofs.Noting.{Rooms}
 use Rattle.proof_known.proofs.Places.{no_more_places}
 use Rattle.proof_known.proofs.Apart.{acknowledged_frames}
-use Rattle.proof_known.proofs.Followed.{MayFollow, frame_all}
 use Rattle.proof_known.proofs.Parts.{IsNoted, follow_told}
+use Rattle.proof_known.proofs.Settling.{behind_follows}
+use Rattle.proof_attempts.proofs.proof_waking_Judging.{heard_if}
 use Rattle.proof_notes.specs.Full.{IsElse, MayGoOn, PayloadNotes, SinceUnit, since_unit}
 use Rattle.proof_notes.specs.Ties.{Ties}
 use Rattle.proof_notes.proofs.ByPayload.{AllFollow, frame_follows}
@@ -73,7 +73,7 @@ abbrev pub NotBehind : Phase → Type 0
 NotBehind (Behind left) = ⊥
 NotBehind here = Unit {0}
 
-between_not : (here : Phase) → IsBetween here → NotBehind here
+pub between_not : (here : Phase) → IsBetween here → NotBehind here
 between_not (Behind left) between = absurd between
 between_not here between = tt
 
@@ -101,14 +101,6 @@ answers_plain : (h : HostState) (event : HostEvent) → AllByRecursion IsPlain (
 answers_plain h (happening.Accepts order carriage) = ((tt, tt, refl), tt)
 answers_plain h (happening.Cancels command) = ((tt, tt, refl), tt)
 answers_plain h event = tt
-
-request_follows : (event : HostEvent) → IsOfRequest event → MayFollow [] event
-request_follows (Requests_do event moment) of = tt
-request_follows event of = absurd of
-
-heard_if : (b : Bool) (event : RequestsEvent) (events : List HostEvent) → events ≡ told_if b event → AllByRecursion IsOfRequest events
-heard_if true event events is = subst (AllByRecursion IsOfRequest) (sym is) (tt, tt)
-heard_if false event events is = subst (AllByRecursion IsOfRequest) (sym is) tt
 
 no_events : (events : List HostEvent) → events ≡ [] → AllByRecursion IsOfRequest events
 no_events events is = subst (AllByRecursion IsOfRequest) (sym is) tt
@@ -246,11 +238,7 @@ module _ (keys : Keys) (opens : ShowsOpen) (said : ShowsTables) (rooms : Rooms) 
 
   frame_event : (past : List Entry) (m : HostMachine) (event : HostEvent) (left : List HostEvent) (told : List Entry)
       → IsBehindFrame past m (event ∷ left) ⊎ (AllByRecursion IsOfRequest (event ∷ left) × Settled past) → AreTold (outs m.state event) told → AllByRecursion IsNoted told
-  frame_event past m event left told (inl behind) are =
-      let f = behind.frame in
-      let unit : List ℕ = unit_text (Framed f.frame) in
-      (follow_told unit m.state event told (all-right (MayFollow unit) f.gone (event ∷ left) (frame_all f.first f.frame (f.gone ++ event ∷ left) f.followed)).0 are).noted_are
-  frame_event past m event left told (inr (requests, settled)) are = (follow_told [] m.state event told (request_follows event requests.0) are).noted_are
+  frame_event past m event left told behind are = let (unit, may) = behind_follows event left past m behind in (follow_told unit m.state event told may are).noted_are
 
   behind_leads : (past : List Entry) (m : HostMachine) (event : HostEvent) (left : List HostEvent) (told : List Entry) → KnowsHost keys (Behind (event ∷ left)) past m → AreTold (outs m.state event) told
       → KnowsNotes keys (Behind (event ∷ left)) past m → Leads (Behind left) past m (Does event told)

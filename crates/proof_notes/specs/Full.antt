@@ -22,9 +22,9 @@ use Rattle.zw_text.specs.Transcript.{folded}
 use Rattle.law_transcript.specs.Lists.{EachAfter}
 use Rattle.law_transcript.specs.Nodes.{controller, host_list}
 use Rattle.law_transcript.specs.Units.{Carried}
-use Rattle.law_time.specs.Judged.{brought_here, is_mark, is_no_note}
-use Rattle.law_time.specs.Requests.{are_none}
-use Rattle.law_time.specs.Sessions.{last_command}
+use Rattle.proof_attempts.specs.law_time.Judged.{brought_here, is_mark, is_no_note}
+use Rattle.proof_attempts.specs.law_time.Requests.{are_none}
+use Rattle.proof_attempts.specs.law_time.Sessions.{last_command}
 use Rattle.proof_known.specs.law_host.Heard.{heeds_alone}
 use Rattle.proof_known.specs.law_host.Messages.{Hearing, ended_by, final_notes, is_of_open}
 use Rattle.proof_known.specs.Noted.{has_room}

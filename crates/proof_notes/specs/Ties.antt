@@ -7,10 +7,10 @@ use Rattle.zw_base.specs.declared.property.Property.{Property}
 use Rattle.value_store.specs.Values.{count_with}
 use Rattle.zw_text.specs.declared.entry.Entry.{Entry}
 use Rattle.law_transcript.specs.Answers.{properties_kept}
-use Rattle.law_time.specs.Sessions.{is_open}
+use Rattle.proof_attempts.specs.law_time.Sessions.{is_open}
 use Rattle.host_node.specs.State.{is_open as has_open}
 use Rattle.host_model.specs.State.{HostState, node_of}
-use Rattle.proof_host.specs.Facts.{Facts}
+use Rattle.proof_attempts.specs.proof_host.Facts.{Facts}
 use Rattle.proof_known.specs.law_host.Heard.{listing_heard}
 use Rattle.proof_known.specs.proof_alone.Listening.{ListensAsTold}
 use Rattle.proof_known.specs.proof_transcript.proof_once.ByTable.{IsTable}

@@ -7,9 +7,9 @@ use Rattle.zw_text.specs.declared.entry.Entry.{Entry}
 use Rattle.zw_text.specs.declared.entry.Entry.TheVariants.{Unkept}
 use Rattle.law_transcript.specs.Lists.{EachAfter}
 use Rattle.law_transcript.specs.Units.{Carried}
-use Rattle.law_time.specs.Choice.{is_to_begin}
-use Rattle.law_time.specs.Interviews.{informs}
-use Rattle.law_time.specs.Judged.{brought_here, notices_here}
+use Rattle.proof_attempts.specs.law_time.Choice.{is_to_begin}
+use Rattle.proof_attempts.specs.law_time.Interviews.{informs}
+use Rattle.proof_attempts.specs.law_time.Judged.{brought_here, notices_here}
 use Rattle.proof_notes.specs.Full.{PayloadNotes, SinceUnit, since_unit}
 
 -- it stands among the notes of one of these payloads, some of which may be still to come

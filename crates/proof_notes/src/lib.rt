@@ -14,8 +14,16 @@ mod unkept;
 mod worked;
 
 pub use notes::{hosts_note_in_full, lines_note_in_full};
-pub use proof_attempts as attempts;
-pub use proof_attempts::{requests, work_proofs as work};
-pub use proof_known as known;
+pub use proof_attempts::{
+    ends_of_tasks_are_told, hosts_ask_as_told, hosts_fall_asleep_as_told, hosts_hold_as_asked,
+    hosts_hold_as_told, hosts_know_their_work, hosts_leave_nonces, hosts_listen_as_told,
+    hosts_run_series_as_told, hosts_show_open_sessions, hosts_tell_of_ends, hosts_tell_of_sleep,
+    lines_are_a_hosts, lines_fall_asleep_as_told, lines_hold_as_asked, tasks_end_in_order,
+    what_is_heard_is_a_hosts,
+};
+pub use proof_known::{
+    hosts_keep_what_is_said, hosts_know_what_nodes_list, hosts_know_what_was_told, laws_follow,
+    orders_are_carried_as_said, tables_are_what_was_said,
+};
 pub use unkept::{hosts_say_what_is_not_kept, lines_say_what_is_not_kept};
 pub use worked::{rejected_notes, rejected_unkept, worked_notes};

@@ -4,20 +4,19 @@ ghost use Rattle.std.specs.Prelude.{Some, List, []};
 ghost use Rattle.s0_crypto.specs.declared.key_pair.Keys.{Keys};
 ghost use Rattle.device_sim.specs.State.{State};
 ghost use Rattle.zw_text.specs.declared.entry.Entry.{Entry};
-ghost use Rattle.world_model.specs.State.{first_machine};
-ghost use Rattle.world_lines.specs.Spoken.{Spoken, transcript_of};
-ghost use Rattle.world_lines.specs.Done.{AreDone};
+ghost use Rattle.proof_attempts.specs.world_model.State.{first_machine};
+ghost use Rattle.proof_attempts.specs.world_lines.Spoken.{Spoken, transcript_of};
+ghost use Rattle.proof_attempts.specs.world_lines.Done.{AreDone};
 ghost use Rattle.proof_known.specs.law_host.Heard.{heard_by_host};
 ghost use Rattle.proof_known.specs.proof_alone.State.{first_alone};
 ghost use Rattle.proof_known.specs.proof_alone.Runs.{Told};
 ghost use Rattle.proof_notes.specs.Unkept.{UnkeptWhereAsked};
 
-use proof_attempts::requests::hosts_listen_as_told;
-use proof_attempts::{hosts_count_awake, hosts_show_open_sessions};
-use proof_known::hosts_know_what_was_told;
-use proof_known::transcript::host::laws_follow;
-use proof_known::transcript::spoken::tables_are_what_was_said;
-use proof_known::waking::alone::{lines_are_a_hosts, what_is_heard_is_a_hosts};
+use proof_attempts::{hosts_count_awake, hosts_listen_as_told, hosts_show_open_sessions};
+use proof_known::{
+    hosts_know_what_was_told, laws_follow, lines_are_a_hosts, tables_are_what_was_said,
+    what_is_heard_is_a_hosts,
+};
 
 /// In any run of a host alone, over a keeper that tells its records and has none at first: that a record was not kept is said only among the notes of a
 /// payload that was judged there, where the information of that node came, or where a command waits for a node that is up and whose last session is over.

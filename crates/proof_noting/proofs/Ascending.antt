@@ -1,46 +1,23 @@
 -- The nodes that tick come in the order of their numbers, as the nodes in order do that the course of notes looks at: where one gives up, those before it are done or do not tick.
-use Rattle.host_model.specs.Events.{HostEvent, Line_ticks, Node_ticks, Requests_do}
-use Rattle.host_model.specs.State.{HostState, node_of}
-use Rattle.host_model.specs.Ticking.{ticking_nodes}
-use Rattle.host_node.specs.State.{needs_tick}
+use Rattle.host_model.specs.Events.{HostEvent, Node_ticks}
 use Rattle.law_transcript.specs.Lists.{Has}
 use Rattle.proof_choice.proofs.proof_queue_Orders.{is_among}
 use Rattle.proof_hearing.specs.proof_queue.proof_attempts.Since.{is_to_tick}
 use Rattle.proof_hearing.specs.proof_queue.proof_attempts.proof_requests.Walking.{IsNodeTick}
 use Rattle.proof_hearing.specs.proof_queue.proof_attempts.proof_requests.law_host.Ticks.{nodes_in_order}
-use Rattle.proof_noting.specs.Ticking.{Ascends}
-use Rattle.proof_transcript.proofs.Ordered.{Sorted, in_order_has, in_order_sorted}
-use Rattle.std.proofs.Common.{Bool, List, [], ap, ap₂, arith, false, filter, if◌then◌else◌, inl, inr, map, refl, suc, sym, true, zero, ℕ, ◌++◌, ◌+◌, ◌<◌, ◌==◌, ◌||◌, ◌∷◌, ◌≡◌, ◌≤◌}
+use Rattle.proof_choice.specs.proof_following.proof_ends.Ascending.{Ascends}
+use Rattle.proof_hearing.proofs.Ordered.{Sorted, in_order_has, in_order_sorted}
+use Rattle.std.proofs.Common.{Bool, List, [], ap, ap₂, arith, false, inl, inr, refl, sym, true, ℕ, ◌++◌, ◌<◌, ◌==◌, ◌||◌, ◌∷◌, ◌≡◌, ◌≤◌}
 use Rattle.std.proofs.lemmas.Bool.{eqb-true, ne_eqb}
 use Rattle.std.proofs.lemmas.Cmp.{nat_cmp_total, ranked}
 use Rattle.std.specs.FinMap.{nat_cmp-IsAntisymmetric}
-use Rattle.std.specs.List.{AllByRecursion, range_with_len}
+use Rattle.std.specs.List.{AllByRecursion}
 use Rattle.std.specs.Ordering.{nat_cmp}
 use Rattle.std.specs.declared.cmp.Ordering.TheVariants.{Less}
 use Rattle.zw_text.specs.Transcript.{joined}
 use Rattle.zw_text.specs.declared.entry.Entry.{Entry}
 
 -- ---- those that tick
-
-pub ascends_from : (a b : ℕ) (left : List HostEvent) → a ≤ b → Ascends b left → Ascends a left
-ascends_from a b [] less above = tt
-ascends_from a b (Line_ticks ∷ left) less above = ascends_from a b left less above
-ascends_from a b (Requests_do event moment ∷ left) less above = ascends_from a b left less above
-ascends_from a b (Node_ticks n ∷ left) less above = let more = above.0 in (omega (arith, less, more), above.1)
-ascends_from a b (event ∷ left) less above = absurd above
-
-nodes_ascend : (p : ℕ → Bool) (last from count : ℕ) → last < from → Ascends last (map Node_ticks (filter p (range_with_len from count)))
-nodes_ascend p last from zero less = tt
-nodes_ascend p last from (suc count) less = by (p from) (nodes_ascend p from (from + 1) count (omega arith))
-  where
-    by : (b : Bool) → Ascends from (map Node_ticks (filter p (range_with_len (from + 1) count)))
-        → Ascends last (map Node_ticks (if b then from ∷ filter p (range_with_len (from + 1) count) else filter p (range_with_len (from + 1) count)))
-    by true rest = (less, rest)
-    by false rest = ascends_from last from (map Node_ticks (filter p (range_with_len (from + 1) count))) (omega (arith, less)) rest
-
-pub ticks_ascend : (h : HostState) → Ascends 0 (map Node_ticks (ticking_nodes h))
-unfolding ticking_nodes
-ticks_ascend h = nodes_ascend (λ n. needs_tick (node_of h n)) 0 1 232 (omega arith)
 
 -- one that is not above all of them that are left does not tick then
 pub below_done : (n k : ℕ) (left : List HostEvent) → AllByRecursion IsNodeTick left → Ascends n left → k ≤ n → is_to_tick k left ≡ false

@@ -50,7 +50,6 @@ use Rattle.proof_hearing.specs.proof_queue.proof_attempts.proof_requests.law_hos
 use Rattle.proof_hearing.specs.proof_queue.proof_attempts.proof_requests.law_host.Following.{comes_to, is_before_host, is_of_host, may_begin, may_stand}
 use Rattle.proof_hearing.specs.proof_queue.proof_attempts.proof_requests.law_host.Heard.{heeds_alone}
 use Rattle.proof_hearing.specs.proof_queue.proof_attempts.proof_requests.law_host.Nonces.{is_late}
-use Rattle.proof_hearing.specs.proof_queue.proof_attempts.proof_requests.law_host.Notes.{Start}
 use Rattle.proof_hearing.specs.proof_queue.proof_attempts.proof_requests.proof_alone.Phases.{Phase, Sleeping, Submitting, GoesBy}
 use Rattle.proof_hearing.specs.proof_queue.proof_attempts.proof_requests.proof_alone.State.{HostMachine, done}
 use Rattle.proof_hearing.specs.proof_queue.proof_attempts.proof_requests.proof_alone.Steps.{AreTold, Does}
@@ -58,11 +57,11 @@ use Rattle.proof_hearing.proofs.Alike.{here_node, other_node, same_alike}
 use Rattle.proof_hearing.proofs.BooksGo.{books_one, sealer_on}
 use Rattle.proof_hearing.proofs.proof_attempts_Ending.{over_so}
 use Rattle.proof_hearing.proofs.proof_requests_Ended.{gave_up}
-use Rattle.proof_following.specs.Ended.{sleep_entries}
-use Rattle.proof_following.specs.Quiet.{IsPlainly}
-use Rattle.proof_following.proofs.Entering.{plainly_within}
-use Rattle.proof_following.proofs.proof_ends_Walking.{ShowsOpen}
-use Rattle.proof_noting.specs.Following.{IsLevel, IsQuiet, timed}
+use Rattle.proof_choice.specs.proof_following.Ended.{sleep_entries}
+use Rattle.proof_choice.specs.proof_following.Quiet.{IsPlainly}
+use Rattle.proof_choice.proofs.Entering.{plainly_within}
+use Rattle.proof_choice.proofs.proof_ends_Walking.{ShowsOpen}
+use Rattle.proof_noting.specs.Following.{IsLevel, IsQuiet, Outset, timed}
 use Rattle.proof_noting.specs.Ground.{GroundAlong, NotingGround}
 use Rattle.proof_noting.specs.Noting.{AtRest, KnowsCourse}
 use Rattle.proof_noting.specs.Steps.{IsPumping, IsUnsent, StepFollows, first_of}
@@ -187,7 +186,7 @@ pumping_idle taken Sleeping pumping = tt
 pumping_idle taken Submitting pumping = tt
 pumping_idle taken here pumping = absurd pumping
 
-module _ (key : List ℕ) (taken : List Entry → Carried → List Told) (from : Start) (shows : ShowsOpen) where
+module _ (key : List ℕ) (taken : List Entry → Carried → List Told) (from : Outset) (shows : ShowsOpen) where
   abbrev heeds : Heeds
   heeds = heeds_alone taken
 

@@ -2,7 +2,7 @@
 use Rattle.std.specs.Prelude.{◌≤◌, is_none, nat_le, ◌<◌, length}
 use Rattle.std.specs.List.{AllByRecursion, flat_map, list_any}
 use Rattle.std.proofs.Common.{◌≡◌, ◌⊎◌, ℕ, ◌==◌, ◌&&◌, not, Bool, true, false, if◌then◌else◌, inl, inr, List, [], ◌∷◌, ◌++◌, Option, Some, None, refl, sym, ap, ap₂, ◌∙◌, subst, append-nil, arith}
-use Rattle.std.proofs.lemmas.Bool.{le-leb, or_left, and_right, eq-eqb, le-ltb}
+use Rattle.std.proofs.lemmas.Bool.{le-leb, or_left, eq-eqb, le-ltb}
 use Rattle.serial_frame.specs.declared.item.Item.TheVariants.{Good}
 use Rattle.serial_frame.specs.declared.unit.Unit.{Unit as LineUnit}
 use Rattle.serial_link.specs.State.{turn_refused}
@@ -36,8 +36,8 @@ use Rattle.host_requests.specs.declared.task.Purpose.TheVariants.{Abort, Attempt
 use Rattle.host_requests.specs.declared.under_way.Progress.{Progress}
 use Rattle.host_requests.specs.declared.under_way.Progress.TheVariants.{Answered, Sent, Submitted}
 use Rattle.host_requests.specs.declared.under_way.UnderWay.{UnderWay}
-use Rattle.host_node.specs.State.{NodeState, is_false}
-use Rattle.host_node.specs.Steps.{after_no_more, after_sleep, asleep, falls_asleep, after_no_more_end}
+use Rattle.host_node.specs.State.{NodeState}
+use Rattle.host_node.specs.Steps.{after_no_more, falls_asleep, after_no_more_end}
 use Rattle.host_node.specs.declared.attempt.Moment.TheVariants.{BetweenTicks}
 use Rattle.host_node.specs.declared.no_more.NoMore.TheVariants.{Unasked}
 use Rattle.host_model.specs.State.{Command, HostState, node_of}
@@ -68,21 +68,20 @@ use Rattle.proof_hearing.specs.proof_queue.proof_attempts.proof_requests.proof_a
 use Rattle.proof_hearing.specs.proof_queue.proof_attempts.proof_requests.proof_alone.Steps.{AreFrames, Judges, IsFramed}
 use Rattle.proof_hearing.specs.proof_queue.proof_attempts.proof_requests.proof_alone.Phases.{Behind, IsJudgedNow, Open, Phase}
 use Rattle.proof_hearing.specs.proof_queue.proof_attempts.proof_requests.law_host.Ends.{ends_sealing}
-use Rattle.proof_hearing.specs.proof_queue.proof_attempts.proof_requests.law_host.Notes.{Start}
 use Rattle.proof_hearing.specs.proof_queue.proof_attempts.proof_work.Doing.{IsTold}
 use Rattle.proof_hearing.proofs.Alike.{same_alike}
 use Rattle.proof_hearing.proofs.BooksGo.{books_on}
 use Rattle.proof_hearing.proofs.proof_requests_Ended.{denied_fails}
-use Rattle.proof_following.specs.Ended.{AreGone, EndingOf, noted_by, outcome_entries, sent_by, rest_of, sleep_entries}
-use Rattle.proof_following.specs.Quiet.{ended_silently}
-use Rattle.proof_following.specs.proof_ends.Ends.{errands_of, seconds_of}
-use Rattle.proof_following.proofs.Ending.{entries_are, late_is}
-use Rattle.proof_following.proofs.Entering.{comes_within, first_after, note_plainly, notes_after, plainly_within}
-use Rattle.proof_following.proofs.HostEnds.{ending_of}
-use Rattle.proof_following.proofs.Ticking.{denied}
-use Rattle.proof_following.proofs.proof_ends_Walking.{ShowsOpen, event_way}
+use Rattle.proof_choice.specs.proof_following.Ended.{AreGone, EndingOf, noted_by, outcome_entries, sent_by, rest_of, sleep_entries}
+use Rattle.proof_choice.specs.proof_following.Quiet.{ended_silently}
+use Rattle.proof_choice.specs.proof_following.proof_ends.Ends.{errands_of, seconds_of}
+use Rattle.proof_choice.proofs.Ending.{entries_are, late_is}
+use Rattle.proof_choice.proofs.Entering.{comes_within, first_after, note_plainly, notes_after, plainly_within}
+use Rattle.proof_choice.proofs.HostEnds.{ending_of}
+use Rattle.proof_choice.proofs.Ticking.{denied}
+use Rattle.proof_choice.proofs.proof_ends_Walking.{ShowsOpen, event_way}
 use Rattle.proof_noting.specs.Behind.{AtOpen, OneLeft}
-use Rattle.proof_noting.specs.Following.{Follows, Lags, Level, timed}
+use Rattle.proof_noting.specs.Following.{Follows, Lags, Level, Outset, timed}
 use Rattle.proof_noting.specs.Ground.{GroundAlong, NotingGround}
 use Rattle.proof_noting.specs.Steps.{first_of}
 use Rattle.proof_noting.specs.Sure.{SureRun, SureStep}
@@ -91,9 +90,9 @@ use Rattle.proof_noting.proofs.AsksSealed.{AskSo, AsksAreSo}
 use Rattle.proof_noting.proofs.Choosing.{goes_nowhere, goes_on}
 use Rattle.proof_noting.proofs.EndCourse.{Badly, badly_goes, made_due, made_of, made_rest}
 use Rattle.proof_noting.proofs.EndNotes.{at_does, at_ends, request_notes}
-use Rattle.proof_noting.proofs.EndBooks.{request_leaves}
+use Rattle.proof_noting.proofs.EndLeaves.{request_leaves, slept_not}
 use Rattle.proof_noting.proofs.EndedBooks.{bad_ended}
-use Rattle.proof_noting.proofs.FramesGo.{follows_by}
+use Rattle.proof_noting.proofs.Followed.{follows_by}
 use Rattle.proof_noting.proofs.Going.{so_on}
 use Rattle.proof_noting.proofs.GoneSo.{are_gone, most}
 use Rattle.proof_noting.proofs.Sendings.{ToNodes, sending_nodes}
@@ -148,14 +147,6 @@ note_of_host (entry.Written Host unit) is = absurd (let bad : false ≡ true = i
 note_of_host (entry.Begin node session command) is = absurd (let bad : false ≡ true = is in cc)
 note_of_host e is = is
 
--- one that sleeps does not fall asleep
-slept : (s : NodeState) → falls_asleep (after_sleep s) ≡ false
-slept s = by s.listens refl
-  where
-    by : (b : Bool) → s.listens ≡ b → falls_asleep (if b then s else asleep s) ≡ false
-    by true is = and_right s.awake (is_false s.listens) (ap is_false is)
-    by false is = refl
-
 nil_left : (a b : List Entry) → a ++ b ≡ [] → a ≡ []
 nil_left [] b is = refl
 nil_left (x ∷ a) b is = absurd (let bad : x ∷ (a ++ b) ≡ [] = is in cc)
@@ -164,7 +155,8 @@ nil_right : (a b : List Entry) → a ++ b ≡ [] → b ≡ []
 nil_right [] b is = is
 nil_right (x ∷ a) b is = absurd (let bad : x ∷ (a ++ b) ≡ [] = is in cc)
 
-module _ (key : List ℕ) (taken : List Entry → Carried → List Told) (from : Start) (shows : ShowsOpen) (asking : AlongRuns (keys_of key) (KnowsSince AsksAreSo)) (ground : GroundAlong taken (first_of key)) (past : List Entry) (m : HostMachine)
+module _ (key : List ℕ) (taken : List Entry → Carried → List Told) (from : Outset) (shows : ShowsOpen) (asking : AlongRuns (keys_of key) (KnowsSince AsksAreSo))
+    (ground : GroundAlong taken (first_of key)) (past : List Entry) (m : HostMachine)
     (unit : LineUnit) (rest : List LineUnit) (behind : List HostEvent) (told : List Entry) (sure : SureRun taken (first_of key) Open past m) (well : SureStep taken sure.run (Judges (Good unit) rest behind told))
     (now : IsJudgedNow m (Good unit) rest behind told) (known : AtOpen key taken from past m) (none_told : told ≡ []) (unframed : IsFramed unit → ⊥) where
   abbrev heeds : Heeds
@@ -225,7 +217,7 @@ module _ (key : List ℕ) (taken : List Entry → Carried → List Told) (from :
     follows = subst (λ (l : List Entry). Follows key taken l (done next event) c) (sym (append-nil past)) follows;
     numbered = ticked.1;
     answered = inr ticked;
-    same = (refl, refl, refl);
+    same = (refl, refl, refl, refl);
   }
 
   -- ---- the request hears of it
@@ -508,7 +500,7 @@ module _ (key : List ℕ) (taken : List Entry → Carried → List Told) (from :
             (node_after heard fails_now n within ∙ ap (λ (o : Option End). does_at n (node_of heard n) (end_does o BetweenTicks)) e
             ∙ ap (λ (p : Purpose). does_at n (node_of heard n) (purpose_does p LinkFailed BetweenTicks)) is
             ∙ ap (λ (b : Bool). if b then after_no_more_end (node_of heard n) else node_of heard n) (eq-eqb n n refl))
-            ∙ ap (λ (b : Bool). asleep_entry b n) (slept (after_no_more (node_of heard n) Unasked))
+            ∙ ap (λ (b : Bool). asleep_entry b n) (slept_not (after_no_more (node_of heard n) Unasked))
           where
             node : IsNode n
             node = (subst (λ (p : Purpose). ToNodes (sent_by p id)) is nodes).0
@@ -567,7 +559,7 @@ module _ (key : List ℕ) (taken : List Entry → Carried → List Told) (from :
             (inl (stays_so.1 ∙ sym (ap (λ (o : Option UnderWay). is_none o) idle))) books_made;
         numbered = ticked.1;
         answered = inr (ap (λ (x : Course). x.ticked) stays_so.0 ∙ ticked.0, ticked.1);
-        same = (ap (λ (x : Course). x.offered) stays_so.0, ap (λ (x : Course). x.opened) stays_so.0, ap (λ (x : Course). x.sealed) stays_so.0);
+        same = (ap (λ (x : Course). x.offered) stays_so.0, ap (λ (x : Course). x.opened) stays_so.0, ap (λ (x : Course). x.sealed) stays_so.0, ap (λ (x : Course). x.heeded) stays_so.0);
       }
         where
           all_notes : AllByRecursion (λ (e : Entry). is_note e ≡ true) notes

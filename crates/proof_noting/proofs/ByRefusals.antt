@@ -11,7 +11,7 @@ use Rattle.zw_text.specs.declared.entry.Entry.TheVariants as entry
 use Rattle.host_heard.specs.declared.told.Told.{Told}
 use Rattle.law_transcript.specs.Units.{Carried}
 use Rattle.law_time.specs.Heeds.{Heeds}
-use Rattle.law_time.specs.Judged.{is_data, is_mark}
+use Rattle.law_time.specs.Judged.{is_data}
 use Rattle.law_time.specs.Moments.{clock}
 use Rattle.law_time.specs.Requests.{asked}
 use Rattle.host_requests.specs.Frames.{request_of}
@@ -30,27 +30,25 @@ use Rattle.proof_hearing.specs.proof_queue.proof_attempts.proof_requests.Walking
 use Rattle.proof_hearing.specs.proof_queue.proof_attempts.proof_requests.law_host.Course.{Course}
 use Rattle.proof_hearing.specs.proof_queue.proof_attempts.proof_requests.law_host.Following.{comes_to, is_before_host}
 use Rattle.proof_hearing.specs.proof_queue.proof_attempts.proof_requests.law_host.Heard.{heeds_alone}
-use Rattle.proof_hearing.specs.proof_queue.proof_attempts.proof_requests.law_host.Notes.{Start}
 use Rattle.proof_hearing.specs.proof_queue.proof_attempts.proof_requests.proof_alone.State.{HostMachine, done}
 use Rattle.proof_hearing.specs.proof_queue.proof_attempts.proof_requests.proof_alone.Steps.{AreFrames, IsOfUnit}
 use Rattle.proof_hearing.specs.proof_queue.proof_attempts.proof_requests.proof_alone.Phases.{IsNumbered, Open}
 use Rattle.proof_hearing.proofs.Alike.{same_alike}
 use Rattle.proof_hearing.proofs.BooksGo.{books_on}
-use Rattle.proof_following.specs.Ended.{sleep_entries}
-use Rattle.proof_following.proofs.Entering.{plain_after}
-use Rattle.proof_following.proofs.proof_ends_Walking.{ShowsOpen}
+use Rattle.proof_choice.specs.proof_following.Ended.{sleep_entries}
+use Rattle.proof_choice.proofs.Entering.{plain_after}
+use Rattle.proof_choice.proofs.proof_ends_Walking.{ShowsOpen}
 use Rattle.proof_noting.specs.Behind.{Answered, AtOpen}
-use Rattle.proof_noting.specs.Following.{IsQuiet, Lags, timed}
+use Rattle.proof_noting.specs.Following.{IsQuiet, Lags, Outset, timed}
 use Rattle.proof_noting.specs.Ground.{GroundAlong, NotingGround}
 use Rattle.proof_noting.specs.Steps.{first_of}
 use Rattle.proof_noting.specs.Sure.{SureRun}
 use Rattle.proof_noting.proofs.Becoming.{Becomes, becomes_heeded, comes_beside}
 use Rattle.proof_noting.proofs.ByAnswers.{follows_same}
-use Rattle.proof_noting.proofs.Choosing.{course_goes, goes_both, goes_on, marks_goes}
-use Rattle.proof_noting.proofs.FramesGo.{marks_keep}
+use Rattle.proof_noting.proofs.Choosing.{course_goes, goes_both, goes_on}
 use Rattle.proof_noting.proofs.Going.{so_on}
 use Rattle.proof_noting.proofs.Lately.{late_on}
-use Rattle.proof_noting.proofs.PayloadMiddle.{marks_unrefused, unit_marks}
+use Rattle.proof_noting.proofs.Marks.{marks_keep, marks_unrefused, units_go}
 use Rattle.proof_noting.proofs.Requested.{Stays, StaysDenied, denied_quiet, read_framed, stays_quiet}
 
 heard_quiet : (h : HostState) (item : Item) (p : Purpose) → IsQuiet h p → IsQuiet (after h (Hears item)) p
@@ -62,7 +60,7 @@ heard_quiet h item p quiet = record { errands = quiet.errands; sleeps = sleeps p
     sleeps (Attempt n more payload) none = none
     sleeps Abort none = none
 
-module _ (key : List ℕ) (taken : List Entry → Carried → List Told) (from : Start) (shows : ShowsOpen) (ground : GroundAlong taken (first_of key)) (past : List Entry) (m : HostMachine) (item : Item) (rest : List LineUnit)
+module _ (key : List ℕ) (taken : List Entry → Carried → List Told) (from : Outset) (shows : ShowsOpen) (ground : GroundAlong taken (first_of key)) (past : List Entry) (m : HostMachine) (item : Item) (rest : List LineUnit)
     (told : List Entry) (sure : SureRun taken (first_of key) Open past m) (known : AtOpen key taken from past m) (still : rest ≡ m.came) where
   abbrev heeds : Heeds
   heeds = heeds_alone taken
@@ -135,7 +133,7 @@ module _ (key : List ℕ) (taken : List Entry → Carried → List Told) (from :
               (goes_both heeds past (e ∷ []) marks c d d (marks_unrefused marks marked)
               (goes_on heeds past (e ∷ []) c d
               (λ keepings texts. plain_after heeds past e [] (choosing keepings texts c) (choosing keepings texts d) refl known.follows.fits (b.0.goes keepings texts) b.0.none_due b.0.fits refl))
-              (marks_goes heeds (past ++ e ∷ []) marks d (all-weaker IsOfUnit (λ (e : Entry). is_mark e ≡ true) unit_marks marks marked)));
+              (units_go heeds (past ++ e ∷ []) marks d marked));
           follows = record {
             fits = b.0.fits;
             none_due = b.0.none_due;

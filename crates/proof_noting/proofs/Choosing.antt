@@ -8,13 +8,12 @@ use Rattle.law_time.specs.Heeds.{Heeds}
 use Rattle.law_time.specs.Judged.{is_mark}
 use Rattle.law_time.specs.Requests.{asked}
 use Rattle.proof_hearing.specs.Hearing.{choosing}
-use Rattle.proof_hearing.specs.proof_queue.proof_attempts.proof_requests.law_host.Course.{Book, Choices, Course, book_of, course_from, each_in_turn, nothing_sealed, with_book, without_texts}
+use Rattle.proof_hearing.specs.proof_queue.proof_attempts.proof_requests.law_host.Course.{Book, Choices, Course, book_of, each_in_turn, nothing_sealed, with_book, without_texts}
 use Rattle.proof_hearing.specs.proof_queue.proof_attempts.proof_requests.law_host.Ends.{ends_sealing, is_of_sealed}
 use Rattle.proof_hearing.specs.proof_queue.proof_attempts.proof_requests.law_host.Following.{comes_to, course_after, is_note, may_stand}
-use Rattle.proof_hearing.specs.proof_queue.proof_attempts.proof_requests.law_host.Notes.{Start, course_of}
-use Rattle.proof_following.specs.Quiet.{IsPlainly, ended_silently}
-use Rattle.proof_following.proofs.Entering.{course_both, makes_none, marks_after, notes_after, plain_after}
-use Rattle.proof_noting.specs.Following.{CourseOf, Goes}
+use Rattle.proof_choice.specs.proof_following.Quiet.{IsPlainly, ended_silently}
+use Rattle.proof_choice.proofs.Entering.{course_both, makes_none, marks_after, notes_after, plain_after}
+use Rattle.proof_noting.specs.Following.{CourseOf, Goes, Outset, course_since, first_course}
 
 -- ---- the end of a request with nothing to note
 
@@ -94,24 +93,24 @@ module _ (heeds : Heeds) where
   }
 
   -- what was heard since the start is more, and so is the course
-  pub split_on : (from : Start) (past heard told : List Entry) → past ≡ from.before ++ heard → past ++ told ≡ from.before ++ (heard ++ told)
+  pub split_on : (from : Outset) (past heard told : List Entry) → past ≡ from.before ++ heard → past ++ told ≡ from.before ++ (heard ++ told)
   split_on from past heard told split = ap (λ (l : List Entry). l ++ told) split ∙ append_assoc from.before heard told
 
-  pub course_on : (from : Start) (past heard told : List Entry) (choices : Choices) → past ≡ from.before ++ heard → begins_refused told ≡ false
-      → course_of heeds from (heard ++ told) choices ≡ course_after heeds past told (course_of heeds from heard choices)
+  pub course_on : (from : Outset) (past heard told : List Entry) (choices : Choices) → past ≡ from.before ++ heard → begins_refused told ≡ false
+      → course_since heeds from (heard ++ told) choices ≡ course_after heeds past told (course_since heeds from heard choices)
   course_on from past heard told choices split unrefused =
-      course_both heeds from.before heard told (course_from from.books choices) unrefused
-      ∙ ap (λ (l : List Entry). course_after heeds l told (course_of heeds from heard choices)) (sym split)
+      course_both heeds from.before heard told (first_course from choices) unrefused
+      ∙ ap (λ (l : List Entry). course_after heeds l told (course_since heeds from heard choices)) (sym split)
 
   -- the course of a transcript goes on so
-  pub course_goes : (from : Start) (past told : List Entry) (c next : Course) → begins_refused told ≡ false → CourseOf heeds from past c → Goes heeds past told c next → CourseOf heeds from (past ++ told) next
+  pub course_goes : (from : Outset) (past told : List Entry) (c next : Course) → begins_refused told ≡ false → CourseOf heeds from past c → Goes heeds past told c next → CourseOf heeds from (past ++ told) next
   course_goes from past told c next unrefused of goes = record {
     heard = of.heard ++ told;
     split = split_on from past of.heard told of.split;
     kept = of.kept ++ goes.kept;
     opened = of.opened ++ goes.opened;
     is = λ keepings texts.
-        ap₂ (λ (k : List Bool) (t : List (Option (List ℕ))). course_of heeds from (of.heard ++ told) (record { keepings = k; texts = t })) (append_assoc of.kept goes.kept keepings)
+        ap₂ (λ (k : List Bool) (t : List (Option (List ℕ))). course_since heeds from (of.heard ++ told) (record { keepings = k; texts = t })) (append_assoc of.kept goes.kept keepings)
         (append_assoc of.opened goes.opened texts)
         ∙ course_on from past of.heard told (record { keepings = of.kept ++ (goes.kept ++ keepings); texts = of.opened ++ (goes.opened ++ texts) }) of.split unrefused
         ∙ ap (λ (d : Course). course_after heeds past told d) (of.is (goes.kept ++ keepings) (goes.opened ++ texts))
@@ -119,5 +118,5 @@ module _ (heeds : Heeds) where
   }
 
   -- and the course itself, where its choices alone are told
-  pub course_is : (from : Start) (past : List Entry) (c next : Course) → c ≡ next → CourseOf heeds from past c → CourseOf heeds from past next
+  pub course_is : (from : Outset) (past : List Entry) (c next : Course) → c ≡ next → CourseOf heeds from past c → CourseOf heeds from past next
   course_is from past c next same of = record { heard = of.heard; split = of.split; kept = of.kept; opened = of.opened; is = λ keepings texts. of.is keepings texts ∙ ap (choosing keepings texts) same }

@@ -30,7 +30,7 @@ use Rattle.host_requests.specs.declared.task.Task.TheVariants.{IsFailed, Neighbo
 use Rattle.host_requests.specs.declared.task.Purpose.{Purpose}
 use Rattle.host_requests.specs.declared.task.Purpose.TheVariants.{Abort, Attempt, Housekeeping}
 use Rattle.host_requests.specs.declared.under_way.UnderWay.{UnderWay}
-use Rattle.host_node.specs.Steps.{falls_asleep}
+use Rattle.host_node.specs.Steps.{falls_asleep, tick_end}
 use Rattle.host_node.specs.declared.attempt.AttemptEnd.{AttemptEnd}
 use Rattle.host_node.specs.declared.attempt.AttemptEnd.TheVariants.{Again, NoneRan, Unanswered}
 use Rattle.host_node.specs.declared.attempt.Moment.TheVariants.{BetweenTicks}
@@ -38,7 +38,7 @@ use Rattle.host_model.specs.State.{HostState, node_of}
 use Rattle.host_model.specs.Sessions.{open_command}
 use Rattle.host_model.specs.After.{after, requests_do}
 use Rattle.host_model.specs.Ends.{Bad, Good as part_good, PartEnd, Passed_over, after_end_if, asleep_entry, out_entry, attempt_entries, failed_entry, neighbours_entry, part_end, part_entries, task_entries}
-use Rattle.host_model.specs.Events.{Requests_do}
+use Rattle.host_model.specs.Events.{Node_ticks, Requests_do}
 use Rattle.host_model.specs.Facts.{HostFacts}
 use Rattle.host_model.specs.Outs.{noted, request_entries}
 use Rattle.proof_choice.proofs.HostOuts.{EndsAre, OutsAre, outs_put}
@@ -54,11 +54,11 @@ use Rattle.proof_hearing.specs.proof_queue.proof_attempts.proof_work.Doing.{IsTo
 use Rattle.proof_hearing.proofs.SeriesGoes.{lasts_of, others_by}
 use Rattle.proof_hearing.proofs.Alike.{same_alike}
 use Rattle.proof_hearing.proofs.BooksGo.{books_on}
-use Rattle.proof_following.specs.Ended.{EndingOf, IsByFrame, IsFrameEvent, answer_entries, errand_entries, failed_entries, noted_by, outcome_entries, sent_by, sleep_entries}
-use Rattle.proof_following.proofs.Ending.{frame_notes_are, interview_fails}
-use Rattle.proof_following.proofs.Framing.{callback_framed, response_framed, update_framed}
-use Rattle.proof_following.proofs.proof_ends_Noting.{badly}
-use Rattle.proof_noting.proofs.EndBooks.{request_leaves}
+use Rattle.proof_choice.specs.proof_following.Ended.{EndingOf, IsByFrame, IsFrameEvent, answer_entries, errand_entries, failed_entries, noted_by, outcome_entries, sent_by, sleep_entries}
+use Rattle.proof_choice.proofs.Ending.{frame_notes_are, interview_fails}
+use Rattle.proof_choice.proofs.Framing.{callback_framed, response_framed, update_framed}
+use Rattle.proof_choice.proofs.proof_ends_Noting.{badly}
+use Rattle.proof_noting.proofs.EndLeaves.{request_leaves}
 use Rattle.proof_noting.proofs.Lately.{KeepsLate}
 use Rattle.proof_noting.proofs.Sendings.{ToNodes}
 
@@ -79,6 +79,10 @@ un_noted (e ∷ l) all = (all.0, un_noted l all.1)
 
 pub request_notes : (h : HostState) (event : RequestsEvent) → AllByRecursion (λ (e : Entry). is_note e ≡ true) (request_entries h event)
 request_notes h event = un_noted (request_entries h event) (outs_put (λ (e : Entry). is_note e ≡ true) h (Requests_do event BetweenTicks) ends_notes)
+
+pub tick_notes : (h : HostState) (n : ℕ) → AllByRecursion (λ (e : Entry). is_note e ≡ true) (attempt_entries n (tick_end (node_of h n)) (open_command (node_of h n)))
+tick_notes h n =
+    un_noted (attempt_entries n (tick_end (node_of h n)) (open_command (node_of h n))) (outs_put (λ (e : Entry). is_note e ≡ true) h (Node_ticks n) ends_notes.attempts)
 
 module _ (taken : List Entry → Carried → List Told) (n : ℕ) where
   abbrev pub Keep : List Entry → List Entry → Type 0

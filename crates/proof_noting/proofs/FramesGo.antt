@@ -1,7 +1,7 @@
 -- A frame that brings no payload of a node is judged: what its acknowledgement makes of the course follows the host, once the event behind it is gone.
 use Rattle.std.specs.Prelude.{◌≤◌, is_none}
 use Rattle.std.specs.List.{AllByRecursion, flat_map}
-use Rattle.std.proofs.Common.{◌≡◌, ◌⊎◌, ℕ, ◌==◌, Bool, true, false, if◌then◌else◌, inl, inr, List, [], ◌∷◌, ◌++◌, Option, Some, None, refl, sym, ap, ◌∙◌, subst, append-nil, arith}
+use Rattle.std.proofs.Common.{◌≡◌, ℕ, ◌==◌, Bool, true, false, if◌then◌else◌, inl, inr, List, [], ◌∷◌, ◌++◌, Option, Some, None, refl, sym, ap, ◌∙◌, subst, append-nil, arith}
 use Rattle.std.proofs.lemmas.Bool.{both_ways}
 use Rattle.zw_base.proofs.Each.{all-weaker}
 use Rattle.serial_frame.specs.Frame.{FrameParts}
@@ -14,7 +14,6 @@ use Rattle.chip_functions.specs.Field.{IsNode}
 use Rattle.chip_functions.specs.declared.notice.Update.{Update}
 use Rattle.chip_functions.specs.declared.notice.Update.TheVariants.{Received}
 use Rattle.chip_functions.specs.declared.request.Request.{Request}
-use Rattle.zw_words.specs.declared.side.Side.TheVariants.{Host}
 use Rattle.zw_text.specs.declared.entry.Entry.{Entry}
 use Rattle.zw_text.specs.declared.entry.Entry.TheVariants as entry
 use Rattle.host_heard.specs.declared.told.Told.{Told}
@@ -22,9 +21,9 @@ use Rattle.law_transcript.specs.Lists.{EachAfter}
 use Rattle.law_transcript.specs.Units.{Carried, bringing_in, request_in, sending_of}
 use Rattle.law_time.specs.Ends.{is_called_back, is_ending_here}
 use Rattle.law_time.specs.Heeds.{Heeds}
-use Rattle.law_time.specs.Judged.{is_mark, last_of}
+use Rattle.law_time.specs.Judged.{last_of}
 use Rattle.law_time.specs.Moments.{clock}
-use Rattle.law_time.specs.Requests.{Asked, asked, judged_since}
+use Rattle.law_time.specs.Requests.{Asked, asked}
 use Rattle.law_time.specs.Interviews.{fails}
 use Rattle.law_time.specs.Sessions.{last_command}
 use Rattle.host_requests.specs.Events.{RequestsEvent, end_at, interviewed_by}
@@ -32,7 +31,7 @@ use Rattle.host_requests.specs.declared.end.How.{How}
 use Rattle.host_requests.specs.declared.next.Next.{Next}
 use Rattle.host_requests.specs.declared.next.Next.TheVariants.{Ends, GoesOn}
 use Rattle.host_requests.specs.declared.task.Purpose.{Purpose}
-use Rattle.host_requests.specs.declared.task.Purpose.TheVariants.{Abort, Attempt, Housekeeping}
+use Rattle.host_requests.specs.declared.task.Purpose.TheVariants.{Attempt, Housekeeping}
 use Rattle.host_requests.specs.declared.under_way.UnderWay.{UnderWay}
 use Rattle.host_requests.specs.Events.RequestsEvent.{Updates}
 use Rattle.host_requests.specs.Next.{at_update, end_from, end_of, next_from, went_on}
@@ -50,105 +49,61 @@ use Rattle.host_model.specs.Ends.{Bad, Good as part_good, end_entries, end_entri
 use Rattle.host_model.specs.Facts.{HostFacts}
 use Rattle.host_model.specs.Taking.{told_requests}
 use Rattle.proof_choice.specs.proof_giving.proof_queue.proof_attempts.Since.{AlongRuns, KnowsSince}
-use Rattle.proof_choice.proofs.Stepping.{not_awaiting, time_told}
-use Rattle.proof_choice.proofs.proof_requests_EndsHere.{frame_ends_so}
 use Rattle.proof_choice.proofs.proof_requests_Telling.{mark_quiet, quiet_goes}
 use Rattle.proof_choice.proofs.Doings.{node_after}
-use Rattle.proof_choice.proofs.ReadyTie.{asked_of, ground_of, facts_of}
+use Rattle.proof_choice.proofs.ReadyTie.{facts_of}
 use Rattle.proof_hearing.specs.Books.{BooksSo, nonces_to}
 use Rattle.proof_hearing.specs.Hearing.{choosing}
-use Rattle.proof_hearing.specs.proof_queue.proof_attempts.proof_requests.Asking.{TieAsked, doing_of, doing_from, doing_next}
+use Rattle.proof_hearing.specs.proof_queue.proof_attempts.proof_requests.Asking.{doing_of, doing_from, doing_next}
 use Rattle.proof_hearing.specs.proof_queue.proof_attempts.proof_requests.Ends.{EndsBy, EndsFrom, EndsHere, TellsEnd, next_at}
 use Rattle.proof_hearing.specs.proof_queue.proof_attempts.proof_requests.Standing.{GoesOn as goes_with}
 use Rattle.proof_hearing.specs.proof_queue.proof_attempts.proof_requests.Saying.{frame_next as host_next}
-use Rattle.proof_hearing.specs.proof_queue.proof_attempts.proof_requests.Walking.{Ground as RequestsGround}
 use Rattle.proof_hearing.specs.proof_queue.proof_attempts.proof_requests.law_host.Course.{Course, each_in_turn}
-use Rattle.proof_hearing.specs.proof_queue.proof_attempts.proof_requests.law_host.Ends.{ends_by_frame, ends_sealing, ends_badly}
-use Rattle.proof_hearing.specs.proof_queue.proof_attempts.proof_requests.law_host.Following.{course_after, is_note, comes_to}
+use Rattle.proof_hearing.specs.proof_queue.proof_attempts.proof_requests.law_host.Ends.{ends_by_frame, ends_badly}
+use Rattle.proof_hearing.specs.proof_queue.proof_attempts.proof_requests.law_host.Following.{course_after, is_note}
 use Rattle.proof_hearing.specs.proof_queue.proof_attempts.proof_requests.law_host.Heard.{heeds_alone}
 use Rattle.proof_hearing.specs.proof_queue.proof_attempts.proof_requests.law_host.HostLegal.{IsHeeded}
 use Rattle.proof_hearing.specs.proof_queue.proof_attempts.proof_requests.law_host.Nonces.{is_late}
-use Rattle.proof_hearing.specs.proof_queue.proof_attempts.proof_requests.law_host.Notes.{Start}
 use Rattle.proof_hearing.specs.proof_queue.proof_attempts.proof_requests.proof_alone.State.{HostMachine, done}
 use Rattle.proof_hearing.specs.proof_queue.proof_attempts.proof_requests.proof_alone.Steps.{IsOfUnit, Judges}
 use Rattle.proof_hearing.specs.proof_queue.proof_attempts.proof_requests.proof_alone.Phases.{Behind, IsJudgedNow, Open, Phase}
-use Rattle.proof_hearing.specs.proof_queue.proof_attempts.proof_requests.proof_waking.Judged.{TieFrames}
 use Rattle.proof_hearing.specs.proof_queue.proof_attempts.proof_work.Doing.{IsTold}
 use Rattle.proof_hearing.proofs.Alike.{same_alike, Alike}
 use Rattle.proof_hearing.proofs.BooksGo.{books_on, KeepsOrders}
 use Rattle.proof_hearing.proofs.proof_requests_Growing.{asked_on}
-use Rattle.proof_following.proofs.Interviews.{interviews_may}
-use Rattle.proof_following.specs.Quiet.{acknowledges, ended_silently}
-use Rattle.proof_following.specs.Ended.{AreGone, EndingOf, IsByFrame, IsFrameEvent, noted_by, outcome_entries, sent_by}
-use Rattle.proof_following.proofs.proof_ends_Walking.{ShowsOpen, Informs, TellsWalk, event_way, informs_so}
-use Rattle.proof_following.proofs.Acks.{ack_after, frame_next_is, judges_request}
-use Rattle.proof_following.proofs.Framing.{none_ends, informed_note, one_ends}
-use Rattle.proof_following.proofs.Ending.{entries_are, frame_ends_it}
-use Rattle.proof_following.proofs.Hearing.{entries_tell}
-use Rattle.proof_following.proofs.HostEnds.{ending_of}
-use Rattle.proof_following.proofs.Informing.{IsInterview, interview_follows, node_in}
-use Rattle.proof_following.proofs.proof_ends_Noting.{badly}
+use Rattle.proof_choice.proofs.Interviews.{interviews_may}
+use Rattle.proof_choice.specs.proof_following.Quiet.{acknowledges}
+use Rattle.proof_choice.specs.proof_following.Ended.{AreGone, EndingOf, IsByFrame, IsFrameEvent, noted_by, outcome_entries, sent_by}
+use Rattle.proof_choice.proofs.proof_ends_Walking.{ShowsOpen, Informs, TellsWalk, event_way, informs_so}
+use Rattle.proof_choice.proofs.Acks.{ack_after, frame_next_is, judges_request}
+use Rattle.proof_choice.proofs.Framing.{none_ends, informed_note, one_ends}
+use Rattle.proof_choice.proofs.Ending.{entries_are, frame_ends_it}
+use Rattle.proof_choice.proofs.Hearing.{entries_tell}
+use Rattle.proof_choice.proofs.HostEnds.{ending_of}
+use Rattle.proof_choice.proofs.Informing.{IsInterview, interview_follows, node_in}
+use Rattle.proof_choice.proofs.proof_ends_Noting.{badly}
 use Rattle.proof_noting.specs.Behind.{AtOpen, OneLeft}
-use Rattle.proof_noting.specs.Following.{CourseOf, Follows, Goes, Lags, Level, timed}
+use Rattle.proof_noting.specs.Following.{CourseOf, Goes, Outset}
 use Rattle.proof_noting.specs.Ground.{GroundAlong, NotingGround}
 use Rattle.proof_noting.specs.Steps.{first_of}
 use Rattle.proof_noting.specs.Sure.{SureRun, SureStep}
 use Rattle.proof_noting.specs.Ticking.{OverSo}
-use Rattle.proof_noting.proofs.Aborts.{abort_unended, abort_unending}
-use Rattle.proof_noting.proofs.Becoming.{BecomesLevel, becomes_heeded, comes_level, level_books, level_over}
-use Rattle.proof_noting.proofs.Choosing.{course_goes, goes_both, marks_goes, notes_goes}
-use Rattle.proof_noting.proofs.Lately.{KeepsLate, late_on}
-use Rattle.proof_noting.proofs.PayloadMiddle.{marks_unrefused, unit_marks}
-use Rattle.proof_noting.proofs.Requested.{IsFrameNext, abort_sends}
+use Rattle.proof_noting.proofs.Followed.{follows_by, over_on}
+use Rattle.proof_noting.proofs.Choosing.{course_goes, goes_both, notes_goes}
+use Rattle.proof_noting.proofs.Lately.{late_on}
+use Rattle.proof_noting.proofs.JudgedFrame.{FrameSo, frame_so, goes_unended}
+use Rattle.proof_noting.proofs.Marks.{marks_keep, marks_unrefused, units_go}
 use Rattle.proof_noting.proofs.Surely.{sure_step}
 use Rattle.proof_noting.proofs.AsksSealed.{AskSo, AsksAreSo}
-use Rattle.proof_noting.proofs.EndBooks.{queue_told}
+use Rattle.proof_noting.proofs.EndLeaves.{queue_told}
 use Rattle.proof_noting.proofs.EndCourse.{Badly, badly_goes, made_due, made_of, made_rest}
 use Rattle.proof_noting.proofs.EndNotes.{at_does, at_ends, by_frame, frame_told, framed_is, good_called, outcome_well, quiet_books, request_notes}
 use Rattle.proof_noting.proofs.EndedBooks.{bad_ended, kept_ended}
 use Rattle.proof_noting.proofs.GoneSo.{are_gone, most}
 use Rattle.proof_noting.proofs.Sendings.{ToNodes, sending_nodes}
 
--- ---- where the course follows
-
--- it has a request under way where the host does, or an abort that is over
-pub follows_by : (key : List ℕ) (taken : List Entry → Carried → List Told) (past : List Entry) (m : HostMachine) (c : Course) → c.fits ≡ true → c.due ≡ [] → c.ticked ≤ m.clock
-    → AllByRecursion (IsHeeded taken) c.heeded → m.awaits ≡ false → OverSo past m c → BooksSo key (heeds_alone taken) past m.state c → Follows key taken past m c
-follows_by key taken past m c fits none low heeded unnumbered over books = record { fits = fits; none_due = none; low = low; heeded = heeded; so = by over }
-  where
-    at : timed m past ≡ past
-    at = ap (λ (b : Bool). if b then past ++ entry.Time m.clock ∷ [] else past) unnumbered
-
-    now : (d : Course) → BooksSo key (heeds_alone taken) past m.state d → BooksSo key (heeds_alone taken) (timed m past) m.state d
-    now d so = subst (λ (l : List Entry). BooksSo key (heeds_alone taken) l m.state d) (sym at) so
-
-    by : OverSo past m c → Level key (heeds_alone taken) past m c ⊎ Lags key (heeds_alone taken) past m c
-    by (inl level) = inl (record { over = level; books = now c books })
-    by (inr (running, idle, (id, request))) =
-        let same : ended_silently past c ≡ record c { over = true }
-        = ap (λ (l : List Carried). each_in_turn ends_sealing l (record c { over = true })) (abort_sends past id request) in
-        inr (record {
-          running = running;
-          none = idle;
-          purpose = Abort;
-          id = id;
-          request = request;
-          carries = tt;
-          well = tt;
-          unended = abort_unended past id request true (judged_since (asked past));
-          quiet = record { errands = refl; sleeps = refl; interviews = refl };
-          books = subst (λ (d : Course). BooksSo key (heeds_alone taken) (timed m past) m.state d) (sym same) (now (record c { over = true }) books);
-          why = inr (inr refl);
-        })
-
-pub marks_keep : (taken : List Entry → Carried → List Told) (n : ℕ) (past marks : List Entry) → AllByRecursion IsOfUnit marks → EachAfter (KeepsLate taken n) past marks
-marks_keep taken n past [] all = tt
-marks_keep taken n past (entry.Dropped Host ∷ marks) all = (tt, marks_keep taken n (past ++ entry.Dropped Host ∷ []) marks all.1)
-marks_keep taken n past (entry.Garbled Host unit ∷ marks) all = (tt, marks_keep taken n (past ++ entry.Garbled Host unit ∷ []) marks all.1)
-marks_keep taken n past (entry.Overrun Host ∷ marks) all = (tt, marks_keep taken n (past ++ entry.Overrun Host ∷ []) marks all.1)
-marks_keep taken n past (e ∷ marks) all = absurd all.0
-
-module _ (key : List ℕ) (taken : List Entry → Carried → List Told) (from : Start) (shows : ShowsOpen) (ground : GroundAlong taken (first_of key)) (past : List Entry) (m : HostMachine) (f : FrameParts) (rest : List LineUnit)
+module _ (key : List ℕ) (taken : List Entry → Carried → List Told) (from : Outset) (shows : ShowsOpen) (ground : GroundAlong taken (first_of key)) (past : List Entry) (m : HostMachine)
+    (f : FrameParts) (rest : List LineUnit)
     (behind : List HostEvent) (told marks : List Entry) (sure : SureRun taken (first_of key) Open past m) (well : SureStep taken sure.run (Judges (Good (Framed f)) rest behind told))
     (now : IsJudgedNow m (Good (Framed f)) rest behind told) (known : AtOpen key taken from past m) (are : told ≡ acknowledges ∷ marks) (marked : AllByRecursion IsOfUnit marks)
     (brings : bringing_in (unit_text (Framed f)) ≡ []) where
@@ -170,46 +125,11 @@ module _ (key : List ℕ) (taken : List Entry → Carried → List Told) (from :
   abbrev c : Course
   c = known.course
 
-  unnumbered : m.awaits ≡ false
-  unnumbered = not_awaiting m.awaits acknowledges told marks now.numbered are
-
-  noting : NotingGround taken Open past m
-  noting = ground Open past m sure
-
-  asks : RequestsGround Open past m
-  asks = ground_of Open past m noting.grounds
-
-  frames : TieFrames past (Framed f ∷ rest)
-  frames = subst (λ (l : List LineUnit). TieFrames past l) now.takes asks.0.0.1.frames
-
-  tie : TieAsked past m.clock m.clock (Framed f ∷ rest) (doing_of m.state)
-  tie = subst (λ (l : List LineUnit). TieAsked past m.clock m.clock l (doing_of m.state)) now.takes (asked_of Open past m noting.grounds)
-
-  time : clock past ≡ m.clock
-  time = time_told Open past told m asks now.numbered acknowledges marks are
-
-  -- how the frame ends the request under way by the transcript
-  ends : EndsFrom later m.state.requests.last_id (host_next m.state.requests.last_id m.state.requests.first f) m.state.requests.under_way
-  ends = frame_ends_so past [] f rest m.clock (doing_of m.state) tt frames time tie
-
-  -- ---- what the course comes to
-
-  level : BecomesLevel key taken past m (comes_to heeds past acknowledges) c
-  level =
-      comes_level key taken shows Open past m noting tt time acknowledges tt c known.answered known.follows refl refl (subst (λ (l : List LineUnit). IsFrameNext l) (sym now.takes) tt)
+  judged : FrameSo key taken past m f rest behind c
+  judged = frame_so key taken from ground shows past m f rest behind told marks sure well now known are
 
   abbrev d : Course
-  d = level.0.next
-
-  over_now : OverSo past m d
-  over_now = level_over key heeds past m d level.2
-
-  books_now : BooksSo key heeds past m.state d
-  books_now =
-      subst (λ (l : List Entry). BooksSo key heeds l m.state d) (ap (λ (b : Bool). if b then past ++ entry.Time m.clock ∷ [] else past) unnumbered) (level_books key heeds past m d level.2)
-
-  heeded_now : AllByRecursion (IsHeeded taken) d.heeded
-  heeded_now = becomes_heeded key taken past m (comes_to heeds past acknowledges) c known.follows.heeded level.0
+  d = judged.level.0.next
 
   -- ---- what the frame makes of it
 
@@ -225,15 +145,15 @@ module _ (key : List ℕ) (taken : List Entry → Carried → List Told) (from :
   module _ (notes : List Entry) (it : Made notes) where
     acked : (keepings : List Bool) (texts : List (Option (List ℕ))) → course_after heeds past (acknowledges ∷ []) (choosing (it.kept ++ keepings) texts c) ≡ choosing keepings texts it.made
     acked keepings texts =
-        ack_after heeds past (unit_text (Framed f)) [] (choosing (it.kept ++ keepings) texts c) (choosing (it.kept ++ keepings) texts d) known.follows.fits (level.0.goes (it.kept ++ keepings) texts)
-        level.0.none_due level.0.fits (frame_next_is past f rest frames)
+        ack_after heeds past (unit_text (Framed f)) [] (choosing (it.kept ++ keepings) texts c) (choosing (it.kept ++ keepings) texts d) known.follows.fits (judged.level.0.goes (it.kept ++ keepings) texts)
+        judged.level.0.none_due judged.level.0.fits (frame_next_is past f rest judged.frames)
         ∙ judges_request heeds past (unit_text (Framed f)) later (choosing (it.kept ++ keepings) texts d) brings
         ∙ it.goes keepings texts
 
     goes_made : Goes heeds past (acknowledges ∷ marks) c it.made
     goes_made =
         goes_both heeds past (acknowledges ∷ []) marks c it.made it.made (marks_unrefused marks marked) (record { kept = it.kept; opened = []; goes = acked })
-        (marks_goes heeds later marks it.made (all-weaker IsOfUnit (λ (e : Entry). is_mark e ≡ true) unit_marks marks marked))
+        (units_go heeds later marks it.made marked)
 
     of_made : CourseOf heeds from whole it.made
     of_made = course_goes heeds from past (acknowledges ∷ marks) c it.made refl known.of goes_made
@@ -250,23 +170,16 @@ module _ (key : List ℕ) (taken : List Entry → Carried → List Told) (from :
       notes = all;
       next = record it.made { due = [] };
       goes = notes_goes heeds whole notes it.made all it.fits it.due;
-      follows = follows_by key taken (whole ++ notes) (done next event) (record it.made { due = [] }) it.fits refl (no_more it.ticked) it.heeded unnumbered over books;
-      numbered = unnumbered;
-      answered = inr (it.ticked, unnumbered);
-      same = (refl, refl, refl);
+      follows = follows_by key taken (whole ++ notes) (done next event) (record it.made { due = [] }) it.fits refl (no_more it.ticked) it.heeded judged.unnumbered over books;
+      numbered = judged.unnumbered;
+      answered = inr (it.ticked, judged.unnumbered);
+      same = (refl, refl, refl, refl);
     }
       where
         no_more : it.made.ticked ≡ m.clock → it.made.ticked ≤ m.clock
         no_more is = omega (arith, is)
 
   -- ---- nothing comes of it
-
-  over_then : (l : List Entry) → (asked l).frame ≡ (asked past).frame → OverSo past m d → OverSo l m d
-  over_then l same (inl level) = inl level
-  over_then l same (inr (running, idle, (id, request))) = inr (running, idle, (id, ap request_in same ∙ request))
-
-  asked_acked : (asked later).frame ≡ (asked past).frame
-  asked_acked = ap (λ (a : Asked). a.frame) (asked_on past (acknowledges ∷ []) refl (refl, tt))
 
   asked_whole : (asked whole).frame ≡ (asked past).frame
   asked_whole = ap (λ (a : Asked). a.frame) (asked_on past (acknowledges ∷ marks) refl (refl, all-weaker IsOfUnit goes_with (λ e mark. quiet_goes e (mark_quiet e mark)) marks marked))
@@ -276,23 +189,11 @@ module _ (key : List ℕ) (taken : List Entry → Carried → List Told) (from :
     made = record d { put = 0 };
     kept = [];
     goes = λ keepings texts. none_ends heeds later m.state 0 (record (choosing keepings texts d) { put = 0 }) none;
-    due = level.0.none_due;
-    fits = level.0.fits;
-    ticked = level.1;
-    heeded = heeded_now;
+    due = judged.level.0.none_due;
+    fits = judged.level.0.fits;
+    ticked = judged.level.1;
+    heeded = judged.heeded;
   }
-
-  -- what frame ends no request, where none goes on by it
-  none_then : ((u : UnderWay) → m.state.requests.under_way ≡ Some u → is_ending_here later ≡ false) → d.over ≡ false → is_ending_here later ≡ false
-  none_then none running = by (over_then later asked_acked over_now)
-    where
-      some : (o : Option UnderWay) → m.state.requests.under_way ≡ o → d.over ≡ is_none o → is_ending_here later ≡ false
-      some None is level = absurd (let bad : false ≡ true = sym running ∙ level in cc)
-      some (Some u) is level = none u is
-
-      by : OverSo later m d → is_ending_here later ≡ false
-      by (inl level) = some m.state.requests.under_way refl level
-      by (inr (other, idle, (id, request))) = abort_unending later id request
 
   late_acked : (n : ℕ) → IsNode n → is_late heeds past n ≡ true → is_late heeds whole n ≡ true
   late_acked n is = late_on taken n past (acknowledges ∷ marks) (inl refl, marks_keep taken n later marks marked)
@@ -303,39 +204,24 @@ module _ (key : List ℕ) (taken : List Entry → Carried → List Told) (from :
   passes goes_on = record {
     course = record d { put = 0 };
     of = of_made [] it;
-    follows = follows_by key taken whole next (record d { put = 0 }) level.0.fits level.0.none_due (omega (arith, same)) heeded_now unnumbered (over_then whole asked_whole over_now)
-        (books_on key heeds past whole m.state d.books d.offered d.opened d.sealed books_now heard refl (λ n. refl) (λ n is. same_alike (node_of m.state n) (node_of heard n) refl) (λ number t found. found) late_acked);
-    answered = inr (level.1, unnumbered);
+    follows = follows_by key taken whole next (record d { put = 0 }) judged.level.0.fits judged.level.0.none_due (omega (arith, same)) judged.heeded judged.unnumbered (over_on past whole m m d d (ap request_in asked_whole) refl refl judged.over)
+        (books_on key heeds past whole heard d.books d.offered d.opened d.sealed judged.heard_books heard refl (λ n. refl) (λ n is. same_alike (node_of heard n) (node_of heard n) refl)
+        (λ number t found. found) late_acked);
+    answered = inr (judged.level.1, judged.unnumbered);
   }
     where
       same : d.ticked ≡ m.clock
-      same = level.1
+      same = judged.level.1
 
       it : Made []
-      it = none_made (none_then (λ u is. by u (subst (EndsFrom later m.state.requests.last_id (host_next m.state.requests.last_id m.state.requests.first f)) is ends)))
-        where
-          by : (u : UnderWay) → EndsBy later m.state.requests.last_id u (host_next m.state.requests.last_id m.state.requests.first f u) → is_ending_here later ≡ false
-          by u it = subst (λ (x : Next). EndsBy later m.state.requests.last_id u x) (goes_on u) it
+      it = none_made (judged.unended (goes_unended past m f judged.ends goes_on))
 
   -- ---- the runs, with what became of the acknowledgement and without
-
-  sure_then : SureRun taken (first_of key) (Behind behind) later next
-  sure_then =
-      sure_step taken (first_of key) {next = Behind behind} sure (Judges (Good (Framed f)) rest behind (acknowledges ∷ [])) (
-        refl,
-        record { takes = now.takes; may = now.may; followed = now.followed; told_so = ([], [], refl, tt, refl); numbered = λ awaits. absurd (both_ways m.awaits unnumbered awaits) },
-        refl,
-      )
-      (record { well = well.well; heeds_so = well.heeds_so; heeds_as = well.heeds_as; hears = well.hears })
 
   sure_whole : SureRun taken (first_of key) (Behind behind) whole next
   sure_whole =
       subst (λ (l : List Entry). SureRun taken (first_of key) (Behind behind) (past ++ l) next) are
       (sure_step taken (first_of key) {next = Behind behind} sure (Judges (Good (Framed f)) rest behind told) (refl, now, refl) well)
-
-  heard_books : BooksSo key heeds past heard d
-  heard_books =
-      books_on key heeds past past m.state d.books d.offered d.opened d.sealed books_now heard refl (λ n. refl) (λ n is. same_alike (node_of m.state n) (node_of heard n) refl) (λ number t found. found) (λ n is late. late)
 
   abbrev begun : Course
   begun = record d { put = 0 }
@@ -363,7 +249,7 @@ module _ (key : List ℕ) (taken : List Entry → Carried → List Told) (from :
     of_told = frame_told event framed
 
     run_then : SureRun taken (first_of key) here later next
-    run_then = subst (λ (l : List HostEvent). SureRun taken (first_of key) (Behind l) later next) behind_is sure_then
+    run_then = subst (λ (l : List HostEvent). SureRun taken (first_of key) (Behind l) later next) behind_is judged.sure
 
     run_whole : SureRun taken (first_of key) here whole next
     run_whole = subst (λ (l : List HostEvent). SureRun taken (first_of key) (Behind l) whole next) behind_is sure_whole
@@ -385,7 +271,7 @@ module _ (key : List ℕ) (taken : List Entry → Carried → List Told) (from :
     ends_so (Some u) it = subst (λ (n : Next). EndsBy later id u n) (nexts u) it
 
     ends_it : EndsFrom later id (next_at heard.requests event) heard.requests.under_way
-    ends_it = ends_so heard.requests.under_way ends
+    ends_it = ends_so heard.requests.under_way judged.ends
 
     way : (after heard does_it).requests.under_way ≡ (doing_from (doing_of heard) (next_at heard.requests event) heard.requests.under_way).under_way
     way = event_way heard event BetweenTicks (next_at heard.requests event) (at_does heard event of_told)
@@ -398,10 +284,10 @@ module _ (key : List ℕ) (taken : List Entry → Carried → List Told) (from :
         → ((l : List Entry) → (asked l).frame ≡ (asked past).frame → OverSo l (done next does_it) begun) → Left
     unfolding none_made
     stays none unended over =
-        one_left [] (none_made (none_then unended)) does_it (ap (λ (o : Option End). noted (end_entries_if g o)) none) tt
+        one_left [] (none_made (judged.unended unended)) does_it (ap (λ (o : Option End). noted (end_entries_if g o)) none) tt
         (over (whole ++ []) (ap (λ (l : List Entry). (asked l).frame) (append-nil whole) ∙ asked_whole))
         (quiet_books key heeds past (whole ++ []) heard event of_told none
-        (λ n is late. ap (λ (l : List Entry). is_late heeds l n) (append-nil whole) ∙ late_acked n is late) begun heard_books)
+        (λ n is late. ap (λ (l : List Entry). is_late heeds l n) (append-nil whole) ∙ late_acked n is late) begun judged.heard_books)
 
     -- it ends
     module _ (u : UnderWay) (under : m.state.requests.under_way ≡ Some u) (how : How) (same : next_at heard.requests event u ≡ Ends how) where
@@ -438,7 +324,7 @@ module _ (key : List ℕ) (taken : List Entry → Carried → List Told) (from :
           (entries_tell tells shows heeds later next event framed then_known.grounds.sleep)).0
 
       running : d.over ≡ false
-      running = by over_now
+      running = by judged.over
         where
           by : OverSo past m d → d.over ≡ false
           by (inl over) = over ∙ ap (λ (o : Option UnderWay). is_none o) under
@@ -448,12 +334,12 @@ module _ (key : List ℕ) (taken : List Entry → Carried → List Told) (from :
       notes_are = ap (end_entries_if g) e ∙ entries_are g u.purpose how
 
       noting_due : noting_it.due ≡ most g u.purpose how
-      noting_due = ap (λ (l : List Entry). l ++ most g u.purpose how) level.0.none_due
+      noting_due = ap (λ (l : List Entry). l ++ most g u.purpose how) judged.level.0.none_due
 
       gone : AreGone heeds (later ++ noting_it.due) (clock later) u.purpose id outcome
       gone =
           subst (λ (l : List Entry). AreGone heeds (later ++ l) (clock later) u.purpose id outcome) (sym noting_due)
-          (are_gone key taken ground event of_told later next run_then unnumbered u under how e of idle)
+          (are_gone key taken ground event of_told later next run_then judged.unnumbered u under how e of idle)
 
       bad : Badly heeds later (clock later) sent outcome noting_it
       bad = badly_goes heeds later (clock later) outcome noting_it sent gone
@@ -483,7 +369,7 @@ module _ (key : List ℕ) (taken : List Entry → Carried → List Told) (from :
       kept_then : outcome ≡ [] → ((n : ℕ) (more : Bool) (payload : List ℕ) → u.purpose ≡ Attempt n more payload → part_end more how ≡ Bad → (node_of heard n).pending ≡ None)
           → BooksThen noting_it
       kept_then none waits =
-          kept_ended key taken past whole heard facts event of_told BetweenTicks u how under e asks_so id nodes here_ends.carries noting_it heard_books late_acked last_then none waits
+          kept_ended key taken past whole heard facts event of_told BetweenTicks u how under e asks_so id nodes here_ends.carries noting_it judged.heard_books late_acked last_then none waits
 
       -- where it was called back as delivered nothing has ended badly
       well_not : is_called_back 0 later ≡ true → (n : ℕ) (more : Bool) (payload : List ℕ) → u.purpose ≡ Attempt n more payload → part_end more how ≡ Bad → (node_of heard n).pending ≡ None
@@ -497,7 +383,7 @@ module _ (key : List ℕ) (taken : List Entry → Carried → List Told) (from :
 
       bad_then : is_called_back 0 later ≡ false → BooksThen (made_of sent bad.gone outcome noting_it)
       bad_then uncalled =
-          bad_ended key taken past whole heard facts event of_told BetweenTicks u how under e asks_so id nodes here_ends.carries noting_it heard_books late_acked last_then (not_good uncalled) bad.gone bad.none
+          bad_ended key taken past whole heard facts event of_told BetweenTicks u how under e asks_so id nodes here_ends.carries noting_it judged.heard_books late_acked last_then (not_good uncalled) bad.gone bad.none
           bad.some none_sent
 
       -- so it ends
@@ -517,9 +403,9 @@ module _ (key : List ℕ) (taken : List Entry → Carried → List Told) (from :
                 goes = λ keepings texts.
                     goes_first keepings texts ∙ ap (λ (x : Bool). if x then choosing keepings texts noting_it else each_in_turn (ends_badly heeds later (clock later)) sent (choosing keepings texts noting_it)) is;
                 due = noting_due ∙ sym (notes_are ∙ ap (λ (l : List Entry). most g u.purpose how ++ l) none ∙ append-nil (most g u.purpose how));
-                fits = level.0.fits;
-                ticked = level.1;
-                heeded = heeded_now;
+                fits = judged.level.0.fits;
+                ticked = judged.level.1;
+                heeded = judged.heeded;
               }) does_it refl (request_notes heard event) (over_then_so noting_it refl) (kept_then none (well_not is))
           by false is =
               let made : Course = made_of sent bad.gone outcome noting_it in
@@ -532,9 +418,9 @@ module _ (key : List ℕ) (taken : List Entry → Carried → List Told) (from :
                     goes_first keepings texts ∙ ap (λ (x : Bool). if x then choosing keepings texts noting_it else each_in_turn (ends_badly heeds later (clock later)) sent (choosing keepings texts noting_it)) is
                     ∙ bad.goes keepings texts;
                 due = made_due sent bad.gone outcome noting_it bad.none none_sent ∙ ap (λ (l : List Entry). l ++ outcome) noting_due ∙ sym notes_are;
-                fits = ap (λ (x : Course). x.fits) stays_so.0 ∙ level.0.fits;
-                ticked = ap (λ (x : Course). x.ticked) stays_so.0 ∙ level.1;
-                heeded = subst (λ (x : Course). AllByRecursion (IsHeeded taken) x.heeded) (sym stays_so.0) heeded_now;
+                fits = ap (λ (x : Course). x.fits) stays_so.0 ∙ judged.level.0.fits;
+                ticked = ap (λ (x : Course). x.ticked) stays_so.0 ∙ judged.level.1;
+                heeded = subst (λ (x : Course). AllByRecursion (IsHeeded taken) x.heeded) (sym stays_so.0) judged.heeded;
               }) does_it refl (request_notes heard event) (over_then_so made stays_so.1) (bad_then is)
 
     pub hears : Left
@@ -547,7 +433,7 @@ module _ (key : List ℕ) (taken : List Entry → Carried → List Told) (from :
         by_next u is (Ends how) same = ended_left u is how same
         by_next u is (GoesOn progress) same =
             stays (at_ends heard event of_told ∙ ap (λ (o : Option UnderWay). end_from (next_at heard.requests event) o) is ∙ ap (λ (n : Next). end_of u n) same)
-            (λ v it. unended v (sym is ∙ it)) (λ l frame. over l over_now)
+            (λ v it. unended v (sym is ∙ it)) (λ l frame. over l judged.over)
           where
             unended : (v : UnderWay) → ◌≡◌ {A = Option UnderWay} (Some u) (Some v) → is_ending_here later ≡ false
             unended v both =
@@ -563,7 +449,7 @@ module _ (key : List ℕ) (taken : List Entry → Carried → List Told) (from :
         by : (o : Option UnderWay) → m.state.requests.under_way ≡ o → Left
         by (Some u) is = by_next u is (next_at heard.requests event u) refl
         by None is =
-            stays (none_way is) (λ v it. absurd (let no : ◌≡◌ {A = Option UnderWay} None (Some v) = sym is ∙ it in cc)) (λ l frame. over l frame over_now)
+            stays (none_way is) (λ v it. absurd (let no : ◌≡◌ {A = Option UnderWay} None (Some v) = sym is ∙ it in cc)) (λ l frame. over l frame judged.over)
           where
             still : (after heard does_it).requests.under_way ≡ None
             still = way ∙ ap (λ (o : Option UnderWay). (doing_from (doing_of heard) (next_at heard.requests event) o).under_way) is
@@ -587,7 +473,7 @@ module _ (key : List ℕ) (taken : List Entry → Carried → List Told) (from :
         ∙ ap (λ (b : Bool). (went_on m.state.requests one.u (if b then Ends (AtUpdate update m.state.requests.first) else GoesOn one.u.progress)).under_way) one.ends
 
     was_running : d.over ≡ false
-    was_running = by over_now
+    was_running = by judged.over
       where
         by : OverSo past m d → d.over ≡ false
         by (inl over) = over ∙ ap (λ (o : Option UnderWay). is_none o) one.under_way
@@ -601,7 +487,7 @@ module _ (key : List ℕ) (taken : List Entry → Carried → List Told) (from :
       ending = record begun { over = true; due = d.due ++ note ∷ [] }
 
       run_told : SureRun taken (first_of key) (Behind (event ∷ [])) later next
-      run_told = subst (λ (l : List HostEvent). SureRun taken (first_of key) (Behind l) later next) behind_is sure_then
+      run_told = subst (λ (l : List HostEvent). SureRun taken (first_of key) (Behind l) later next) behind_is judged.sure
 
       told_known : NotingGround taken (Behind (event ∷ [])) later next
       told_known = ground (Behind (event ∷ [])) later next run_told
@@ -612,10 +498,10 @@ module _ (key : List ℕ) (taken : List Entry → Carried → List Told) (from :
         kept = kept ∷ [];
         goes = λ keepings texts.
             interview_follows later next (event ∷ []) interview shows heeds told_known.grounds.sleep told_known.errands kept keepings (choosing (kept ∷ keepings) texts begun) was_running refl;
-        due = ap (λ (l : List Entry). l ++ note ∷ []) level.0.none_due;
-        fits = level.0.fits;
-        ticked = level.1;
-        heeded = heeded_now;
+        due = ap (λ (l : List Entry). l ++ note ∷ []) judged.level.0.none_due;
+        fits = judged.level.0.fits;
+        ticked = judged.level.1;
+        heeded = judged.heeded;
       }
 
       notes_it : (k : ℕ) (b : Bool) → is_note (informed_note k b) ≡ true
@@ -635,14 +521,14 @@ module _ (key : List ℕ) (taken : List Entry → Carried → List Told) (from :
       unfolding made_it
       informs outs_are idle nonces queue alike orders =
           one_left (note ∷ []) made_it event outs_are (notes_it (node_in (event ∷ [])) kept, tt) (inl (ap (λ (o : Option UnderWay). is_none o) (sym idle)))
-          (books_on key heeds past (whole ++ note ∷ []) heard d.books d.offered d.opened d.sealed heard_books (after heard event) nonces (λ k. ap (nonces_to k) queue) alike orders late_noted)
+          (books_on key heeds past (whole ++ note ∷ []) heard d.books d.offered d.opened d.sealed judged.heard_books (after heard event) nonces (λ k. ap (nonces_to k) queue) alike orders late_noted)
 
     pub interviewed : (listens : Bool) → behind ≡ Interviews n listens classes update ∷ [] → OneLeft key taken from whole next (Interviews n listens classes update)
     interviewed listens these =
         informs true (Interviews n listens classes update) tt these refl informed_idle refl (queue_told heard (Updates update) tt) (λ k is. alike k is) (λ number t found. found)
       where
         facts : HostFacts heard
-        facts = facts_of (Behind behind) later next (ground (Behind behind) later next sure_then).grounds
+        facts = facts_of (Behind behind) later next (ground (Behind behind) later next judged.sure).grounds
 
         alike : (k : ℕ) → IsNode k → Alike (node_of heard k) (node_of (after heard (Interviews n listens classes update)) k)
         alike k is =

@@ -19,7 +19,7 @@ use Rattle.proof_hearing.specs.proof_queue.proof_attempts.proof_requests.law_hos
 use Rattle.proof_hearing.specs.proof_queue.proof_attempts.proof_requests.law_host.Ticks.{is_denied}
 use Rattle.proof_hearing.specs.proof_queue.proof_attempts.proof_requests.proof_alone.Phases.{Phase}
 use Rattle.proof_hearing.specs.proof_queue.proof_attempts.proof_requests.proof_alone.State.{HostMachine}
-use Rattle.proof_following.specs.Quiet.{ended_silently}
+use Rattle.proof_choice.specs.proof_following.Quiet.{ended_silently}
 use Rattle.proof_noting.specs.Following.{IsLevel, IsQuiet, Lags, Level, timed}
 use Rattle.proof_noting.specs.Ground.{NotingGround}
 use Rattle.proof_noting.proofs.Lately.{same_late, timed_attempts, timed_clock}

@@ -60,9 +60,9 @@ use Rattle.proof_hearing.specs.proof_queue.proof_attempts.proof_requests.law_hos
 use Rattle.proof_hearing.specs.proof_queue.proof_attempts.proof_requests.proof_alone.Phases.{Behind, May, Phase}
 use Rattle.proof_hearing.specs.proof_queue.proof_attempts.proof_requests.proof_alone.State.{HostMachine, done}
 use Rattle.proof_hearing.specs.proof_queue.proof_attempts.proof_requests.proof_alone.Steps.{Does}
-use Rattle.proof_following.specs.Ended.{AreGone, EndingOf, answer_entries, errand_entries, failed_entries, outcome_entries, sent_by, sleep_entries}
-use Rattle.proof_following.proofs.Ending.{entries_are}
-use Rattle.proof_following.proofs.Hearing.{noted_are}
+use Rattle.proof_choice.specs.proof_following.Ended.{AreGone, EndingOf, answer_entries, errand_entries, failed_entries, outcome_entries, sent_by, sleep_entries}
+use Rattle.proof_choice.proofs.Ending.{entries_are}
+use Rattle.proof_choice.proofs.Hearing.{noted_are}
 use Rattle.proof_noting.specs.Ground.{GroundAlong, NotingGround}
 use Rattle.proof_noting.specs.Steps.{first_of}
 use Rattle.proof_noting.specs.Sure.{SureRun}
@@ -162,8 +162,10 @@ module _ (key : List ℕ) (taken : List Entry → Carried → List Told) (ground
 
   -- ---- the third attempt of a node ends badly
 
-  module _ (u : UnderWay) (under : h.requests.under_way ≡ Some u) (how : How) (e : end_at h.requests event ≡ Some (record { purpose = u.purpose; how = how })) (of : EndingOf heeds past g h.requests.last_id u.purpose) where
-    module _ (n : ℕ) (more : Bool) (payload : List ℕ) (purpose : u.purpose ≡ Attempt n more payload) (node : IsNode n) (bad : part_end more how ≡ Bad) (fell : Bool) (ends : attempt_end (node_of h n) ≡ Unanswered fell) where
+  module _ (u : UnderWay) (under : h.requests.under_way ≡ Some u) (how : How) (e : end_at h.requests event ≡ Some (record { purpose = u.purpose; how = how }))
+      (of : EndingOf heeds past g h.requests.last_id u.purpose) where
+    module _ (n : ℕ) (more : Bool) (payload : List ℕ) (purpose : u.purpose ≡ Attempt n more payload) (node : IsNode n) (bad : part_end more how ≡ Bad) (fell : Bool)
+        (ends : attempt_end (node_of h n) ≡ Unanswered fell) where
       abbrev s : NodeState
       s = node_of h n
 

@@ -9,27 +9,27 @@ use Rattle.host_model.specs.Events.{HostEvent}
 use Rattle.host_model.specs.Outs.{noted}
 use Rattle.host_model.specs.declared.out.HostOut.{HostOut}
 use Rattle.proof_hearing.specs.Hearing.{choosing}
-use Rattle.proof_hearing.specs.proof_queue.proof_attempts.proof_requests.law_host.Course.{Choices, Course, Offer, Opening, Seal}
+use Rattle.proof_hearing.specs.proof_queue.proof_attempts.proof_requests.law_host.Course.{Heeding}
 use Rattle.proof_hearing.specs.proof_queue.proof_attempts.proof_requests.law_host.Heard.{heeds_alone}
-use Rattle.proof_hearing.specs.proof_queue.proof_attempts.proof_requests.law_host.Nonces.{IsOffer, IsOpening, IsSeal, UsesNonces}
-use Rattle.proof_hearing.specs.proof_queue.proof_attempts.proof_requests.law_host.Notes.{Start, course_of}
+use Rattle.proof_hearing.specs.proof_queue.proof_attempts.proof_requests.law_host.HostLegal.{IsHeeded}
 use Rattle.proof_hearing.specs.proof_queue.proof_attempts.proof_requests.proof_alone.State.{HostMachine, done}
 use Rattle.proof_hearing.specs.proof_queue.proof_attempts.proof_requests.proof_alone.Steps.{AreTold, Does}
 use Rattle.proof_hearing.specs.proof_queue.proof_attempts.proof_requests.proof_alone.Phases.{Behind, May, Phase}
+use Rattle.proof_noting.specs.Following.{Outset}
 use Rattle.proof_noting.specs.Behind.{AtOpen, BehindSo, OneLeft}
 use Rattle.proof_noting.specs.Behind.BehindSo.{None_left}
 use Rattle.proof_noting.specs.Noting.{KnowsCourse}
 use Rattle.proof_noting.specs.Steps.{Fitting, first_of}
 use Rattle.proof_noting.proofs.Choosing.{course_goes}
-use Rattle.proof_noting.proofs.Fitted.{Uses, uses_of}
-use Rattle.proof_noting.proofs.PayloadMiddle.{notes_unrefused}
+use Rattle.proof_noting.proofs.Fitted.{Uses, before_last, fits_by, uses_of, uses_same}
+use Rattle.proof_noting.proofs.Marks.{notes_unrefused}
 
 -- notes are entered as they are
 told_is : (l told : List Entry) → AreTold (noted l) told → told ≡ l
 told_is [] told is = is
 told_is (e ∷ l) told (rest, is, more) = is ∙ ap (λ (r : List Entry). e ∷ r) (told_is l rest more)
 
-module _ (key : List ℕ) (taken : List Entry → Carried → List Told) (from : Start) where
+module _ (key : List ℕ) (taken : List Entry → Carried → List Told) (from : Outset) where
   abbrev heeds : Heeds
   heeds = heeds_alone taken
 
@@ -53,19 +53,6 @@ module _ (key : List ℕ) (taken : List Entry → Carried → List Told) (from :
 
     pub one_fits : Fitting key taken from past
     one_fits =
-        let choices : Choices = record { keepings = left.of.kept ++ []; texts = left.of.opened ++ [] } in
-        let is : course_of heeds from left.of.heard choices ≡ choosing [] [] left.course = left.of.is [] [] in
-        record {
-          heard = left.of.heard;
-          split = left.of.split;
-          choices = choices;
-          drawn = uses.drawn;
-          fits = ap (λ (c : Course). c.fits) is ∙ left.fits;
-          nonces = subst (UsesNonces key uses.drawn) (sym is)
-              (record {
-                seven = uses.nonces.seven;
-                offered = subst (λ (l : List Offer). AllByRecursion (IsOffer uses.drawn) l) left.same.0 uses.nonces.offered;
-                opened = subst (λ (l : List Opening). AllByRecursion (IsOpening key uses.drawn) l) left.same.1 uses.nonces.opened;
-                sealed = subst (λ (l : List Seal). AllByRecursion (IsSeal key) l) left.same.2 uses.nonces.sealed;
-              });
-        }
+        fits_by key taken from past left.of.heard left.of.split (record { keepings = left.of.kept ++ []; texts = left.of.opened ++ [] }) (choosing [] [] left.course) (left.of.is [] []) left.fits
+        (before_last (IsHeeded taken) left.course.heeded (subst (λ (l : List Heeding). AllByRecursion (IsHeeded taken) l) left.same.3 left.follows.heeded)) uses.drawn
+        (uses_same key uses.drawn (choosing [] [] left.course) left.next left.same.0 left.same.1 left.same.2 uses.nonces)

@@ -28,7 +28,6 @@ use Rattle.zw_text.specs.declared.entry.Entry.{Entry}
 use Rattle.zw_text.specs.declared.entry.Entry.TheVariants as entry
 use Rattle.host_heard.specs.declared.told.Told.{Told}
 use Rattle.law_transcript.specs.Units.{Carried, bringing_in, bringing_of, read_well}
-use Rattle.proof_hearing.specs.proof_queue.proof_attempts.proof_requests.law_host.Notes.{Start}
 use Rattle.host_requests.specs.Events.{RequestsEvent, interviewed_by}
 use Rattle.host_requests.specs.Events.RequestsEvent.{CallsBack, Fails, IsSent, Responds, Updates}
 use Rattle.host_requests.specs.declared.next.Next.{Next}
@@ -48,9 +47,10 @@ use Rattle.proof_hearing.specs.proof_queue.proof_attempts.proof_requests.Saying.
 use Rattle.proof_hearing.specs.proof_queue.proof_attempts.proof_requests.proof_alone.State.{HostMachine, done}
 use Rattle.proof_hearing.specs.proof_queue.proof_attempts.proof_requests.proof_alone.Steps.{AreTold, IsFramed, IsOfUnit, Judges, happens}
 use Rattle.proof_hearing.specs.proof_queue.proof_attempts.proof_requests.proof_alone.Phases.{IsJudgedNow, Open, Phase}
-use Rattle.proof_following.specs.Ended.{IsFrameEvent}
-use Rattle.proof_following.specs.Quiet.{acknowledges}
-use Rattle.proof_following.proofs.proof_ends_Walking.{ShowsOpen, TellsWalk}
+use Rattle.proof_choice.specs.proof_following.Ended.{IsFrameEvent}
+use Rattle.proof_choice.specs.proof_following.Quiet.{acknowledges}
+use Rattle.proof_choice.proofs.proof_ends_Walking.{ShowsOpen, TellsWalk}
+use Rattle.proof_noting.specs.Following.{Outset}
 use Rattle.proof_noting.specs.Behind.{AtOpen, BehindSo, OneLeft}
 use Rattle.proof_noting.specs.Behind.BehindSo.{None_left, One_left}
 use Rattle.proof_noting.specs.Ground.{GroundAlong}
@@ -62,7 +62,8 @@ use Rattle.proof_noting.proofs.ByAnswers.{acknowledged_so, fails_so, rests}
 use Rattle.proof_noting.proofs.ByRefusals.{refused, unanswered}
 use Rattle.proof_noting.proofs.FramesGo.{hears, interview_unkept, interviewed, passes}
 
-module _ (key : List ℕ) (taken : List Entry → Carried → List Told) (from : Start) (tells : TellsWalk) (shows : ShowsOpen) (asking : AlongRuns (keys_of key) (KnowsSince AsksAreSo)) (ground : GroundAlong taken (first_of key)) where
+module _ (key : List ℕ) (taken : List Entry → Carried → List Told) (from : Outset) (tells : TellsWalk) (shows : ShowsOpen) (asking : AlongRuns (keys_of key) (KnowsSince AsksAreSo))
+    (ground : GroundAlong taken (first_of key)) where
   -- ---- a frame
 
   module _ (past : List Entry) (m : HostMachine) (f : FrameParts) (rest : List LineUnit) (behind : List HostEvent) (told marks : List Entry) (sure : SureRun taken (first_of key) Open past m)

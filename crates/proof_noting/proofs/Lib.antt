@@ -3,13 +3,18 @@ pub mod Lately
 pub mod Quietly
 pub mod Choosing
 mod Fitted
+mod Followed
+mod Marks
+mod JudgedFrame
 mod Grounding
 mod Whole
+mod InFront
 mod InFull
+mod KeptNonces
 mod KeptBooks
 mod Starting
-mod LeftNodes
-mod TickBooks
+mod TickLeaves
+mod LeftBooks
 mod TickChosen
 mod Ascending
 mod TickEnds
@@ -22,7 +27,6 @@ mod TickLines
 mod TickSteps
 mod Aborts
 mod AsksSealed
-mod Risen
 mod Sendings
 mod Requested
 mod Becoming
@@ -48,7 +52,7 @@ mod PayloadOver
 mod PayloadFits
 mod ByAnswers
 mod ByRefusals
-mod EndBooks
+mod EndLeaves
 mod EndCourse
 mod EndNotes
 mod EndedBooks

@@ -37,17 +37,16 @@ use Rattle.proof_hearing.specs.proof_queue.proof_attempts.proof_requests.law_hos
 use Rattle.proof_hearing.specs.proof_queue.proof_attempts.proof_requests.law_host.Following.{comes_to, course_after, has_heard, has_ticked, is_before_host, is_of_host, after as followed}
 use Rattle.proof_hearing.specs.proof_queue.proof_attempts.proof_requests.law_host.Heard.{heeds_alone}
 use Rattle.proof_hearing.specs.proof_queue.proof_attempts.proof_requests.law_host.Nonces.{is_late}
-use Rattle.proof_hearing.specs.proof_queue.proof_attempts.proof_requests.law_host.Notes.{Start}
 use Rattle.proof_hearing.specs.proof_queue.proof_attempts.proof_requests.law_host.Ticks.{denies, ticks}
 use Rattle.proof_hearing.specs.proof_queue.proof_attempts.proof_requests.proof_alone.Phases.{Phase, Resting, Asked, Open}
 use Rattle.proof_hearing.specs.proof_queue.proof_attempts.proof_requests.proof_alone.State.{HostMachine, done}
 use Rattle.proof_hearing.specs.proof_queue.proof_attempts.proof_requests.proof_alone.Steps.{AreFrames, IsAskedBy, Says, Says_nothing, Asks, Refuses, Shows, happens}
 use Rattle.proof_hearing.proofs.proof_requests_Growing.{asked_in_vain, asked_said}
-use Rattle.proof_following.specs.Quiet.{IsWithin}
-use Rattle.proof_following.proofs.Entering.{comes_within, plain_after, plainly_within}
-use Rattle.proof_following.proofs.proof_ends_Walking.{ShowsOpen}
+use Rattle.proof_choice.specs.proof_following.Quiet.{IsWithin}
+use Rattle.proof_choice.proofs.Entering.{comes_within, plain_after, plainly_within}
+use Rattle.proof_choice.proofs.proof_ends_Walking.{ShowsOpen}
 use Rattle.proof_noting.specs.Behind.{AtOpen}
-use Rattle.proof_noting.specs.Following.{Follows, Goes, IsLevel, timed}
+use Rattle.proof_noting.specs.Following.{Follows, Goes, IsLevel, Outset, timed}
 use Rattle.proof_noting.specs.Ground.{GroundAlong, NotingGround}
 use Rattle.proof_noting.specs.Noting.{Anew, AtRest, AtWords, IsSaid, KnowsCourse}
 use Rattle.proof_noting.specs.Steps.{StepFollows, first_of}
@@ -93,7 +92,7 @@ module _ (heeds : Heeds) (past : List Entry) (c : Course) (at : c.ticked ≡ clo
 
 -- ---- words
 
-module _ (key : List ℕ) (taken : List Entry → Carried → List Told) (from : Start) (shows : ShowsOpen) where
+module _ (key : List ℕ) (taken : List Entry → Carried → List Told) (from : Outset) (shows : ShowsOpen) where
   abbrev heeds : Heeds
   heeds = heeds_alone taken
 

@@ -3,7 +3,6 @@ use Rattle.std.proofs.Common.{◌≡◌, ◌≤◌, ℕ, ◌&&◌, ◌||◌, not
 use Rattle.std.specs.Prelude.{is_none, is_some}
 use Rattle.std.specs.List.{AllByRecursion, flat_map, list_any}
 use Rattle.std.proofs.lemmas.Bool.{both_ways, ltb-true, ne_eqb, or_left, or_right}
-use Rattle.zw_base.proofs.Each.{all-weaker}
 use Rattle.chip_functions.specs.Field.{IsNode}
 use Rattle.chip_functions.specs.declared.request.Request.{Request}
 use Rattle.supervision.specs.Host.{open_session}
@@ -13,11 +12,9 @@ use Rattle.zw_words.specs.declared.side.Side.TheVariants.{Host}
 use Rattle.zw_text.specs.declared.entry.Entry.{Entry}
 use Rattle.zw_text.specs.declared.entry.Entry.TheVariants as entry
 use Rattle.host_heard.specs.declared.told.Told.{Told}
-use Rattle.law_transcript.specs.Restarts.{begins_refused}
 use Rattle.law_transcript.specs.Units.{Carried, sending_in, sending_of}
 use Rattle.law_time.specs.Attempts.{goes_on, is_of_attempt}
 use Rattle.law_time.specs.Heeds.{Heeds}
-use Rattle.law_time.specs.Judged.{is_mark}
 use Rattle.law_time.specs.Moments.{clock}
 use Rattle.law_time.specs.Queue.{requests}
 use Rattle.law_time.specs.Requests.{asked, is_new}
@@ -61,32 +58,23 @@ use Rattle.proof_hearing.specs.proof_queue.proof_attempts.proof_requests.law_hos
 use Rattle.proof_hearing.specs.proof_queue.proof_attempts.proof_requests.law_host.Heard.{heeds_alone}
 use Rattle.proof_hearing.specs.proof_queue.proof_attempts.proof_requests.law_host.HostLegal.{IsHeeded}
 use Rattle.proof_hearing.specs.proof_queue.proof_attempts.proof_requests.law_host.Nonces.{is_late, sends}
-use Rattle.proof_hearing.specs.proof_queue.proof_attempts.proof_requests.law_host.Notes.{Start}
 use Rattle.proof_hearing.specs.proof_queue.proof_attempts.proof_requests.proof_alone.Phases.{IsNumbered, Submitting}
 use Rattle.proof_hearing.specs.proof_queue.proof_attempts.proof_requests.proof_alone.State.{HostMachine, done}
 use Rattle.proof_hearing.specs.proof_queue.proof_attempts.proof_requests.proof_alone.Steps.{AreTold, IsOfUnit}
 use Rattle.proof_hearing.proofs.Around.{sends_chosen, sends_else, unsent}
 use Rattle.proof_hearing.proofs.Sent.{OffersNode, Sent, abort_sent, front_sent, segment_sent, start_sent, text_sent}
 use Rattle.proof_hearing.proofs.proof_nonces_Payloads.{open_other}
-use Rattle.proof_following.proofs.Entering.{plain_after}
-use Rattle.proof_following.proofs.proof_ends_Walking.{ShowsOpen}
-use Rattle.proof_noting.specs.Following.{Goes}
+use Rattle.proof_choice.proofs.Entering.{plain_after}
+use Rattle.proof_choice.proofs.proof_ends_Walking.{ShowsOpen}
+use Rattle.proof_noting.specs.Following.{Goes, Outset}
 use Rattle.proof_noting.specs.Ground.{NotingGround}
 use Rattle.proof_noting.specs.Noting.{AtRest}
-use Rattle.proof_noting.proofs.Choosing.{course_goes, goes_both, goes_on as goes_on_so, marks_goes}
+use Rattle.proof_noting.proofs.Choosing.{course_goes, goes_both, goes_on as goes_on_so}
 use Rattle.proof_noting.proofs.Becoming.{BecomesLevel, becomes_heeded, comes_level, level_books}
 use Rattle.proof_noting.proofs.Requested.{frames_next}
 use Rattle.proof_noting.proofs.Lately.{on_time}
-use Rattle.proof_noting.proofs.NewlyAsked.{goes_further, late_asked, unit_marked}
-
--- ---- what became of a unit
-
-marks_fresh : (marks : List Entry) → AllByRecursion IsOfUnit marks → begins_refused marks ≡ false
-marks_fresh [] all = refl
-marks_fresh (entry.Dropped Host ∷ marks) all = refl
-marks_fresh (entry.Garbled Host unit ∷ marks) all = refl
-marks_fresh (entry.Overrun Host ∷ marks) all = refl
-marks_fresh (e ∷ marks) all = absurd all.0
+use Rattle.proof_noting.proofs.Marks.{marks_unrefused, units_go}
+use Rattle.proof_noting.proofs.NewlyAsked.{goes_further, late_asked}
 
 equal_low : (a b : ℕ) → a ≡ b → a ≤ b
 equal_low a b is = omega (arith, is)
@@ -111,7 +99,8 @@ segment_runs Running s is facts has = is
 segment_runs Idle s is facts has = absurd (no_segment s facts.1.no_segments has)
 segment_runs Due s is facts has = absurd (no_segment s facts.2.no_segments has)
 
-module _ (shows : ShowsOpen) (key : List ℕ) (taken : List Entry → Carried → List Told) (from : Start) (past : List Entry) (m : HostMachine) (ground : NotingGround taken Submitting past m) (known : AtRest key taken from past m) where
+module _ (shows : ShowsOpen) (key : List ℕ) (taken : List Entry → Carried → List Told) (from : Outset) (past : List Entry) (m : HostMachine) (ground : NotingGround taken Submitting past m)
+    (known : AtRest key taken from past m) where
   abbrev heeds : Heeds
   heeds = heeds_alone taken
 
@@ -195,8 +184,8 @@ module _ (shows : ShowsOpen) (key : List ℕ) (taken : List Entry → Carried �
 
       on : Goes heeds past (wrote ∷ marks) known.course requested
       on =
-          goes_both heeds past (wrote ∷ []) marks known.course requested requested (marks_fresh marks all) (goes_on_so heeds past (wrote ∷ []) known.course requested steps)
-          (marks_goes heeds (past ++ wrote ∷ []) marks requested (all-weaker IsOfUnit (λ e. is_mark e ≡ true) unit_marked marks all))
+          goes_both heeds past (wrote ∷ []) marks known.course requested requested (marks_unrefused marks all) (goes_on_so heeds past (wrote ∷ []) known.course requested steps)
+          (units_go heeds (past ++ wrote ∷ []) marks requested all)
 
       under_way_level : g.requests.under_way ≡ Some (record { purpose = purpose; progress = Submitted }) → requested.over ≡ is_none g.requests.under_way
       under_way_level is = ap (λ (c : Course). c.over) rest_so ∙ sym (ap (λ (o : Option UnderWay). is_none o) is)

@@ -6,11 +6,10 @@ use Rattle.zw_words.specs.declared.side.Side.TheVariants.{Host}
 use Rattle.zw_text.specs.declared.entry.Entry.{Entry}
 use Rattle.zw_text.specs.declared.entry.Entry.TheVariants as entry
 use Rattle.host_heard.specs.declared.told.Told.{Told}
-use Rattle.law_transcript.specs.Lists.{EachAfter}
 use Rattle.law_transcript.specs.Units.{Carried, sending_in}
 use Rattle.law_time.specs.Attempts.{Attempts, anew, attempt_is_over, attempts_by_request, ends_badly, goes_on, is_late as late_at, is_of_attempt, is_of_inner}
 use Rattle.law_time.specs.Heeds.{Heeds}
-use Rattle.law_time.specs.Judged.{is_acknowledgement, is_mark}
+use Rattle.law_time.specs.Judged.{is_acknowledgement}
 use Rattle.law_time.specs.Moments.{clock}
 use Rattle.law_time.specs.Queue.{requests}
 use Rattle.law_time.specs.Requests.{Asked, asked, is_new}
@@ -22,14 +21,8 @@ use Rattle.proof_choice.proofs.proof_requests_Telling.{clock_same}
 use Rattle.proof_hearing.specs.proof_queue.proof_attempts.proof_requests.law_host.Heard.{heeds_alone}
 use Rattle.proof_hearing.specs.proof_queue.proof_attempts.proof_requests.law_host.Nonces.{is_late}
 use Rattle.proof_hearing.specs.proof_queue.proof_attempts.proof_requests.proof_alone.Steps.{IsOfUnit}
-use Rattle.proof_noting.proofs.Lately.{KeepsLate, from_late, late_on, to_late}
-
--- what became of a unit of the host is a mark
-pub unit_marked : (e : Entry) → IsOfUnit e → is_mark e ≡ true
-unit_marked (entry.Dropped Host) mark = refl
-unit_marked (entry.Garbled Host unit) mark = refl
-unit_marked (entry.Overrun Host) mark = refl
-unit_marked e mark = absurd mark
+use Rattle.proof_noting.proofs.Lately.{from_late, late_on, to_late}
+use Rattle.proof_noting.proofs.Marks.{marks_keep}
 
 -- what it sends goes on with an attempt
 abbrev pub goes_further : List ℕ → Bool
@@ -44,14 +37,6 @@ request_late now true also unit a on late =
 module _ (taken : List Entry → Carried → List Told) where
   abbrev heeds : Heeds
   heeds = heeds_alone taken
-
-  -- what became of a unit leaves it late
-  marks_keep : (n : ℕ) (past marks : List Entry) → AllByRecursion IsOfUnit marks → EachAfter (KeepsLate taken n) past marks
-  marks_keep n past [] all = tt
-  marks_keep n past (entry.Dropped Host ∷ marks) all = (tt, marks_keep n (past ++ entry.Dropped Host ∷ []) marks all.1)
-  marks_keep n past (entry.Garbled Host unit ∷ marks) all = (tt, marks_keep n (past ++ entry.Garbled Host unit ∷ []) marks all.1)
-  marks_keep n past (entry.Overrun Host ∷ marks) all = (tt, marks_keep n (past ++ entry.Overrun Host ∷ []) marks all.1)
-  marks_keep n past (e ∷ marks) all = absurd all.0
 
   module _ (past marks : List Entry) (unit : List ℕ) (other : is_acknowledgement unit ≡ false) (new : is_new (asked past) unit ≡ true) (all : AllByRecursion IsOfUnit marks) where
     abbrev wrote : List Entry
@@ -72,4 +57,4 @@ module _ (taken : List Entry → Carried → List Told) where
 
     pub late_asked : (n : ℕ) → (own n ≡ true → goes_further unit ≡ true) → is_late heeds past n ≡ true → is_late heeds (past ++ entry.Written Host unit ∷ marks) n ≡ true
     late_asked n on late =
-        subst (λ (l : List Entry). is_late heeds l n ≡ true) (append_assoc past (entry.Written Host unit ∷ []) marks) (late_on taken n wrote marks (marks_keep n wrote marks all) (at_once n on late))
+        subst (λ (l : List Entry). is_late heeds l n ≡ true) (append_assoc past (entry.Written Host unit ∷ []) marks) (late_on taken n wrote marks (marks_keep taken n wrote marks all) (at_once n on late))

@@ -23,19 +23,18 @@ use Rattle.proof_hearing.specs.Hearing.{choosing}
 use Rattle.proof_hearing.specs.proof_queue.proof_attempts.proof_requests.law_host.Course.{Course}
 use Rattle.proof_hearing.specs.proof_queue.proof_attempts.proof_requests.law_host.Following.{comes_to, has_heard, has_ticked, is_before_host, is_of_host, may_stand}
 use Rattle.proof_hearing.specs.proof_queue.proof_attempts.proof_requests.law_host.Heard.{heeds_alone}
-use Rattle.proof_hearing.specs.proof_queue.proof_attempts.proof_requests.law_host.Notes.{Start}
 use Rattle.proof_hearing.specs.proof_queue.proof_attempts.proof_requests.law_host.Ticks.{denies, ticks}
+use Rattle.proof_hearing.specs.proof_queue.proof_attempts.proof_requests.proof_alone.Careful.{IsNoDevice}
 use Rattle.proof_hearing.specs.proof_queue.proof_attempts.proof_requests.proof_alone.Phases.{Phase}
 use Rattle.proof_hearing.specs.proof_queue.proof_attempts.proof_requests.proof_alone.State.{HostMachine}
 use Rattle.proof_hearing.specs.proof_queue.proof_attempts.proof_requests.proof_alone.Steps.{AreFrames, DidNotCome, IsOfOthers}
-use Rattle.proof_following.specs.Quiet.{IsPlainly, IsWithin}
-use Rattle.proof_following.proofs.Entering.{comes_within, plainly_within}
-use Rattle.proof_following.proofs.proof_ends_Walking.{ShowsOpen}
+use Rattle.proof_choice.specs.proof_following.Quiet.{IsPlainly, IsWithin}
+use Rattle.proof_choice.proofs.Entering.{comes_within, plainly_within}
+use Rattle.proof_choice.proofs.proof_ends_Walking.{ShowsOpen}
 use Rattle.proof_noting.specs.Behind.{Answered, AtOpen}
-use Rattle.proof_noting.specs.Following.{Follows, Goes, IsQuiet, Lags, Level, timed}
+use Rattle.proof_noting.specs.Following.{Follows, Goes, IsQuiet, Lags, Level, Outset, timed}
 use Rattle.proof_noting.specs.Ground.{NotingGround}
 use Rattle.proof_noting.specs.Noting.{AtRest}
-use Rattle.proof_noting.specs.Sure.{IsNoDevice}
 use Rattle.proof_noting.specs.Ticking.{NoneNoted}
 use Rattle.proof_noting.proofs.Becoming.{Becomes, becomes_heeded, comes_beside}
 use Rattle.proof_noting.proofs.Choosing.{course_goes, goes_both, goes_nowhere, goes_plain}
@@ -151,7 +150,7 @@ now_is taken here past m ground awaits =
 pub same_quiet : (m : HostMachine) → (p : Purpose) → IsQuiet m.state p → IsQuiet m.state p
 same_quiet m p quiet = quiet
 
-module _ (key : List ℕ) (taken : List Entry → Carried → List Told) (from : Start) (shows : ShowsOpen) where
+module _ (key : List ℕ) (taken : List Entry → Carried → List Told) (from : Outset) (shows : ShowsOpen) where
   abbrev heeds : Heeds
   heeds = heeds_alone taken
 

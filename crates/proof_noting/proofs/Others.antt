@@ -24,20 +24,19 @@ use Rattle.proof_hearing.specs.proof_queue.proof_attempts.Since.{IsElse}
 use Rattle.proof_hearing.specs.proof_queue.proof_attempts.proof_requests.law_host.Course.{Course}
 use Rattle.proof_hearing.specs.proof_queue.proof_attempts.proof_requests.law_host.Heard.{heeds_alone}
 use Rattle.proof_hearing.specs.proof_queue.proof_attempts.proof_requests.law_host.Following.{is_before_host}
-use Rattle.proof_hearing.specs.proof_queue.proof_attempts.proof_requests.law_host.Notes.{Start}
 use Rattle.proof_hearing.specs.proof_queue.proof_attempts.proof_requests.law_host.Ticks.{ticks}
+use Rattle.proof_hearing.specs.proof_queue.proof_attempts.proof_requests.proof_alone.Careful.{MayHear}
 use Rattle.proof_hearing.specs.proof_queue.proof_attempts.proof_requests.proof_alone.Phases.{Phase, Resting, Asked, Risen, Ticking, Open, Behind, Sleeping, Submitting, IsBetween, MayCome}
 use Rattle.proof_hearing.specs.proof_queue.proof_attempts.proof_requests.proof_alone.State.{HostMachine}
 use Rattle.proof_hearing.specs.proof_queue.proof_attempts.proof_requests.proof_alone.Steps.{AreFrames, ChangesFrame, DidNotCome, IsFramed, IsOfOthers, Tells, Comes, Misses, Begins_tick, Numbers, happens}
-use Rattle.proof_following.proofs.Entering.{plain_after}
-use Rattle.proof_following.proofs.proof_ends_Walking.{ShowsOpen}
+use Rattle.proof_choice.proofs.Entering.{plain_after}
+use Rattle.proof_choice.proofs.proof_ends_Walking.{ShowsOpen}
 use Rattle.proof_noting.specs.Behind.{AtOpen, BehindSo}
 use Rattle.proof_noting.specs.Behind.BehindSo.{None_left, One_left, Payload_left}
-use Rattle.proof_noting.specs.Following.{Follows, Goes, timed}
+use Rattle.proof_noting.specs.Following.{Follows, Goes, Outset, timed}
 use Rattle.proof_noting.specs.Ground.{GroundAlong, NotingGround}
 use Rattle.proof_noting.specs.Noting.{AtRest, KnowsCourse}
 use Rattle.proof_noting.specs.Steps.{StepFollows, first_of}
-use Rattle.proof_noting.specs.Sure.{MayHear}
 use Rattle.proof_noting.specs.Ticking.{NoneNoted, TickSo}
 use Rattle.proof_noting.specs.Ticking.TickSo.{Nothing, Something}
 use Rattle.proof_noting.proofs.Becoming.{Becomes, becomes_heeded, passes_so, ticks_before}
@@ -80,7 +79,7 @@ resting_other is = cc
 risen_other : Risen ≡ Open → ⊥
 risen_other is = cc
 
-module _ (key : List ℕ) (taken : List Entry → Carried → List Told) (from : Start) (shows : ShowsOpen) where
+module _ (key : List ℕ) (taken : List Entry → Carried → List Told) (from : Outset) (shows : ShowsOpen) where
   abbrev Knows : Phase → List Entry → HostMachine → Type 0
   Knows here past m = KnowsCourse key taken from (first_of key) here past m
 
@@ -138,7 +137,7 @@ module _ (key : List ℕ) (taken : List Entry → Carried → List Told) (from :
         (tt, (missed_lost past text marks did changes).leaves) lost_stays refl awaits tt (λ frames. inl frames) awaits known
     misses_at Risen ground hears between known =
         risen_on key taken from shows Risen next past m m (entry.Written Chip text) marks ground after (same_left m.state) (same_quiet m) refl (chip_plain text) (marks_chip marks did)
-        (tt, (missed_lost past text marks did changes).leaves) lost_stays refl awaits hears known.frames known
+        (tt, (missed_lost past text marks did changes).leaves) lost_stays refl awaits hears.0 known.frames known
     misses_at here ground hears between known = absurd between
 
   -- ---- the number of a tick
@@ -274,7 +273,7 @@ module _ (key : List ℕ) (taken : List Entry → Carried → List Told) (from :
     pub tells : (here next : Phase) (past : List Entry) (m : HostMachine) (e : Entry) → StepFollows key taken from here past m (Tells e) next
     tells here next past m e sure so may known =
         leads here next (past ++ e ∷ []) m may.3
-        (tells_at next past m e (along next (past ++ e ∷ []) m (sure_step taken (first_of key) sure (Tells e) may so)) may.1 may.2 here (along here past m sure) so.hears may.0 known)
+        (tells_at next past m e (along next (past ++ e ∷ []) m (sure_step taken (first_of key) sure (Tells e) may so)) may.1 may.2 here (along here past m sure) so.well.1 may.0 known)
 
     pub comes : (here next : Phase) (past : List Entry) (m : HostMachine) (unit : LineUnit) → StepFollows key taken from here past m (Comes unit) next
     comes here next past m unit sure so may known =
@@ -286,7 +285,7 @@ module _ (key : List ℕ) (taken : List Entry → Carried → List Told) (from :
     misses here next past m text marks sure so may known =
         leads here next (past ++ entry.Written Chip text ∷ marks) m may.3
         (misses_at next past m text marks (along next (past ++ entry.Written Chip text ∷ marks) m (sure_step taken (first_of key) sure (Misses text marks) may so)) may.1 may.4 may.2 here
-        (along here past m sure) so.hears may.0 known)
+        (along here past m sure) so.well.1 may.0 known)
 
     pub numbers : (here next : Phase) (past : List Entry) (m : HostMachine) → StepFollows key taken from here past m Numbers next
     numbers here next past m sure so may known =

@@ -19,12 +19,12 @@ use Rattle.proof_choice.proofs.ReadyTie.{facts_of}
 use Rattle.proof_hearing.specs.Hearing.{HeardOne, HearsSo, StaysLate, Whole, choosing, finishes, hearing_at}
 use Rattle.proof_hearing.specs.proof_queue.proof_attempts.proof_requests.law_host.Following.{is_note}
 use Rattle.proof_hearing.specs.proof_queue.proof_attempts.proof_requests.law_host.Heard.{heeds_alone}
-use Rattle.proof_hearing.specs.proof_queue.proof_attempts.proof_requests.law_host.Notes.{Start}
 use Rattle.proof_hearing.specs.proof_queue.proof_attempts.proof_requests.proof_alone.State.{HostMachine, done}
 use Rattle.proof_hearing.specs.proof_queue.proof_attempts.proof_requests.proof_alone.Steps.{Does}
 use Rattle.proof_hearing.specs.proof_queue.proof_attempts.proof_requests.proof_alone.Phases.{Behind, May}
 use Rattle.proof_hearing.proofs.OnePayload.{hears_one}
-use Rattle.proof_following.specs.Quiet.{acknowledges}
+use Rattle.proof_choice.specs.proof_following.Quiet.{acknowledges}
+use Rattle.proof_noting.specs.Following.{Outset}
 use Rattle.proof_noting.specs.Behind.{InPayload}
 use Rattle.proof_noting.specs.Ground.{GroundAlong, NotingGround}
 use Rattle.proof_noting.specs.Steps.{first_of}
@@ -34,7 +34,7 @@ use Rattle.proof_noting.proofs.Followers.{follower_late, follower_notes, followe
 use Rattle.proof_noting.proofs.Surely.{sure_does}
 use Rattle.proof_noting.proofs.PayloadMiddle.{PointsAlong, point}
 
-module _ (key : List ℕ) (taken : List Entry → Carried → List Told) (from : Start) where
+module _ (key : List ℕ) (taken : List Entry → Carried → List Told) (from : Outset) where
   abbrev heeds : Heeds
   heeds = heeds_alone taken
 

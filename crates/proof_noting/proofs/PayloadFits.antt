@@ -1,33 +1,32 @@
--- In the middle of a payload the course fits, where no further record of it is kept.
+-- In the middle of a payload the course fits, where no further record of it is kept; and by those before it it has gone by its messages.
 use Rattle.std.proofs.Common.{◌≡◌, ℕ, true, false, List, [], ◌∷◌, ◌++◌, sym, ap, ◌∙◌, subst, append_assoc}
 use Rattle.std.specs.List.{AllByRecursion}
-use Rattle.zw_base.proofs.Each.{all-weaker}
 use Rattle.zw_text.specs.declared.entry.Entry.{Entry}
 use Rattle.host_heard.specs.declared.told.Told.{Told}
 use Rattle.host_model.specs.Events.{HostEvent}
 use Rattle.law_transcript.specs.Units.{Carried}
 use Rattle.law_time.specs.Heeds.{Heeds}
-use Rattle.law_time.specs.Judged.{is_mark}
 use Rattle.proof_hearing.specs.Hearing.{choosing, finishes, hearing_at}
-use Rattle.proof_hearing.specs.proof_queue.proof_attempts.proof_requests.law_host.Course.{Choices, Course, Offer, Opening, Seal, with_heeded}
+use Rattle.proof_hearing.specs.proof_queue.proof_attempts.proof_requests.law_host.Course.{Choices, Course, Heeding, with_heeded}
 use Rattle.proof_hearing.specs.proof_queue.proof_attempts.proof_requests.law_host.Following.{course_after}
 use Rattle.proof_hearing.specs.proof_queue.proof_attempts.proof_requests.law_host.Heard.{heeds_alone}
+use Rattle.proof_hearing.specs.proof_queue.proof_attempts.proof_requests.law_host.HostLegal.{IsHeeded, gone_through}
 use Rattle.proof_hearing.specs.proof_queue.proof_attempts.proof_requests.law_host.Messages.{Hearing}
-use Rattle.proof_hearing.specs.proof_queue.proof_attempts.proof_requests.law_host.Nonces.{IsOffer, IsOpening, IsSeal, UsesNonces}
-use Rattle.proof_hearing.specs.proof_queue.proof_attempts.proof_requests.law_host.Notes.{Start, course_of}
+use Rattle.proof_hearing.specs.proof_queue.proof_attempts.proof_requests.law_host.Nonces.{UsesNonces}
 use Rattle.proof_hearing.specs.proof_queue.proof_attempts.proof_requests.proof_alone.State.{HostMachine}
-use Rattle.proof_hearing.specs.proof_queue.proof_attempts.proof_requests.proof_alone.Steps.{IsOfUnit}
 use Rattle.proof_hearing.proofs.Beginning.{uses_nonces}
 use Rattle.proof_hearing.proofs.Grows.{Adds, finishes_adds}
-use Rattle.proof_following.specs.Quiet.{acknowledges}
-use Rattle.proof_following.proofs.Entering.{marks_after, notes_after}
+use Rattle.proof_choice.specs.proof_following.Quiet.{acknowledges}
+use Rattle.proof_choice.proofs.Entering.{marks_after, notes_after}
+use Rattle.proof_noting.specs.Following.{Outset, course_since}
 use Rattle.proof_noting.specs.Behind.{InPayload}
 use Rattle.proof_noting.specs.Steps.{Fitting, first_of}
 use Rattle.proof_noting.proofs.Choosing.{course_on, split_on}
+use Rattle.proof_noting.proofs.Fitted.{fits_by, last_left, uses_same}
 use Rattle.proof_noting.proofs.Unopened.{denied_opens}
-use Rattle.proof_noting.proofs.PayloadMiddle.{marks_unrefused, notes_unrefused, unit_marks}
+use Rattle.proof_noting.proofs.Marks.{are_marks, marks_unrefused, notes_unrefused}
 
-module _ (key : List ℕ) (taken : List Entry → Carried → List Told) (from : Start) where
+module _ (key : List ℕ) (taken : List Entry → Carried → List Told) (from : Outset) where
   abbrev heeds : Heeds
   heeds = heeds_alone taken
 
@@ -57,7 +56,7 @@ module _ (key : List ℕ) (taken : List Entry → Carried → List Told) (from :
     adds : Adds (choosing (false ∷ []) [] it.course) rest
     adds = finishes_adds hearing it.remaining (choosing (false ∷ []) [] it.course)
 
-    acked_so : course_of heeds from it.heard chosen ≡ ended
+    acked_so : course_since heeds from it.heard chosen ≡ ended
     acked_so = it.begins (it.since_kept ++ false ∷ []) (it.since_opened ++ []) ∙ ap (λ (c : Course). with_heeded upto carried c) (it.leads (false ∷ []) [])
 
     fits : ended.fits ≡ true
@@ -69,32 +68,30 @@ module _ (key : List ℕ) (taken : List Entry → Carried → List Told) (from :
     marks_split : upto ++ it.marks ≡ from.before ++ (it.heard ++ it.marks)
     marks_split = split_on heeds from upto it.heard it.marks it.split
 
-    course_so : course_of heeds from ((it.heard ++ it.marks) ++ it.course.due) chosen ≡ record ended { due = adds.some }
+    course_so : course_since heeds from ((it.heard ++ it.marks) ++ it.course.due) chosen ≡ record ended { due = adds.some }
     course_so =
         course_on heeds from (upto ++ it.marks) (it.heard ++ it.marks) it.course.due chosen marks_split (notes_unrefused it.course.due it.notes)
         ∙ ap (λ (c : Course). course_after heeds (upto ++ it.marks) it.course.due c)
         (course_on heeds from upto it.heard it.marks chosen it.split (marks_unrefused it.marks it.marked)
         ∙ ap (λ (c : Course). course_after heeds upto it.marks c) acked_so
-        ∙ marks_after heeds upto it.marks ended (all-weaker IsOfUnit (λ (e : Entry). is_mark e ≡ true) unit_marks it.marks it.marked))
+        ∙ marks_after heeds upto it.marks ended (are_marks it.marks it.marked))
         ∙ notes_after heeds (upto ++ it.marks) it.course.due adds.some ended it.notes fits adds.due
 
     uses : UsesNonces key it.so.books.drawn it.course
     uses = uses_nonces key heeds (upto ++ it.course.due) m.state it.course it.so.books
 
     uses_then : UsesNonces key it.so.books.drawn (record ended { due = adds.some })
-    uses_then = record {
-      seven = uses.seven;
-      offered = subst (λ (l : List Offer). AllByRecursion (IsOffer it.so.books.drawn) l) (sym (ap (λ (c : Course). c.offered) adds.other)) uses.offered;
-      opened = subst (λ (l : List Opening). AllByRecursion (IsOpening key it.so.books.drawn) l) (sym (denied_opens hearing it.remaining it.course)) uses.opened;
-      sealed = subst (λ (l : List Seal). AllByRecursion (IsSeal key) l) (sym (ap (λ (c : Course). c.sealed) adds.other)) uses.sealed;
-    }
+    uses_then =
+        uses_same key it.so.books.drawn (record ended { due = adds.some }) it.course (sym (ap (λ (c : Course). c.offered) adds.other)) (sym (denied_opens hearing it.remaining it.course))
+        (sym (ap (λ (c : Course). c.sealed) adds.other)) uses
+
+    -- of the payload that it is in nothing is said
+    heeded_before : AllByRecursion (IsHeeded taken) (gone_through false ended.heeded)
+    heeded_before =
+        subst (λ (l : List Heeding). AllByRecursion (IsHeeded taken) l)
+        (sym (last_left rest.heeded (record { past = upto; carried = carried; messages = rest.taken }) ∙ ap (λ (c : Course). c.heeded) adds.other ∙ ap (λ (c : Course). c.heeded) it.other)) it.heeded
 
     pub payload_fits : Fitting key taken from past
-    payload_fits = record {
-      heard = (it.heard ++ it.marks) ++ it.course.due;
-      split = sym at_is ∙ split_on heeds from (upto ++ it.marks) (it.heard ++ it.marks) it.course.due marks_split;
-      choices = chosen;
-      drawn = it.so.books.drawn;
-      fits = ap (λ (c : Course). c.fits) course_so ∙ fits;
-      nonces = subst (λ (c : Course). UsesNonces key it.so.books.drawn c) (sym course_so) uses_then;
-    }
+    payload_fits =
+        fits_by key taken from past ((it.heard ++ it.marks) ++ it.course.due) (sym at_is ∙ split_on heeds from (upto ++ it.marks) (it.heard ++ it.marks) it.course.due marks_split) chosen
+        (record ended { due = adds.some }) course_so fits heeded_before it.so.books.drawn uses_then

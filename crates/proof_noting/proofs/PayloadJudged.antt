@@ -18,14 +18,14 @@ use Rattle.proof_choice.proofs.Stepping.{not_awaiting}
 use Rattle.proof_hearing.specs.proof_queue.Heeding.{AllSteps, HeedsSo}
 use Rattle.proof_hearing.specs.proof_queue.Waiting.{Waits}
 use Rattle.proof_hearing.specs.proof_queue.proof_attempts.proof_requests.law_host.Heard.{heeds_alone}
-use Rattle.proof_hearing.specs.proof_queue.proof_attempts.proof_requests.law_host.Notes.{Start}
 use Rattle.proof_hearing.specs.proof_queue.proof_attempts.proof_requests.proof_alone.Careful.{Careful, MayJudge, stage_of}
 use Rattle.proof_hearing.specs.proof_queue.proof_attempts.proof_requests.proof_alone.Phases.{IsJudgedNow, Open, Phase}
 use Rattle.proof_hearing.specs.proof_queue.proof_attempts.proof_requests.proof_alone.Runs.{Run}
 use Rattle.proof_hearing.specs.proof_queue.proof_attempts.proof_requests.proof_alone.State.{HostMachine, done}
 use Rattle.proof_hearing.specs.proof_queue.proof_attempts.proof_requests.proof_alone.Steps.{AreTold, Judges, happens}
-use Rattle.proof_following.specs.Quiet.{acknowledges}
-use Rattle.proof_following.proofs.proof_ends_Walking.{ShowsOpen}
+use Rattle.proof_choice.specs.proof_following.Quiet.{acknowledges}
+use Rattle.proof_choice.proofs.proof_ends_Walking.{ShowsOpen}
+use Rattle.proof_noting.specs.Following.{Outset}
 use Rattle.proof_noting.specs.Behind.{AtOpen, InPayload}
 use Rattle.proof_noting.specs.Behind.BehindSo.{Payload_left}
 use Rattle.proof_noting.specs.Ground.{GroundAlong}
@@ -40,7 +40,7 @@ JudgesAsTold key taken =
     (past : List Entry) (m : HostMachine) (f : FrameParts) (rest : List LineUnit) → (run : Run (first_of key) Open past m) → Careful run → AllSteps (HeedsSo (heeds_alone taken)) run
     → m.came ≡ Framed f ∷ rest → m.awaits ≡ false → MayJudge (stage_of run) → Waits (queue_before (heeds_alone taken) past (Written Host (unit_text Ack))) m.state.requests.queue []
 
-module _ (key : List ℕ) (taken : List Entry → Carried → List Told) (from : Start) (ground : GroundAlong taken (first_of key)) (shows : ShowsOpen) (queues : JudgesAsTold key taken) where
+module _ (key : List ℕ) (taken : List Entry → Carried → List Told) (from : Outset) (ground : GroundAlong taken (first_of key)) (shows : ShowsOpen) (queues : JudgesAsTold key taken) where
   frame_judged : (past told : List Entry) (m : HostMachine) (f : FrameParts) (rest : List LineUnit) (behind : List HostEvent) → BringsPayload (Good (Framed f)) → (sure : SureRun taken (first_of key) Open past m)
       → SureStep taken sure.run (Judges (Good (Framed f)) rest behind told) → IsJudgedNow m (Good (Framed f)) rest behind told → AtOpen key taken from past m
       → InPayload key taken from (first_of key) (past ++ told) (record (done m (Hears (Good (Framed f)))) { came = rest }) behind
@@ -51,7 +51,8 @@ module _ (key : List ℕ) (taken : List Entry → Carried → List Told) (from :
           let are : told ≡ acknowledges ∷ marks
           = is ∙ ap (λ (l : List Entry). acknowledges ∷ (marks ++ l)) none ∙ ap (λ (l : List Entry). acknowledges ∷ l) (append-nil marks) in
           let unnumbered : m.awaits ≡ false = not_awaiting m.awaits acknowledges told marks now.numbered are in
-          kind_judged key taken from ground shows past m f rest behind told marks sure well now known (queues past m f rest sure.run sure.careful sure.heeds_so now.takes unnumbered well.well) are marked f.kind refl brings
+          kind_judged key taken from ground shows past m f rest behind told marks sure well now known
+          (queues past m f rest sure.run sure.careful sure.heeds_so now.takes unnumbered well.well.0) are marked f.kind refl brings
           well.heeds_as.0 well.heeds_as.1
 
   pub item_judged : (next : Phase) (past told : List Entry) (m : HostMachine) (item : Item) (rest : List LineUnit) (behind : List HostEvent) → BringsPayload item

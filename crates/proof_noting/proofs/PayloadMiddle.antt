@@ -1,39 +1,31 @@
 -- In the middle of a payload: what is known of the host there, and its books with what became of the acknowledgement.
-use Rattle.std.proofs.Common.{◌≡◌, ℕ, Bool, true, false, if◌then◌else◌, List, [], ◌∷◌, ◌++◌, Option, Some, None, refl, sym, ap, ◌∙◌}
+use Rattle.std.proofs.Common.{◌≡◌, ℕ, Bool, true, if◌then◌else◌, List, [], ◌∷◌, ◌++◌, Option, Some, None, refl, sym, ap, ◌∙◌}
 use Rattle.std.specs.Prelude.{is_some}
-use Rattle.std.specs.List.{AllByRecursion}
 use Rattle.std.proofs.lemmas.Bool.{both_ways, or_right}
-use Rattle.zw_words.specs.declared.side.Side.TheVariants.{Host}
 use Rattle.zw_text.specs.declared.entry.Entry.{Entry}
 use Rattle.zw_text.specs.declared.entry.Entry.TheVariants as entry
 use Rattle.host_heard.specs.declared.told.Told.{Told}
 use Rattle.host_model.specs.State.{node_of}
 use Rattle.host_model.specs.Events.{HostEvent}
-use Rattle.law_transcript.specs.Restarts.{begins_refused}
 use Rattle.law_transcript.specs.Units.{Carried}
 use Rattle.law_time.specs.Heeds.{Heeds}
-use Rattle.law_time.specs.Judged.{is_mark}
 use Rattle.law_time.specs.Moments.{clock}
 use Rattle.proof_choice.specs.proof_giving.Tie.{has_text}
 use Rattle.proof_choice.proofs.Stepping.{time_told}
-use Rattle.proof_choice.proofs.proof_requests_Telling.{IsQuiet}
 use Rattle.proof_choice.proofs.ReadyTie.{ground_of}
 use Rattle.proof_hearing.specs.Books.{BooksSo}
 use Rattle.proof_hearing.specs.Hearing.{NotAsked, Point, hearing_at}
-use Rattle.proof_hearing.specs.proof_queue.proof_attempts.proof_requests.law_host.Following.{is_note}
 use Rattle.proof_hearing.specs.proof_queue.proof_attempts.proof_requests.law_host.Heard.{heeds_alone}
 use Rattle.proof_hearing.specs.proof_queue.proof_attempts.proof_requests.law_host.Messages.{Hearing}
 use Rattle.proof_hearing.specs.proof_queue.proof_attempts.proof_requests.law_host.Nonces.{is_late}
-use Rattle.proof_hearing.specs.proof_queue.proof_attempts.proof_requests.law_host.Notes.{Start}
 use Rattle.proof_hearing.specs.proof_queue.proof_attempts.proof_requests.proof_alone.State.{HostMachine}
-use Rattle.proof_hearing.specs.proof_queue.proof_attempts.proof_requests.proof_alone.Steps.{IsOfUnit}
 use Rattle.proof_hearing.specs.proof_queue.proof_attempts.proof_requests.proof_alone.Phases.{Behind, Phase}
 use Rattle.proof_hearing.specs.proof_queue.proof_attempts.proof_requests.proof_alone.Runs.{Run}
 use Rattle.proof_hearing.proofs.Alike.{same_alike}
 use Rattle.proof_hearing.proofs.BooksGo.{books_on}
-use Rattle.proof_following.specs.Quiet.{acknowledges}
+use Rattle.proof_choice.specs.proof_following.Quiet.{acknowledges}
 use Rattle.proof_noting.specs.Behind.{InPayload}
-use Rattle.proof_noting.specs.Following.{timed}
+use Rattle.proof_noting.specs.Following.{Outset, timed}
 use Rattle.proof_noting.specs.Ground.{GroundAlong, NotingGround}
 use Rattle.proof_noting.specs.Steps.{first_of}
 use Rattle.proof_noting.specs.Sure.{SureRun}
@@ -46,40 +38,15 @@ PointsAlong key taken =
     (here : Phase) (told : List Entry) (m : HostMachine) → Run (first_of key) here told m → NotAsked here → (n : ℕ)
     → (is_late (heeds_alone taken) told n ≡ true → (node_of m.state n).pending ≡ None) → Point key (heeds_alone taken) told n m.state
 
--- ---- marks and notes
-
-pub unit_marks : (e : Entry) → IsOfUnit e → is_mark e ≡ true
-unit_marks (entry.Dropped Host) mark = refl
-unit_marks (entry.Garbled Host unit) mark = refl
-unit_marks (entry.Overrun Host) mark = refl
-unit_marks e mark = absurd mark
-
-pub marks_unrefused : (marks : List Entry) → AllByRecursion IsOfUnit marks → begins_refused marks ≡ false
-marks_unrefused [] all = refl
-marks_unrefused (entry.Refused refusal ∷ marks) all = absurd all.0
-marks_unrefused (e ∷ marks) all = refl
-
-pub notes_unrefused : (told : List Entry) → AllByRecursion (λ (e : Entry). is_note e ≡ true) told → begins_refused told ≡ false
-notes_unrefused [] all = refl
-notes_unrefused (entry.Refused refusal ∷ told) all = absurd (let bad : false ≡ true = all.0 in cc)
-notes_unrefused (e ∷ told) all = refl
-
-pub note_quiet : (e : Entry) → is_note e ≡ true → IsQuiet e
-note_quiet (entry.Said words) note = absurd (let bad : false ≡ true = note in cc)
-note_quiet (entry.Refused refusal) note = absurd (let bad : false ≡ true = note in cc)
-note_quiet (entry.Written side unit) note = absurd (let bad : false ≡ true = note in cc)
-note_quiet (entry.Dropped side) note = absurd (let bad : false ≡ true = note in cc)
-note_quiet (entry.Overrun side) note = absurd (let bad : false ≡ true = note in cc)
-note_quiet e note = tt
-
-module _ (key : List ℕ) (taken : List Entry → Carried → List Told) (from : Start) where
+module _ (key : List ℕ) (taken : List Entry → Carried → List Told) (from : Outset) where
   abbrev heeds : Heeds
   heeds = heeds_alone taken
 
   abbrev Middle : List Entry → HostMachine → List HostEvent → Type 0
   Middle past m left = InPayload key taken from (first_of key) past m left
 
-  module _ (ground : GroundAlong taken (first_of key)) (points : PointsAlong key taken) (past : List Entry) (m : HostMachine) (left : List HostEvent) (sure : SureRun taken (first_of key) (Behind left) past m) (it : Middle past m left) where
+  module _ (ground : GroundAlong taken (first_of key)) (points : PointsAlong key taken) (past : List Entry) (m : HostMachine) (left : List HostEvent)
+      (sure : SureRun taken (first_of key) (Behind left) past m) (it : Middle past m left) where
     abbrev upto : List Entry
     upto = it.before ++ acknowledges ∷ []
 
@@ -101,7 +68,7 @@ module _ (key : List ℕ) (taken : List Entry → Carried → List Told) (from :
     marked_time : clock past ≡ m.clock
     marked_time = time_told (Behind left) past (entry.Time 0 ∷ []) m (ground_of (Behind left) past m marked.grounds) (λ awaits. absurd (both_ways m.awaits it.numbered awaits)) (entry.Time 0) [] refl
 
-    pub stands_timed : (l : List Entry) → timed m l ≡ l
+    stands_timed : (l : List Entry) → timed m l ≡ l
     stands_timed l = ap (λ (b : Bool). if b then l ++ entry.Time m.clock ∷ [] else l) it.numbered
 
     -- no plain text waits of an attempt that is late

@@ -1,43 +1,37 @@
 -- Where no event of a payload is left the course follows the host again.
-use Rattle.std.proofs.Common.{◌≡◌, ◌⊎◌, ℕ, Bool, true, false, inl, inr, List, [], ◌∷◌, ◌++◌, Option, None, refl, sym, ap, ap₂, ◌∙◌, subst, append-nil, append_assoc, arith}
-use Rattle.std.specs.List.{AllByRecursion, flat_map}
+use Rattle.std.proofs.Common.{◌≡◌, ℕ, Bool, true, inr, List, [], ◌∷◌, ◌++◌, Option, refl, sym, ap, ap₂, ◌∙◌, subst, append-nil, append_assoc, arith}
+use Rattle.std.specs.List.{AllByRecursion}
 use Rattle.zw_base.proofs.Each.{all-append, all-weaker}
-use Rattle.chip_functions.specs.declared.request.Request.{Request}
 use Rattle.zw_text.specs.declared.entry.Entry.{Entry}
 use Rattle.host_heard.specs.declared.told.Told.{Told}
-use Rattle.host_requests.specs.Frames.{request_of}
-use Rattle.host_requests.specs.declared.task.Purpose.TheVariants.{Abort}
 use Rattle.host_model.specs.Events.{HostEvent}
-use Rattle.law_transcript.specs.Units.{Carried, request_in, sending_of}
+use Rattle.law_transcript.specs.Units.{Carried, request_in}
 use Rattle.law_time.specs.Heeds.{Heeds}
-use Rattle.law_time.specs.Judged.{is_mark}
-use Rattle.law_time.specs.Requests.{Asked, asked, judged_since, request_last}
+use Rattle.law_time.specs.Requests.{Asked, asked}
 use Rattle.proof_choice.proofs.proof_requests_Telling.{IsQuiet, mark_quiet, quiet_on}
 use Rattle.proof_hearing.specs.Books.{BooksSo}
 use Rattle.proof_hearing.specs.Hearing.{choosing, finishes, hearing_at, heeded_rest}
-use Rattle.proof_hearing.specs.proof_queue.proof_attempts.proof_requests.law_host.Course.{Course, Heeding, each_in_turn, with_heeded}
-use Rattle.proof_hearing.specs.proof_queue.proof_attempts.proof_requests.law_host.Ends.{ends_sealing}
+use Rattle.proof_hearing.specs.proof_queue.proof_attempts.proof_requests.law_host.Course.{Course, Heeding, with_heeded}
 use Rattle.proof_hearing.specs.proof_queue.proof_attempts.proof_requests.law_host.Following.{is_note}
 use Rattle.proof_hearing.specs.proof_queue.proof_attempts.proof_requests.law_host.Heard.{heeds_alone}
 use Rattle.proof_hearing.specs.proof_queue.proof_attempts.proof_requests.law_host.HostLegal.{IsHeeded}
 use Rattle.proof_hearing.specs.proof_queue.proof_attempts.proof_requests.law_host.Messages.{Hearing}
-use Rattle.proof_hearing.specs.proof_queue.proof_attempts.proof_requests.law_host.Notes.{Start, course_of}
 use Rattle.proof_hearing.specs.proof_queue.proof_attempts.proof_requests.proof_alone.State.{HostMachine}
 use Rattle.proof_hearing.specs.proof_queue.proof_attempts.proof_requests.proof_alone.Steps.{IsOfUnit}
 use Rattle.proof_hearing.specs.proof_queue.proof_attempts.proof_requests.proof_alone.Phases.{Behind}
 use Rattle.proof_hearing.proofs.OnePayload.{hears_over}
-use Rattle.proof_following.specs.Quiet.{acknowledges, ended_silently}
+use Rattle.proof_choice.specs.proof_following.Quiet.{acknowledges}
 use Rattle.proof_noting.specs.Behind.{AtOpen, InPayload}
-use Rattle.proof_noting.specs.Following.{CourseOf, Lags, Level, timed}
+use Rattle.proof_noting.specs.Following.{CourseOf, Outset, course_since}
 use Rattle.proof_noting.specs.Ground.{GroundAlong}
 use Rattle.proof_noting.specs.Steps.{first_of}
 use Rattle.proof_noting.specs.Sure.{SureRun}
-use Rattle.proof_noting.specs.Ticking.{OverSo}
-use Rattle.proof_noting.proofs.Aborts.{abort_unended}
-use Rattle.proof_noting.proofs.Choosing.{course_goes, marks_goes, notes_goes}
-use Rattle.proof_noting.proofs.PayloadMiddle.{PointsAlong, marked_books, marks_unrefused, note_quiet, notes_unrefused, point, stands_timed, unit_marks}
+use Rattle.proof_noting.proofs.Choosing.{course_goes, notes_goes}
+use Rattle.proof_noting.proofs.Followed.{follows_by, over_on}
+use Rattle.proof_noting.proofs.Marks.{marks_unrefused, note_quiet, notes_unrefused, units_go}
+use Rattle.proof_noting.proofs.PayloadMiddle.{PointsAlong, marked_books, point}
 
-module _ (key : List ℕ) (taken : List Entry → Carried → List Told) (from : Start) where
+module _ (key : List ℕ) (taken : List Entry → Carried → List Told) (from : Outset) where
   abbrev heeds : Heeds
   heeds = heeds_alone taken
 
@@ -74,7 +68,7 @@ module _ (key : List ℕ) (taken : List Entry → Carried → List Told) (from :
       kept = it.kept ++ it.since_kept;
       opened = it.opened ++ it.since_opened;
       is = λ keepings texts.
-          ap₂ (λ (x : List Bool) (y : List (Option (List ℕ))). course_of heeds from it.heard (record { keepings = x; texts = y })) (append_assoc it.kept it.since_kept keepings)
+          ap₂ (λ (x : List Bool) (y : List (Option (List ℕ))). course_since heeds from it.heard (record { keepings = x; texts = y })) (append_assoc it.kept it.since_kept keepings)
           (append_assoc it.opened it.since_opened texts)
           ∙ it.begins (it.since_kept ++ keepings) (it.since_opened ++ texts)
           ∙ ap (λ (c : Course). with_heeded upto carried c) (it.leads keepings texts ∙ over_so.0 keepings texts);
@@ -87,7 +81,7 @@ module _ (key : List ℕ) (taken : List Entry → Carried → List Told) (from :
     course_so =
         subst (λ (l : List Entry). CourseOf heeds from l stood) at
         (course_goes heeds from (upto ++ it.marks) it.course.due whole stood (notes_unrefused it.course.due it.notes)
-        (course_goes heeds from upto it.marks whole whole (marks_unrefused it.marks it.marked) acked (marks_goes heeds upto it.marks whole (all-weaker IsOfUnit (λ (e : Entry). is_mark e ≡ true) unit_marks it.marks it.marked)))
+        (course_goes heeds from upto it.marks whole whole (marks_unrefused it.marks it.marked) acked (units_go heeds upto it.marks whole it.marked))
         (notes_goes heeds (upto ++ it.marks) it.course.due whole it.notes it.so.fits refl))
 
     ticked : stood.ticked ≡ m.clock
@@ -101,8 +95,8 @@ module _ (key : List ℕ) (taken : List Entry → Carried → List Told) (from :
         goes_by : it.course.taken ≡ taken upto carried
         goes_by = sym (append-nil it.course.taken) ∙ ap (λ (l : List Told). it.course.taken ++ l) (sym over_so.1) ∙ it.goes_by
 
-    books : BooksSo key heeds (timed m past) m.state it.course
-    books = subst (λ (l : List Entry). BooksSo key heeds l m.state it.course) (sym (stands_timed key taken from ground points past m [] sure it past)) (marked_books key taken from ground points past m [] sure it)
+    books : BooksSo key heeds past m.state it.course
+    books = marked_books key taken from ground points past m [] sure it
 
     -- the last request is that of the acknowledgement
     asked_on : (asked past).frame ≡ (asked upto).frame
@@ -112,38 +106,11 @@ module _ (key : List ℕ) (taken : List Entry → Carried → List Told) (from :
         (quiet_on upto (it.marks ++ it.course.due)
         (all-append IsQuiet it.marks it.course.due (all-weaker IsOfUnit IsQuiet mark_quiet it.marks it.marked) (all-weaker (λ (e : Entry). is_note e ≡ true) IsQuiet note_quiet it.course.due it.notes)))
 
-    lags : it.begun.over ≡ false → m.state.requests.under_way ≡ None → (id : ℕ) → request_last upto ≡ request_of Abort id ∷ [] → Lags key heeds past m stood
-    lags running none id request = record {
-      running = ap (λ (c : Course). c.over) it.other ∙ running;
-      none = none;
-      purpose = Abort;
-      id = id;
-      request = last;
-      carries = tt;
-      well = tt;
-      unended = abort_unended past id last true (judged_since (asked past));
-      quiet = record { errands = refl; sleeps = refl; interviews = refl };
-      books = subst (λ (c : Course). BooksSo key heeds (timed m past) m.state c) (sym silent) books;
-      why = inr (inr refl);
-    }
-      where
-        last : request_last past ≡ request_of Abort id ∷ []
-        last = ap request_in asked_on ∙ request
-
-        silent : ended_silently past stood ≡ record stood { over = true }
-        silent = ap (λ (l : List Request). each_in_turn ends_sealing (flat_map sending_of l) (record stood { over = true })) last
-
-    so : Level key heeds past m stood ⊎ Lags key heeds past m stood
-    so = by it.over
-      where
-        by : OverSo upto m it.begun → Level key heeds past m stood ⊎ Lags key heeds past m stood
-        by (inl level) = inl (record { over = ap (λ (c : Course). c.over) it.other ∙ level; books = books })
-        by (inr (running, none, (id, request))) = inr (lags running none id request)
-
     pub payload_over : AtOpen key taken from past m
     payload_over = record {
       course = stood;
       of = course_so;
-      follows = record { fits = it.so.fits; none_due = refl; low = let same = ticked in omega (arith, same); heeded = heeded; so = so };
+      follows = follows_by key taken past m stood it.so.fits refl (let same = ticked in omega (arith, same)) heeded it.numbered
+          (over_on upto past m m it.begun stood (ap request_in asked_on) refl (ap (λ (c : Course). c.over) it.other) it.over) books;
       answered = inr (ticked, it.numbered);
     }

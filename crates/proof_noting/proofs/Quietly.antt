@@ -17,7 +17,7 @@ use Rattle.law_time.specs.Requests.{are_none, asked, sent_at}
 use Rattle.law_time.specs.Unanswered.{to_give_up}
 use Rattle.host_requests.specs.declared.under_way.UnderWay.{UnderWay}
 use Rattle.host_model.specs.Events.{HostEvent}
-use Rattle.proof_transcript.proofs.Ordered.{has_in_order}
+use Rattle.proof_hearing.proofs.Ordered.{has_in_order}
 use Rattle.proof_choice.specs.proof_giving.Tie.{AttemptsSo}
 use Rattle.proof_choice.specs.proof_giving.Walking.{KnowsAttempts}
 use Rattle.proof_choice.proofs.AtRest.{none_is_over, none_over_at}
@@ -33,7 +33,7 @@ use Rattle.proof_hearing.specs.proof_queue.proof_attempts.proof_requests.law_hos
 use Rattle.proof_hearing.specs.proof_queue.proof_attempts.proof_requests.proof_alone.State.{HostMachine}
 use Rattle.proof_hearing.specs.proof_queue.proof_attempts.proof_requests.proof_alone.Steps.{AreFrames}
 use Rattle.proof_hearing.specs.proof_queue.proof_attempts.proof_requests.proof_alone.Phases.{Phase, Resting, Ticking, Open, Behind, Sleeping, Submitting}
-use Rattle.proof_following.specs.Quiet.{NoneGone, Waits}
+use Rattle.proof_choice.specs.proof_following.Quiet.{NoneGone, Waits}
 use Rattle.proof_noting.specs.Ground.{NotingGround}
 
 -- ---- the nodes that joined

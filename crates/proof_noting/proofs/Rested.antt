@@ -13,24 +13,24 @@ use Rattle.proof_choice.proofs.Stepping.{none_on}
 use Rattle.proof_choice.proofs.ReadyTie.{ground_of}
 use Rattle.proof_hearing.specs.Hearing.{choosing}
 use Rattle.proof_hearing.proofs.Beginning.{uses_nonces}
-use Rattle.proof_hearing.specs.proof_queue.proof_attempts.proof_requests.law_host.Course.{Course}
+use Rattle.proof_hearing.specs.proof_queue.proof_attempts.proof_requests.law_host.Course.{Course, restarted}
 use Rattle.proof_hearing.specs.proof_queue.proof_attempts.proof_requests.law_host.Following.{passes}
 use Rattle.proof_hearing.specs.proof_queue.proof_attempts.proof_requests.law_host.Heard.{heeds_alone}
 use Rattle.proof_hearing.specs.proof_queue.proof_attempts.proof_requests.law_host.HostLegal.{IsHeeded}
 use Rattle.proof_hearing.specs.proof_queue.proof_attempts.proof_requests.law_host.Nonces.{UsesNonces}
-use Rattle.proof_hearing.specs.proof_queue.proof_attempts.proof_requests.law_host.Notes.{Start, course_of}
 use Rattle.proof_hearing.specs.proof_queue.proof_attempts.proof_requests.law_host.Ticks.{ticks}
 use Rattle.proof_hearing.specs.proof_queue.proof_attempts.proof_requests.proof_alone.Phases.{Phase, Resting, Asked, Open, Sleeping, Submitting}
 use Rattle.proof_hearing.specs.proof_queue.proof_attempts.proof_requests.proof_alone.State.{HostMachine}
-use Rattle.proof_following.proofs.proof_ends_Walking.{ShowsOpen}
+use Rattle.proof_choice.proofs.proof_ends_Walking.{ShowsOpen}
+use Rattle.proof_noting.specs.Following.{Outset, course_since}
 use Rattle.proof_noting.specs.Ground.{GroundAlong, NotingGround}
 use Rattle.proof_noting.specs.Noting.{Anew, AtRest, KnowsCourse}
 use Rattle.proof_noting.specs.Steps.{CourseFits, Fitting, FittingWhole, TurnFollows, first_of}
 use Rattle.proof_noting.specs.Sure.{SureRun}
 use Rattle.proof_noting.proofs.Becoming.{BecomesLevel, passes_so, ticks_now}
-use Rattle.proof_noting.proofs.Fitted.{Uses, follows_fit, uses_of}
+use Rattle.proof_noting.proofs.Fitted.{Uses, before_last, fits_by, follows_fit, uses_of, uses_same}
 
-module _ (key : List ℕ) (taken : List Entry → Carried → List Told) (from : Start) where
+module _ (key : List ℕ) (taken : List Entry → Carried → List Told) (from : Outset) where
   abbrev heeds : Heeds
   heeds = heeds_alone taken
 
@@ -67,16 +67,9 @@ module _ (key : List ℕ) (taken : List Entry → Carried → List Told) (from :
 
   fits_anew : (past : List Entry) (m : HostMachine) → Anew key taken from past m → Fitting key taken from past
   fits_anew past m anew =
-      let is = anew.of.is [] [] in
-      let uses = uses_nonces key heeds anew.somewhere m.state anew.course anew.books in
-      record {
-        heard = anew.of.heard;
-        split = anew.of.split;
-        choices = record { keepings = anew.of.kept ++ []; texts = anew.of.opened ++ [] };
-        drawn = anew.books.drawn;
-        fits = ap (λ (c : Course). c.fits) is ∙ anew.fits;
-        nonces = subst (UsesNonces key anew.books.drawn) (sym is) (record { seven = uses.seven; offered = uses.offered; opened = uses.opened; sealed = uses.sealed });
-      }
+      fits_by key taken from past anew.of.heard anew.of.split (record { keepings = anew.of.kept ++ []; texts = anew.of.opened ++ [] }) (choosing [] [] (restarted anew.course)) (anew.of.is [] []) anew.fits
+      (before_last (IsHeeded taken) anew.course.heeded anew.heeded) anew.books.drawn
+      (uses_same key anew.books.drawn (choosing [] [] (restarted anew.course)) anew.course refl refl refl (uses_nonces key heeds anew.somewhere m.state anew.course anew.books))
 
   pub fits_asked : (line : Line) (past : List Entry) (m : HostMachine) → CourseFits key taken from (Asked line) past m
   fits_asked line past m sure words = by (is_restart (line ∷ [])) refl
@@ -97,8 +90,7 @@ module _ (key : List ℕ) (taken : List Entry → Carried → List Told) (from :
     fits = ap (λ (c : Course). c.fits) is ∙ at.follows.fits;
     in_the_end = ap (λ (c : Course). (passes heeds past (entry.Said []) c).fits) is
         ∙ ap (λ (c : Course). c.fits) (passes_so key taken past m (entry.Said []) m.clock at.course there at.follows.fits at.follows.none_due b.0 [] []) ∙ b.0.fits;
-    nonces = subst (UsesNonces key uses.drawn) (sym is)
-        (record { seven = uses.nonces.seven; offered = uses.nonces.offered; opened = uses.nonces.opened; sealed = uses.nonces.sealed });
+    nonces = subst (UsesNonces key uses.drawn) (sym is) (uses_same key uses.drawn (choosing [] [] at.course) at.course refl refl refl uses.nonces);
     heeded = subst (λ (c : Course). AllByRecursion (IsHeeded taken) c.heeded) (sym is) at.follows.heeded;
   }
     where
@@ -111,7 +103,7 @@ module _ (key : List ℕ) (taken : List Entry → Carried → List Told) (from :
       there : now_at past (entry.Said []) ≡ m.clock
       there = let asks = (ground_of Resting past m ground.grounds).0.0.0.1.asked in omega (arith, asks, over)
 
-      is : course_of heeds from at.of.heard (record { keepings = at.of.kept ++ []; texts = at.of.opened ++ [] }) ≡ choosing [] [] at.course
+      is : course_since heeds from at.of.heard (record { keepings = at.of.kept ++ []; texts = at.of.opened ++ [] }) ≡ choosing [] [] at.course
       is = at.of.is [] []
 
       uses : Uses key taken from past m at.course

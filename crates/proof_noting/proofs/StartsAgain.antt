@@ -13,7 +13,6 @@ use Rattle.host_model.specs.State.{HostState, node_of}
 use Rattle.proof_messages.proofs.SealedTexts.{IsBare}
 use Rattle.proof_hearing.specs.proof_queue.proof_attempts.proof_requests.law_host.Course.{restarted}
 use Rattle.proof_hearing.specs.proof_queue.proof_attempts.proof_requests.law_host.Heard.{heeds_alone}
-use Rattle.proof_hearing.specs.proof_queue.proof_attempts.proof_requests.law_host.Notes.{Start}
 use Rattle.proof_hearing.specs.proof_queue.proof_attempts.proof_requests.proof_alone.Phases.{Asked, Phase}
 use Rattle.proof_hearing.specs.proof_queue.proof_attempts.proof_requests.proof_alone.State.{HostMachine}
 use Rattle.proof_hearing.specs.proof_queue.proof_attempts.proof_requests.proof_alone.Steps.{Restarts}
@@ -25,13 +24,13 @@ use Rattle.proof_hearing.proofs.Queueing.{opened_asks}
 use Rattle.proof_choice.proofs.Counting.{each_starts}
 use Rattle.proof_choice.proofs.ReadyStarts.{GiveOne, seen_starts}
 use Rattle.proof_noting.specs.Behind.{AtOpen}
-use Rattle.proof_noting.specs.Following.{CourseOf, timed}
+use Rattle.proof_noting.specs.Following.{CourseOf, Outset, timed}
 use Rattle.proof_noting.specs.Ground.{GroundAlong, NotingGround}
 use Rattle.proof_noting.specs.Noting.{Anew, KnowsCourse}
 use Rattle.proof_noting.specs.Steps.{StepFollows, first_of}
 use Rattle.proof_noting.proofs.Surely.{sure_step}
 
-pub starts_again : GiveOne → (key : List ℕ) (taken : List Entry → Carried → List Told) (from : Start) → GroundAlong taken (first_of key) → (next : Phase) (past : List Entry) (m : HostMachine) (state : HostState)
+pub starts_again : GiveOne → (key : List ℕ) (taken : List Entry → Carried → List Told) (from : Outset) → GroundAlong taken (first_of key) → (next : Phase) (past : List Entry) (m : HostMachine) (state : HostState)
     → StepFollows key taken from (Asked lines.Restart) past m (Restarts state) next
 starts_again one key taken from along next past m state sure step may known =
     subst (λ (p : Phase). KnowsCourse key taken from (first_of key) p (past ++ []) (record m { state = state; came = [] })) (sym may.2) open_so

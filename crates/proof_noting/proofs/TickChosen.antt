@@ -1,23 +1,20 @@
 -- What is given up, and the end of a request without a frame, leave what is still to be chosen in the course of notes; and notes that are due in a tick stand one after another.
 use Rattle.law_time.specs.Heeds.{Heeds}
 use Rattle.law_time.specs.Moments.{clock}
-use Rattle.law_time.specs.Requests.{asked}
-use Rattle.law_time.specs.Unanswered.{to_give_up}
-use Rattle.law_transcript.specs.Units.{Carried, sending_in}
-use Rattle.proof_following.proofs.Entering.{notes_after}
-use Rattle.proof_following.proofs.TickNotes.{tick_first}
-use Rattle.proof_following.proofs.Ticking.{nodes_grow, nodes_rest}
-use Rattle.proof_following.specs.Ended.{rest_of}
+use Rattle.proof_choice.proofs.Entering.{notes_after}
+use Rattle.proof_choice.proofs.TickNotes.{tick_first}
+use Rattle.proof_choice.proofs.Ticking.{nodes_grow, nodes_rest}
+use Rattle.proof_choice.specs.proof_following.Ended.{rest_of}
 use Rattle.proof_hearing.specs.Hearing.{choosing}
-use Rattle.proof_hearing.specs.proof_queue.proof_attempts.proof_requests.law_host.Course.{Course, each_in_turn, with_notes, without_texts}
-use Rattle.proof_hearing.specs.proof_queue.proof_attempts.proof_requests.law_host.Ends.{done_notes, ends_badly, ends_sealing, ends_without, failed_notes, gives_up, gives_up_late, is_of_sealed, sleep_notes, to_give_up_by_end}
+use Rattle.proof_hearing.specs.proof_queue.proof_attempts.proof_requests.law_host.Course.{Course, each_in_turn}
+use Rattle.proof_hearing.specs.proof_queue.proof_attempts.proof_requests.law_host.Ends.{ends_without, gives_up_late}
 use Rattle.proof_hearing.specs.proof_queue.proof_attempts.proof_requests.law_host.Following.{course_after, is_note}
-use Rattle.proof_hearing.specs.proof_queue.proof_attempts.proof_requests.law_host.Notes.{Start, course_of}
 use Rattle.proof_hearing.specs.proof_queue.proof_attempts.proof_requests.law_host.Ticks.{ticks}
-use Rattle.proof_noting.proofs.PayloadMiddle.{notes_unrefused}
-use Rattle.proof_noting.specs.Following.{CourseOf}
+use Rattle.proof_noting.proofs.Marks.{notes_unrefused}
+use Rattle.proof_noting.specs.Following.{CourseOf, Outset, course_since}
 use Rattle.proof_noting.proofs.Choosing.{cancel, course_on}
-use Rattle.std.proofs.Common.{Bool, List, Option, [], ap, append_assoc, ap₂, false, if◌then◌else◌, refl, sym, true, ℕ, ◌++◌, ◌∙◌, ◌∷◌, ◌≡◌}
+use Rattle.proof_noting.proofs.InFront.{nodes_pass, without_passes}
+use Rattle.std.proofs.Common.{Bool, List, Option, [], ap, append_assoc, ap₂, refl, sym, true, ℕ, ◌++◌, ◌∙◌, ◌∷◌, ◌≡◌}
 use Rattle.std.specs.List.{AllByRecursion}
 use Rattle.std.specs.Prelude.{nat_lt}
 use Rattle.zw_text.specs.declared.entry.Done.{Done as HowDone}
@@ -26,41 +23,13 @@ use Rattle.zw_text.specs.declared.entry.Entry.{Entry}
 -- ---- what is still to be chosen
 
 module _ (keepings : List Bool) (texts : List (Option (List ℕ))) where
-  commands_chosen : (past : List Entry) (node : ℕ) (commands : List ℕ) (c : Course)
-      → each_in_turn (gives_up past node) commands (choosing keepings texts c) ≡ choosing keepings texts (each_in_turn (gives_up past node) commands c)
-  commands_chosen past node [] c = refl
-  commands_chosen past node (command ∷ commands) c = commands_chosen past node commands (gives_up past node command c)
-
   pub nodes_chosen : (heeds : Heeds) (past : List Entry) (now : ℕ) (nodes : List ℕ) (c : Course)
       → each_in_turn (gives_up_late heeds past now) nodes (choosing keepings texts c) ≡ choosing keepings texts (each_in_turn (gives_up_late heeds past now) nodes c)
-  nodes_chosen heeds past now [] c = refl
-  nodes_chosen heeds past now (n ∷ nodes) c =
-      ap (λ (d : Course). each_in_turn (gives_up_late heeds past now) nodes d) (commands_chosen past n (to_give_up heeds (past ++ c.due) now n) c)
-      ∙ nodes_chosen heeds past now nodes (gives_up_late heeds past now n c)
-
-  sealing_chosen : (one : Carried) (c : Course) → ends_sealing one (choosing keepings texts c) ≡ choosing keepings texts (ends_sealing one c)
-  sealing_chosen one c = by (is_of_sealed one)
-    where
-      by : (b : Bool) → (if b then without_texts one.node (choosing keepings texts c) else choosing keepings texts c) ≡ choosing keepings texts (if b then without_texts one.node c else c)
-      by true = refl
-      by false = refl
-
-  badly_chosen : (heeds : Heeds) (past : List Entry) (now : ℕ) (one : Carried) (c : Course)
-      → ends_badly heeds past now one (choosing keepings texts c) ≡ choosing keepings texts (ends_badly heeds past now one c)
-  badly_chosen heeds past now one c =
-      ap (λ (d : Course). each_in_turn (gives_up past one.node) (to_give_up_by_end heeds (past ++ d.due) now one.node) d) (sealing_chosen one c)
-      ∙ commands_chosen past one.node (to_give_up_by_end heeds (past ++ (ends_sealing one c).due) now one.node) (ends_sealing one c)
-
-  all_chosen : (heeds : Heeds) (past : List Entry) (now : ℕ) (sent : List Carried) (c : Course)
-      → each_in_turn (ends_badly heeds past now) sent (choosing keepings texts c) ≡ choosing keepings texts (each_in_turn (ends_badly heeds past now) sent c)
-  all_chosen heeds past now [] c = refl
-  all_chosen heeds past now (one ∷ sent) c =
-      ap (λ (d : Course). each_in_turn (ends_badly heeds past now) sent d) (badly_chosen heeds past now one c) ∙ all_chosen heeds past now sent (ends_badly heeds past now one c)
+  nodes_chosen heeds past now nodes c = nodes_pass (λ before. keepings) (λ before. texts) [] heeds past now nodes c
 
   pub without_chosen : (heeds : Heeds) (past : List Entry) (now : ℕ) (how : HowDone) (c : Course)
       → ends_without heeds past now how (choosing keepings texts c) ≡ choosing keepings texts (ends_without heeds past now how c)
-  without_chosen heeds past now how c =
-      all_chosen heeds past now (sending_in (asked past).frame) (with_notes (done_notes heeds past how ++ sleep_notes past ++ failed_notes past) (record c { over = true }))
+  without_chosen heeds past now how c = without_passes (λ before. keepings) (λ before. texts) [] heeds past now how c
 
 -- ---- notes in a tick
 
@@ -70,17 +39,18 @@ module _ (heeds : Heeds) where
   ticking start now nodes mid = each_in_turn (gives_up_late heeds start now) nodes mid
 
   -- so it is of the course of a transcript, whatever is chosen later
-  abbrev pub InTick : (kept : List Bool) (opened : List (Option (List ℕ))) (start noted : List Entry) (now : ℕ) (rest : List ℕ) (mid : Course) (from : Start) (heard : List Entry) → Type 0
+  abbrev pub InTick : (kept : List Bool) (opened : List (Option (List ℕ))) (start noted : List Entry) (now : ℕ) (rest : List ℕ) (mid : Course) (from : Outset) (heard : List Entry) → Type 0
   InTick kept opened start noted now rest mid from heard =
       (keepings : List Bool) (texts : List (Option (List ℕ)))
       → (more : List Entry) × ((ticking start now rest (choosing keepings texts mid)).due ≡ noted ++ more)
-      × (course_of heeds from heard (record { keepings = kept ++ keepings; texts = opened ++ texts }) ≡ record (ticking start now rest (choosing keepings texts mid)) { due = more })
+      × (course_since heeds from heard (record { keepings = kept ++ keepings; texts = opened ++ texts }) ≡ record (ticking start now rest (choosing keepings texts mid)) { due = more })
 
   same_fits : (c d : Course) → rest_of c ≡ rest_of d → d.fits ≡ true → c.fits ≡ true
   same_fits c d same fits = ap (λ (x : Course). x.fits) same ∙ fits
 
   -- the first notes: the course goes through the whole tick, of which these are due, and others
-  pub first_noted : (from : Start) (past told : List Entry) (c mid : Course) (rest : List ℕ) → AllByRecursion (λ e. is_note e ≡ true) told → (told ≡ [] → ⊥) → (of : CourseOf heeds from past c) → c.fits ≡ true → c.due ≡ []
+  pub first_noted : (from : Outset) (past told : List Entry) (c mid : Course) (rest : List ℕ) → AllByRecursion (λ e. is_note e ≡ true) told → (told ≡ [] → ⊥) → (of : CourseOf heeds from past c)
+      → c.fits ≡ true → c.due ≡ []
       → nat_lt c.ticked (clock past) ≡ true
       → ((keepings : List Bool) (texts : List (Option (List ℕ))) → ticks heeds past (clock past) (choosing keepings texts c) ≡ ticking past (clock past) rest (choosing keepings texts mid))
       → mid.due ≡ told → mid.fits ≡ true → InTick of.kept of.opened past told (clock past) rest mid from (of.heard ++ told)
@@ -102,7 +72,8 @@ module _ (heeds : Heeds) where
       )
 
   -- further ones, of nodes that were still to be looked at
-  pub more_noted : (kept : List Bool) (opened : List (Option (List ℕ))) (from : Start) (start noted past heard told : List Entry) (now : ℕ) (rest back : List ℕ) (mid later : Course) → past ≡ from.before ++ heard → AllByRecursion (λ e. is_note e ≡ true) told
+  pub more_noted : (kept : List Bool) (opened : List (Option (List ℕ))) (from : Outset) (start noted past heard told : List Entry) (now : ℕ) (rest back : List ℕ) (mid later : Course)
+      → past ≡ from.before ++ heard → AllByRecursion (λ e. is_note e ≡ true) told
       → InTick kept opened start noted now rest mid from heard
       → ((keepings : List Bool) (texts : List (Option (List ℕ))) → ticking start now rest (choosing keepings texts mid) ≡ ticking start now back (choosing keepings texts later))
       → later.due ≡ noted ++ told → later.fits ≡ true → InTick kept opened start (noted ++ told) now back later from (heard ++ told)

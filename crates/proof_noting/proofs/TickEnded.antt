@@ -2,7 +2,7 @@
 use Rattle.chip_functions.specs.Field.{IsNode}
 use Rattle.chip_functions.specs.declared.request.Request.{Request}
 use Rattle.host_heard.specs.declared.told.Told.{Told}
-use Rattle.host_model.specs.Ends.{Bad, PartEnd, attempt_entries, done_of, end_entries, part_end, part_entries, task_entries}
+use Rattle.host_model.specs.Ends.{Bad, PartEnd, attempt_entries, done_of, end_entries, part_end, part_entries}
 use Rattle.host_model.specs.Sessions.{open_command}
 use Rattle.host_model.specs.State.{HostState, node_of}
 use Rattle.host_node.specs.Events.NodeEvent.{Ends_attempt}
@@ -21,12 +21,12 @@ use Rattle.law_time.specs.Moments.{KeepsAfter, clock}
 use Rattle.law_time.specs.Requests.{asked}
 use Rattle.law_transcript.specs.Payloads.{nonce_get}
 use Rattle.law_transcript.specs.Units.{Carried, sending_in, sending_of}
-use Rattle.proof_following.proofs.Ending.{badly_one, entries_are, late_is}
-use Rattle.proof_following.proofs.Framing.{noted_so}
-use Rattle.proof_following.proofs.proof_ends_Noting.{NodesSo}
-use Rattle.proof_following.specs.Ended.{EndingOf, EndsAs, GoneOf, IsLate, NotedSo, answer_entries, errand_entries, failed_entries, noted_by, outcome_entries, sent_by, sleep_entries}
-use Rattle.proof_following.specs.Ended.EndsAs.{Ends_well}
-use Rattle.proof_following.specs.Quiet.{ended_silently}
+use Rattle.proof_choice.proofs.Ending.{badly_one, entries_are, late_is}
+use Rattle.proof_choice.proofs.Framing.{noted_so}
+use Rattle.proof_choice.proofs.proof_ends_Noting.{NodesSo}
+use Rattle.proof_choice.specs.proof_following.Ended.{EndingOf, EndsAs, GoneOf, IsLate, NotedSo, answer_entries, errand_entries, failed_entries, noted_by, outcome_entries, sent_by, sleep_entries}
+use Rattle.proof_choice.specs.proof_following.Ended.EndsAs.{Ends_well}
+use Rattle.proof_choice.specs.proof_following.Quiet.{ended_silently}
 use Rattle.proof_choice.proofs.Doings.{does_at, one_does, part_does, purpose_does}
 use Rattle.proof_choice.proofs.Told.{attempts_left}
 use Rattle.proof_choice.specs.proof_giving.Stays.{ShowsSessions}
@@ -42,11 +42,10 @@ use Rattle.proof_hearing.specs.proof_queue.proof_attempts.proof_requests.law_hos
 use Rattle.proof_hearing.specs.proof_queue.proof_attempts.proof_requests.law_host.Nonces.{is_late}
 use Rattle.proof_host.specs.Facts.{Facts}
 use Rattle.proof_noting.proofs.AsksSealed.{AskSo}
-use Rattle.proof_noting.proofs.EndBooks.{CutOff, EndLeaves}
-use Rattle.proof_noting.proofs.LeftNodes.{bad_left, task_left}
+use Rattle.proof_noting.proofs.EndLeaves.{CutOff, EndLeaves, bad_left, task_left}
 use Rattle.proof_noting.proofs.Sendings.{sending_nodes}
-use Rattle.proof_noting.proofs.TickBooks.{AreUnsealed, bad_books, kept_books, task_unsealed, unsealed_same}
-use Rattle.proof_noting.proofs.TickEnds.{attempt_gone, gave, soft_leaves, task_none, task_soft}
+use Rattle.proof_noting.proofs.LeftBooks.{AreUnsealed, bad_books, kept_books, task_unsealed, unsealed_same}
+use Rattle.proof_noting.proofs.TickEnds.{attempt_gone, gave, task_leaves, task_none}
 use Rattle.serial_link.specs.State.{Side}
 use Rattle.std.proofs.Common.{Bool, List, Some, [], ap, append-nil, false, if◌then◌else◌, inl, refl, subst, sym, true, ℕ, ◌++◌, ◌∙◌, ◌∷◌, ◌≡◌, ◌≤◌}
 use Rattle.std.proofs.lemmas.Bool.{eq-eqb}
@@ -57,7 +56,7 @@ module _ (key : List ℕ) (taken : List Entry → Carried → List Told) where
   abbrev heeds : Heeds
   heeds = heeds_alone taken
 
-  bad_part : (more : Bool) (how : How) → IsLate how → part_end more how ≡ Bad
+  pub bad_part : (more : Bool) (how : How) → IsLate how → part_end more how ≡ Bad
   bad_part true Silent late = refl
   bad_part false Silent late = refl
   bad_part true LinkFailed late = refl
@@ -260,5 +259,5 @@ module _ (key : List ℕ) (taken : List Entry → Carried → List Told) where
       end_so (Attempt n more payload) how end late now time c none some law books = attempt_so n more payload how end start later late now time c none some law books
       end_so (Housekeeping t) how end late now time c none some law books =
           other_so (Housekeeping t) how end (λ n. refl) (task_sealed t how end) (task_alike t how end) start later late now c none refl
-          (soft_leaves (task_entries before t how) (task_soft before t how)) books
+          (task_leaves before t how) books
       end_so Abort how end late now time c none some law books = absurd (some refl)

@@ -1,5 +1,5 @@
 -- Which commands are given up in a tick, by the transcript as in the host: those of third attempts that end with their request, or whose wait is over; and of the end of a request that is of no
--- attempt none. What is noted then are notes, and no node joins by them.
+-- attempt none. No node joins by notes.
 use Rattle.std.proofs.Common.{◌≡◌, ◌⊎◌, ℕ, ◌+◌, ◌≤◌, ◌==◌, ◌&&◌, ◌||◌, Bool, true, false, if◌then◌else◌, inl, inr, List, [], ◌∷◌, ◌++◌, map, Option, Some, None, refl, sym, ap, ap₂, ◌∙◌, subst, append-nil, append_assoc, arith}
 use Rattle.std.specs.Prelude.{nat_le, nat_lt, is_some}
 use Rattle.std.specs.List.{AllByRecursion, flat_map, list_any}
@@ -29,20 +29,17 @@ use Rattle.law_time.specs.Sessions.{is_open, last_command}
 use Rattle.law_time.specs.Unanswered.{is_to_give_up, third_is_over, to_give_up}
 use Rattle.host_requests.specs.declared.end.How.{How}
 use Rattle.host_requests.specs.declared.end.How.TheVariants.{AtResponse}
-use Rattle.host_requests.specs.declared.task.Purpose.{Purpose}
-use Rattle.host_requests.specs.declared.task.Purpose.TheVariants.{Abort, Attempt, Housekeeping}
 use Rattle.host_requests.specs.declared.task.Task.{Task}
 use Rattle.host_requests.specs.declared.task.Task.TheVariants.{IsFailed, Neighbours, NoMore, Plain, Second}
 use Rattle.host_requests.specs.declared.under_way.UnderWay.{UnderWay}
 use Rattle.host_node.specs.Facts.{NodeFacts, SeriesFacts}
 use Rattle.host_node.specs.State.{NodeState, is_running}
 use Rattle.host_node.specs.Steps.{attempt_end, falls_asleep}
-use Rattle.host_node.specs.declared.attempt.AttemptEnd.{AttemptEnd}
 use Rattle.host_node.specs.declared.attempt.AttemptEnd.TheVariants.{Again, NoneRan, Unanswered}
 use Rattle.host_node.specs.declared.series.Series.{Series}
 use Rattle.host_node.specs.declared.series.Series.TheVariants.{Due, Idle, Running}
 use Rattle.host_model.specs.State.{HostState, node_of}
-use Rattle.host_model.specs.Ends.{Bad, Good, PartEnd, Passed_over, asleep_entry, attempt_entries, end_entries, failed_entry, neighbours_entry, out_entry, part_end, part_entries, task_entries}
+use Rattle.host_model.specs.Ends.{asleep_entry, attempt_entries, failed_entry, neighbours_entry, task_entries}
 use Rattle.host_model.specs.Facts.{IsCommandOf}
 use Rattle.host_model.specs.Sessions.{open_command}
 use Rattle.proof_host.specs.Facts.{Facts}
@@ -58,76 +55,43 @@ use Rattle.proof_hearing.specs.proof_queue.proof_attempts.proof_requests.law_hos
 use Rattle.proof_hearing.specs.proof_queue.proof_attempts.proof_requests.law_host.Ends.{done_notes, ends_badly, ends_sealing, ends_without, failed_notes, given_up_notes, gives_up, sleep_notes, to_give_up_by_end}
 use Rattle.proof_hearing.specs.proof_queue.proof_attempts.proof_requests.law_host.Following.{is_note}
 use Rattle.proof_hearing.specs.proof_queue.proof_attempts.proof_requests.law_host.Heard.{heeds_alone}
-use Rattle.proof_following.specs.proof_ends.Ends.{GivesUp}
-use Rattle.proof_following.specs.Ended.{GaveUp, GoneOf}
-use Rattle.proof_following.specs.Quiet.{ended_silently}
-use Rattle.proof_following.proofs.Ending.{sealing_due}
-use Rattle.proof_following.proofs.proof_ends_Noting.{NodesSo, gives_up_so}
+use Rattle.proof_choice.specs.proof_following.proof_ends.Ends.{GivesUp}
+use Rattle.proof_choice.specs.proof_following.Ended.{GaveUp, GoneOf}
+use Rattle.proof_choice.specs.proof_following.Quiet.{ended_silently}
+use Rattle.proof_choice.proofs.Ending.{sealing_due}
+use Rattle.proof_choice.proofs.proof_ends_Noting.{NodesSo, gives_up_so}
 use Rattle.proof_noting.proofs.Quietly.{none_by_end}
 
 -- ---- notes
 
-abbrev pub AreNotes : List Entry → Type 0
-AreNotes told = AllByRecursion (λ e. is_note e ≡ true) told
+asleep_leaves : (fell : Bool) (n : ℕ) → AllByRecursion LeavesAttempts (asleep_entry fell n)
+asleep_leaves true n = (tt, tt)
+asleep_leaves false n = tt
 
--- but of outcomes they leave the attempts of all nodes
-abbrev pub IsSoft : Entry → Type 0
-IsSoft e = (is_note e ≡ true) × LeavesAttempts e
+neighbours_leaves : (n : ℕ) (how : How) → AllByRecursion LeavesAttempts (neighbours_entry n how)
+neighbours_leaves n (AtResponse (GetRoutingInfo nodes)) = (tt, tt)
+neighbours_leaves n how = tt
 
-asleep_soft : (fell : Bool) (n : ℕ) → AllByRecursion IsSoft (asleep_entry fell n)
-asleep_soft true n = ((refl, tt), tt)
-asleep_soft false n = tt
+failed_leaves : (n : ℕ) (how : How) → AllByRecursion LeavesAttempts (failed_entry n how)
+failed_leaves n (AtResponse (IsFailedNode has_failed)) = (tt, tt)
+failed_leaves n how = tt
 
-pub soft_notes : (told : List Entry) → AllByRecursion IsSoft told → AreNotes told
-soft_notes [] all = tt
-soft_notes (e ∷ told) all = (all.0.0, soft_notes told all.1)
+-- those of the end of a task leave the attempts of all nodes
+pub task_leaves : (h : HostState) (task : Task) (how : How) → AllByRecursion LeavesAttempts (task_entries h task how)
+task_leaves h (Plain n payload) how = (tt, tt)
+task_leaves h (NoMore n) how = asleep_leaves (falls_asleep (node_of h n)) n
+task_leaves h (Second n) how = (tt, tt)
+task_leaves h (Neighbours n) how = neighbours_leaves n how
+task_leaves h (IsFailed n) how = failed_leaves n how
+task_leaves h task how = tt
 
-pub soft_leaves : (told : List Entry) → AllByRecursion IsSoft told → AllByRecursion LeavesAttempts told
-soft_leaves [] all = tt
-soft_leaves (e ∷ told) all = (all.0.1, soft_leaves told all.1)
-
-out_notes : (command : Option ℕ) (told : List Entry) → AreNotes told → AreNotes (out_entry command ++ told)
-out_notes None told all = all
-out_notes (Some command) told all = (refl, all)
-
-pub attempt_notes : (n : ℕ) (end : AttemptEnd) (command : Option ℕ) → AreNotes (attempt_entries n end command)
-attempt_notes n NoneRan command = tt
-attempt_notes n Again command = tt
-attempt_notes n (Unanswered fell) command = out_notes command (asleep_entry fell n) (soft_notes (asleep_entry fell n) (asleep_soft fell n))
-
-neighbours_soft : (n : ℕ) (how : How) → AllByRecursion IsSoft (neighbours_entry n how)
-neighbours_soft n (AtResponse (GetRoutingInfo nodes)) = ((refl, tt), tt)
-neighbours_soft n how = tt
-
-failed_soft : (n : ℕ) (how : How) → AllByRecursion IsSoft (failed_entry n how)
-failed_soft n (AtResponse (IsFailedNode has_failed)) = ((refl, tt), tt)
-failed_soft n how = tt
-
-pub task_soft : (h : HostState) (task : Task) (how : How) → AllByRecursion IsSoft (task_entries h task how)
-task_soft h (Plain n payload) how = ((refl, tt), tt)
-task_soft h (NoMore n) how = asleep_soft (falls_asleep (node_of h n)) n
-task_soft h (Second n) how = ((refl, tt), tt)
-task_soft h (Neighbours n) how = neighbours_soft n how
-task_soft h (IsFailed n) how = failed_soft n how
-task_soft h task how = tt
-
-part_notes : (h : HostState) (n : ℕ) (end : PartEnd) → AreNotes (part_entries h n end)
-part_notes h n Good = tt
-part_notes h n Passed_over = tt
-part_notes h n Bad = attempt_notes n (attempt_end (node_of h n)) (open_command (node_of h n))
-
-pub end_notes : (h : HostState) (p : Purpose) (how : How) → AreNotes (end_entries h (record { purpose = p; how = how }))
-end_notes h (Attempt n more payload) how = part_notes h n (part_end more how)
-end_notes h (Housekeeping task) how = soft_notes (task_entries h task how) (task_soft h task how)
-end_notes h Abort how = tt
-
--- no node joins by them
+-- no node joins by notes
 lines_on : (past : List Entry) (e : Entry) → is_note e ≡ true → lines_done (past ++ e ∷ []) ≡ lines_done past
 lines_on past (entry.Said words) is = absurd (let bad : false ≡ true = is in cc)
 lines_on past (entry.Refused refusal) is = absurd (let bad : false ≡ true = is in cc)
 lines_on past e is = ap doing_lines (folded-append doing_step (record { earlier = []; last = [] }) past (e ∷ [])) ∙ append-nil (lines_done past)
 
-pub notes_joined : (past told : List Entry) → AreNotes told → joined (past ++ told) ≡ joined past
+pub notes_joined : (past told : List Entry) → AllByRecursion (λ e. is_note e ≡ true) told → joined (past ++ told) ≡ joined past
 notes_joined past [] all = ap joined (append-nil past)
 notes_joined past (e ∷ told) all =
     ap joined (sym (append_assoc past (e ∷ []) told)) ∙ notes_joined (past ++ e ∷ []) told all.1 ∙ ap (λ (l : List Line). 2 ∷ flat_map join_of l) (lines_on past e all.0)

@@ -4,27 +4,24 @@ use Rattle.host_model.specs.Ends.{asleep_entry}
 use Rattle.host_model.specs.Events.{HostEvent, Node_ticks}
 use Rattle.host_model.specs.Outs.{outs}
 use Rattle.host_model.specs.State.{HostState, node_of}
-use Rattle.host_node.specs.State.{NodeState, is_false}
-use Rattle.host_node.specs.Steps.{after_sleep, asleep, falls_asleep}
+use Rattle.host_node.specs.Steps.{falls_asleep}
 use Rattle.host_requests.specs.declared.task.Purpose.{Purpose}
 use Rattle.host_requests.specs.declared.task.Purpose.TheVariants.{Abort, Attempt, Housekeeping}
 use Rattle.host_requests.specs.declared.task.Task.TheVariants.{NoMore}
-use Rattle.host_requests.specs.declared.under_way.UnderWay.{UnderWay}
 use Rattle.law_time.specs.Moments.{KeepsAfter, clock}
 use Rattle.law_time.specs.Requests.{Asked, request_last}
 use Rattle.law_transcript.specs.Lists.{EachAfter}
 use Rattle.law_transcript.specs.Units.{Carried, request_in}
 use Rattle.proof_choice.proofs.Owners.{OwnLaw}
 use Rattle.proof_choice.proofs.ReadyTie.{ground_of}
-use Rattle.proof_following.proofs.proof_ends_Noting.{NodesSo}
-use Rattle.proof_following.proofs.proof_ends_Walking.{ShowsOpen, nodes_so}
-use Rattle.proof_following.specs.Ended.{sleep_entries}
+use Rattle.proof_choice.proofs.proof_ends_Noting.{NodesSo}
+use Rattle.proof_choice.proofs.proof_ends_Walking.{ShowsOpen, nodes_so}
+use Rattle.proof_choice.specs.proof_following.Ended.{sleep_entries}
 use Rattle.proof_choice.proofs.Stepping.{time_told}
 use Rattle.proof_choice.proofs.proof_requests_Telling.{IsQuiet as QuietEntry, quiet_on}
 use Rattle.proof_choice.specs.proof_giving.Walking.{gives_up_well}
 use Rattle.proof_choice.specs.proof_giving.proof_queue.proof_attempts.Since.{KnowsSince}
 use Rattle.proof_hearing.specs.proof_queue.proof_attempts.proof_requests.Walking.{IsNodeTick}
-use Rattle.proof_hearing.specs.proof_queue.proof_attempts.proof_requests.law_host.Course.{Course}
 use Rattle.proof_hearing.specs.proof_queue.proof_attempts.proof_requests.law_host.Following.{is_note}
 use Rattle.proof_hearing.specs.proof_queue.proof_attempts.proof_requests.law_host.Heard.{heeds_alone}
 use Rattle.proof_hearing.specs.proof_queue.proof_attempts.proof_requests.proof_alone.Phases.{IsNumbered, May, Phase, Ticking}
@@ -32,17 +29,15 @@ use Rattle.proof_hearing.specs.proof_queue.proof_attempts.proof_requests.proof_a
 use Rattle.proof_hearing.specs.proof_queue.proof_attempts.proof_requests.proof_alone.Steps.{AreFrames, AreTold, Does}
 use Rattle.proof_host.specs.Facts.{Facts}
 use Rattle.proof_noting.proofs.AsksSealed.{AskSo, AsksAreSo}
-use Rattle.proof_noting.proofs.PayloadMiddle.{note_quiet}
+use Rattle.proof_noting.proofs.Marks.{note_quiet}
 use Rattle.proof_noting.proofs.Surely.{sure_does}
 use Rattle.proof_noting.specs.Following.{IsQuiet}
 use Rattle.proof_noting.specs.Ground.{GroundAlong, NotingGround}
 use Rattle.proof_noting.specs.Steps.{first_of}
 use Rattle.proof_noting.specs.Sure.{SureRun}
-use Rattle.proof_noting.specs.Ticking.{IsIdleAt, OverSo}
-use Rattle.std.proofs.Common.{Bool, List, Option, [], ap, false, if◌then◌else◌, inl, inr, refl, sym, true, ℕ, ◌++◌, ◌∙◌, ◌∷◌, ◌≡◌, ◌≤◌}
-use Rattle.std.proofs.lemmas.Bool.{and_right}
+use Rattle.proof_noting.specs.Ticking.{IsIdleAt}
+use Rattle.std.proofs.Common.{Bool, List, [], ap, false, refl, true, ℕ, ◌++◌, ◌∷◌, ◌≡◌, ◌≤◌}
 use Rattle.std.specs.List.{AllByRecursion}
-use Rattle.std.specs.Prelude.{is_none}
 use Rattle.zw_base.proofs.Each.{all-weaker}
 use Rattle.zw_text.specs.declared.entry.Entry.{Entry}
 use Rattle.zw_text.specs.declared.entry.Entry.TheVariants as entry
@@ -79,12 +74,6 @@ ticks_ground key taken laws first left past told m sure may = record {
 -- notes leave the request
 pub same_request : (past told : List Entry) → AllByRecursion (λ e. is_note e ≡ true) told → request_last (past ++ told) ≡ request_last past
 same_request past told all = ap (λ (a : Asked). request_in a.frame) (quiet_on past told (all-weaker (λ (e : Entry). is_note e ≡ true) QuietEntry note_quiet told all))
-
--- and whether it is over
-pub over_on : (past later : List Entry) (m k : HostMachine) (c d : Course) → request_last later ≡ request_last past → k.state.requests.under_way ≡ m.state.requests.under_way → d.over ≡ c.over
-    → OverSo past m c → OverSo later k d
-over_on past later m k c d request under over (inl is) = inl (over ∙ is ∙ ap (λ (o : Option UnderWay). is_none o) (sym under))
-over_on past later m k c d request under over (inr (running, none, (id, is))) = inr (over ∙ running, under ∙ none, (id, request ∙ is))
 
 -- the request has had its part where nodes tick
 pub nodes_idle : (left : List HostEvent) (m : HostMachine) → AllByRecursion IsNodeTick left → IsIdleAt left m
@@ -132,11 +121,3 @@ falls_quiet h g falls p quiet = record { errands = quiet.errands; sleeps = by p 
     by (Housekeeping task) none = refl
     by (Attempt n more payload) none = refl
     by Abort none = refl
-
--- one that was let sleep does not
-pub slept_not : (t : NodeState) → falls_asleep (after_sleep t) ≡ false
-slept_not t = by t.listens refl
-  where
-    by : (b : Bool) → t.listens ≡ b → falls_asleep (if b then t else asleep t) ≡ false
-    by true is = and_right t.awake (is_false t.listens) (ap is_false is)
-    by false is = refl

@@ -9,13 +9,13 @@ use Rattle.host_requests.specs.declared.task.Purpose.{Purpose}
 use Rattle.host_requests.specs.declared.under_way.UnderWay.{UnderWay}
 use Rattle.law_time.specs.Ends.{ending_among}
 use Rattle.law_time.specs.Heeds.{Heeds}
-use Rattle.law_time.specs.Judged.{is_acknowledgement, is_data, is_mark}
+use Rattle.law_time.specs.Judged.{is_acknowledgement, is_data}
 use Rattle.law_time.specs.Moments.{clock}
 use Rattle.law_time.specs.Requests.{Asked, are_none, asked, copies as copies_of, is_copy, is_new, judged_since, sent_at}
 use Rattle.law_transcript.specs.Units.{Carried, request_in, sending_in}
-use Rattle.proof_following.proofs.Entering.{comes_within, plain_after}
-use Rattle.proof_following.proofs.Ticking.{undenied}
-use Rattle.proof_following.specs.Quiet.{ended_silently}
+use Rattle.proof_choice.proofs.Entering.{comes_within, plain_after}
+use Rattle.proof_choice.proofs.Ticking.{undenied}
+use Rattle.proof_choice.specs.proof_following.Quiet.{ended_silently}
 use Rattle.proof_choice.proofs.proof_attempts_Walking.{marks_quiet}
 use Rattle.proof_hearing.proofs.BooksGo.{books_on}
 use Rattle.proof_hearing.proofs.proof_requests_Growing.{asked_copy}
@@ -29,21 +29,19 @@ use Rattle.proof_hearing.specs.proof_queue.proof_attempts.proof_requests.law_hos
 use Rattle.proof_hearing.specs.proof_queue.proof_attempts.proof_requests.law_host.Frames.{frame_next, judges}
 use Rattle.proof_hearing.specs.proof_queue.proof_attempts.proof_requests.law_host.Heard.{heeds_alone}
 use Rattle.proof_hearing.specs.proof_queue.proof_attempts.proof_requests.law_host.Nonces.{is_late}
-use Rattle.proof_hearing.specs.proof_queue.proof_attempts.proof_requests.law_host.Notes.{Start}
 use Rattle.proof_hearing.specs.proof_queue.proof_attempts.proof_requests.law_host.Ticks.{denies, is_denied, ticks}
 use Rattle.proof_hearing.specs.proof_queue.proof_attempts.proof_requests.proof_alone.State.{HostMachine}
 use Rattle.proof_hearing.specs.proof_queue.proof_attempts.proof_requests.proof_alone.Steps.{IsOfUnit}
-use Rattle.proof_noting.proofs.Choosing.{course_goes, goes_both, goes_on as goes_on_so, marks_goes}
-use Rattle.proof_noting.proofs.FramesGo.{marks_keep}
+use Rattle.proof_noting.proofs.Choosing.{course_goes, goes_both, goes_on as goes_on_so}
 use Rattle.proof_noting.proofs.Lately.{late_on}
-use Rattle.proof_noting.proofs.NewlyAsked.{unit_marked}
-use Rattle.proof_noting.proofs.PayloadMiddle.{marks_unrefused}
+use Rattle.proof_noting.proofs.Marks.{marks_keep, marks_unrefused, units_go}
 use Rattle.proof_noting.proofs.Requested.{Stays, read_framed, stays_quiet}
-use Rattle.proof_noting.proofs.TickBooks.{kept_books}
+use Rattle.proof_noting.proofs.LeftBooks.{kept_books}
 use Rattle.proof_noting.proofs.TickGround.{falls_quiet}
 use Rattle.proof_noting.proofs.TickNoted.{nothing_told, still_none}
-use Rattle.proof_noting.specs.Following.{Goes, IsQuiet, Lags, Level, timed}
-use Rattle.proof_noting.specs.Ticking.{Ascends, NoneNoted, TickSo}
+use Rattle.proof_noting.specs.Following.{Goes, IsQuiet, Lags, Level, Outset, timed}
+use Rattle.proof_choice.specs.proof_following.proof_ends.Ascending.{Ascends}
+use Rattle.proof_noting.specs.Ticking.{NoneNoted, TickSo}
 use Rattle.proof_noting.specs.Ticking.TickSo.{Nothing}
 use Rattle.serial_frame.specs.Frame.{FrameParts}
 use Rattle.serial_link.specs.State.{Side, turn_ticked}
@@ -52,7 +50,6 @@ use Rattle.serial_link.specs.declared.turn.Turn.TheVariants.{Idle, Paused}
 use Rattle.std.proofs.Common.{Bool, List, None, Option, Some, [], ap, append_assoc, ap₂, false, if◌then◌else◌, inl, inr, not, refl, subst, sym, true, ℕ, ◌&&◌, ◌++◌, ◌∙◌, ◌∷◌, ◌≡◌, ◌⊎◌}
 use Rattle.std.specs.List.{AllByRecursion}
 use Rattle.std.specs.Prelude.{bytes_eq, is_none, nat_lt}
-use Rattle.zw_base.proofs.Each.{all-weaker}
 use Rattle.zw_text.specs.declared.entry.Entry.{Entry}
 use Rattle.zw_words.specs.declared.side.Side.TheVariants.{Host}
 use Rattle.zw_text.specs.declared.entry.Entry.TheVariants as entry
@@ -75,7 +72,7 @@ none_some o u none some = absurd (let bad : None ≡ Some u = sym none ∙ some 
 pub after_fails : (h : HostState) (b : Bool) → gives_up h.side.turn (turn_ticked h.side.turn) ≡ b → after h Line_ticks ≡ failing_if b (line_ticked h)
 after_fails h b is = ap (λ (x : Bool). failing_if x (line_ticked h)) is
 
-module _ (key : List ℕ) (taken : List Entry → Carried → List Told) (from : Start) (left : List HostEvent) (past told : List Entry) (m : HostMachine) (known : NoneNoted key taken from past m) where
+module _ (key : List ℕ) (taken : List Entry → Carried → List Told) (from : Outset) (left : List HostEvent) (past told : List Entry) (m : HostMachine) (known : NoneNoted key taken from past m) where
   abbrev heeds : Heeds
   heeds = heeds_alone taken
 
@@ -127,7 +124,7 @@ module _ (key : List ℕ) (taken : List Entry → Carried → List Told) (from :
     on : (c : Course) → c.fits ≡ true → c.due ≡ [] → Goes heeds past (wrote ∷ marks) c c
     on c fits none =
         goes_both heeds past (wrote ∷ []) marks c c c (marks_unrefused marks all) (goes_on_so heeds past (wrote ∷ []) c c (steps c fits none))
-        (marks_goes heeds (past ++ wrote ∷ []) marks c (all-weaker IsOfUnit (λ e. is_mark e ≡ true) unit_marked marks all))
+        (units_go heeds (past ++ wrote ∷ []) marks c all)
 
     late_so : (n : ℕ) → is_late heeds past n ≡ true → is_late heeds later n ≡ true
     late_so n late = late_on taken n past (wrote ∷ marks) (inr (inl old), marks_keep taken n (past ++ wrote ∷ []) marks all) late

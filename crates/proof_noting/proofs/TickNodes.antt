@@ -29,13 +29,14 @@ use Rattle.law_time.specs.Requests.{asked, request_last}
 use Rattle.law_time.specs.Unanswered.{to_give_up}
 use Rattle.law_transcript.specs.Lists.{EachAfter, Has}
 use Rattle.law_transcript.specs.Units.{Carried, sending_in}
+use Rattle.proof_choice.proofs.proof_ends_Walking.{ascends_from}
 use Rattle.proof_choice.proofs.Owners.{accepted_joined}
 use Rattle.proof_choice.proofs.ReadyTie.{ground_of}
-use Rattle.proof_following.proofs.Ticking.{given_ticks, goes_on, silent_ticks}
-use Rattle.proof_following.proofs.proof_ends_Noting.{asked_by, node_noted, purpose_asks, purpose_interviews}
-use Rattle.proof_following.specs.Ended.{GoneSo, rest_of}
-use Rattle.proof_following.specs.Quiet.{Waits, ended_silently}
-use Rattle.proof_following.specs.proof_ends.Ends.{GivesUp}
+use Rattle.proof_choice.proofs.Ticking.{given_ticks, goes_on, silent_ticks}
+use Rattle.proof_choice.proofs.proof_ends_Noting.{asked_by, node_noted, purpose_asks, purpose_interviews}
+use Rattle.proof_choice.specs.proof_following.Ended.{GoneSo, rest_of}
+use Rattle.proof_choice.specs.proof_following.Quiet.{Waits, ended_silently}
+use Rattle.proof_choice.specs.proof_following.proof_ends.Ends.{GivesUp}
 use Rattle.proof_choice.proofs.proof_giving_Along.{texts_run}
 use Rattle.proof_choice.proofs.Doings.{node_after, nodes_are}
 use Rattle.proof_choice.proofs.Late.{unended_at}
@@ -54,31 +55,33 @@ use Rattle.proof_hearing.specs.proof_queue.proof_attempts.proof_requests.law_hos
 use Rattle.proof_hearing.specs.proof_queue.proof_attempts.proof_requests.law_host.Following.{is_note}
 use Rattle.proof_hearing.specs.proof_queue.proof_attempts.proof_requests.law_host.Heard.{heeds_alone}
 use Rattle.proof_hearing.specs.proof_queue.proof_attempts.proof_requests.law_host.Nonces.{is_late}
-use Rattle.proof_hearing.specs.proof_queue.proof_attempts.proof_requests.law_host.Notes.{Start}
 use Rattle.proof_hearing.specs.proof_queue.proof_attempts.proof_requests.law_host.Ticks.{nodes_in_order, ticks}
 use Rattle.proof_hearing.specs.proof_queue.proof_attempts.proof_requests.proof_alone.Phases.{Ticking}
 use Rattle.proof_hearing.specs.proof_queue.proof_attempts.proof_requests.proof_alone.State.{HostMachine, done}
 use Rattle.proof_hearing.specs.proof_queue.proof_attempts.proof_requests.proof_alone.Steps.{AreFrames}
 use Rattle.proof_host.specs.Facts.{Facts}
 use Rattle.proof_host.specs.Tables.{taken_by}
-use Rattle.proof_noting.proofs.Ascending.{ascends_from, below_done, has_joined}
+use Rattle.proof_noting.proofs.Ascending.{below_done, has_joined}
 use Rattle.proof_noting.proofs.Becoming.{runs_so, sleeps_by, tells_of}
 use Rattle.proof_noting.proofs.Choosing.{silently_chosen, silently_is}
-use Rattle.proof_noting.proofs.EndNotes.{attempt_keep}
+use Rattle.proof_noting.proofs.EndNotes.{attempt_keep, tick_notes}
 use Rattle.proof_noting.proofs.Lately.{KeepsLate, late_on, timed_attempts, timed_clock, to_late}
-use Rattle.proof_noting.proofs.LeftNodes.{TickLeft, tick_here, tick_kept, tick_other, tick_requests}
+use Rattle.proof_noting.proofs.TickLeaves.{TickLeft, tick_here, tick_kept, tick_other, tick_requests}
 use Rattle.proof_noting.proofs.Onwards.{now_is}
 use Rattle.proof_noting.proofs.Quietly.{in_order_nodes, none_by_end, none_ticked, unended_waits}
 use Rattle.proof_noting.proofs.Requested.{EndedLate, abort_purpose, abort_sends, ended_late, read_framed}
 use Rattle.proof_noting.proofs.Requested.EndedLate.{As_abort, Given_up, In_silence}
 use Rattle.proof_noting.proofs.Sendings.{sending_nodes}
-use Rattle.proof_noting.proofs.TickBooks.{end_books, kept_books, late_books, open_kept, stale_so}
+use Rattle.proof_noting.proofs.LeftBooks.{end_books, kept_books, late_books, open_kept, stale_so}
 use Rattle.proof_noting.proofs.TickChosen.{ticking}
-use Rattle.proof_noting.proofs.TickEnds.{attempt_notes, by_own, few_idle, few_none, given_up, late_now, quiet_end, runs_or, shown_node}
-use Rattle.proof_noting.proofs.TickGround.{TickGround, falls_quiet, nodes_idle, over_on, same_request, slept_not, tick_facts, tick_frames, tick_nodes, tick_numbered, tick_time}
+use Rattle.proof_noting.proofs.TickEnds.{by_own, few_idle, few_none, given_up, late_now, quiet_end, runs_or, shown_node}
+use Rattle.proof_noting.proofs.Followed.{over_on}
+use Rattle.proof_noting.proofs.EndLeaves.{slept_not}
+use Rattle.proof_noting.proofs.TickGround.{TickGround, falls_quiet, nodes_idle, same_request, tick_facts, tick_frames, tick_nodes, tick_numbered, tick_time}
 use Rattle.proof_noting.proofs.TickNoted.{Midway, gives_first, gives_more, nothing_told, still_none, still_some}
-use Rattle.proof_noting.specs.Following.{Lags, Level, timed}
-use Rattle.proof_noting.specs.Ticking.{Ascends, NoneNoted, OverSo, SomeNoted, TickSo}
+use Rattle.proof_noting.specs.Following.{Lags, Level, Outset, timed}
+use Rattle.proof_choice.specs.proof_following.proof_ends.Ascending.{Ascends}
+use Rattle.proof_noting.specs.Ticking.{NoneNoted, OverSo, SomeNoted, TickSo}
 use Rattle.proof_noting.specs.Ticking.TickSo.{Nothing, Something}
 use Rattle.std.proofs.Common.{Bool, List, None, Option, Some, [], ap, ap₂, arith, false, if◌then◌else◌, inl, inr, length, refl, subst, sym, true, ℕ, ◌&&◌, ◌++◌, ◌+◌, ◌-◌, ◌<◌, ◌==◌, ◌||◌, ◌∙◌, ◌∷◌, ◌≡◌, ◌≤◌, ◌⊎◌}
 use Rattle.std.proofs.lemmas.Bool.{both_ways, cases_eq, eq-eqb, or_left, or_right}
@@ -143,7 +146,7 @@ sealing_open h n so = record {
   form = so.form;
 }
 
-module _ (key : List ℕ) (taken : List Entry → Carried → List Told) (from : Start) (n : ℕ) (left : List HostEvent) (past told : List Entry) (m : HostMachine) (s : TickGround taken (Node_ticks n) left past told m)
+module _ (key : List ℕ) (taken : List Entry → Carried → List Told) (from : Outset) (n : ℕ) (left : List HostEvent) (past told : List Entry) (m : HostMachine) (s : TickGround taken (Node_ticks n) left past told m)
     (is_node : IsNode n) (all : AllByRecursion IsNodeTick left) (tie : IsTied past m) where
   abbrev heeds : Heeds
   heeds = heeds_alone taken
@@ -182,7 +185,7 @@ module _ (key : List ℕ) (taken : List Entry → Carried → List Told) (from :
   told_is = noted_told (attempt_entries n (tick_end (node_of h n)) (open_command (node_of h n))) told s.told_so
 
   notes : AllByRecursion (λ e. is_note e ≡ true) told
-  notes = subst (AllByRecursion (λ e. is_note e ≡ true)) (sym told_is) (attempt_notes n (tick_end (node_of h n)) (open_command (node_of h n)))
+  notes = subst (AllByRecursion (λ e. is_note e ≡ true)) (sym told_is) (tick_notes h n)
 
   -- ---- nothing is told
 
@@ -288,7 +291,8 @@ module _ (key : List ℕ) (taken : List Entry → Carried → List Told) (from :
           (still_some key taken from past m g r (Node_ticks n) left t (ascends_from t.last n left (let less = t.above.0 in omega (arith, less)) t.above.1) (over_on past past m k t.mid t.mid refl under refl t.over)
           (nodes_idle left k all) (quiet_books past (now_is taken (Ticking (Node_ticks n ∷ left)) past m s.ground t.numbered) refl t.mid t.books))
       by (inr gives) =
-          gives_more key taken from n past told m notes (some gives) (gone gives) (none_below gives t.above.1) left t (has gives) g r (over_on past (past ++ told) m k t.mid t.mid (same_request past told notes) under refl t.over)
+          gives_more key taken from n past told m notes (some gives) (gone gives) (none_below gives t.above.1) left t (has gives) g r
+          (over_on past (past ++ told) m k t.mid t.mid (same_request past told notes) under refl t.over)
           (nodes_idle left k all) (loud_books gives t.mid t.books)
 
   -- ---- where nothing was

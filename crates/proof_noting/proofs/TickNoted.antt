@@ -13,10 +13,10 @@ use Rattle.law_time.specs.Unanswered.{to_give_up}
 use Rattle.law_transcript.specs.Lists.{Has}
 use Rattle.law_transcript.specs.Table.{in_order}
 use Rattle.law_transcript.specs.Units.{Carried}
-use Rattle.proof_following.proofs.Ending.{gives_late}
-use Rattle.proof_following.proofs.Ticking.{up_to_node}
-use Rattle.proof_following.specs.Ended.{GaveUp, GoneSo, rest_of}
-use Rattle.proof_following.specs.Quiet.{NoneGone, ended_silently}
+use Rattle.proof_choice.proofs.Ending.{gives_late}
+use Rattle.proof_choice.proofs.Ticking.{up_to_node}
+use Rattle.proof_choice.specs.proof_following.Ended.{GaveUp, GoneSo, rest_of}
+use Rattle.proof_choice.specs.proof_following.Quiet.{NoneGone, ended_silently}
 use Rattle.proof_hearing.specs.Books.{BooksSo}
 use Rattle.proof_hearing.specs.Hearing.{choosing}
 use Rattle.proof_hearing.specs.proof_queue.proof_attempts.Carried.{CarriesWell}
@@ -26,7 +26,6 @@ use Rattle.proof_hearing.specs.proof_queue.proof_attempts.proof_requests.law_hos
 use Rattle.proof_hearing.specs.proof_queue.proof_attempts.proof_requests.law_host.Following.{is_note}
 use Rattle.proof_hearing.specs.proof_queue.proof_attempts.proof_requests.law_host.Heard.{heeds_alone}
 use Rattle.proof_hearing.specs.proof_queue.proof_attempts.proof_requests.law_host.HostLegal.{IsHeeded}
-use Rattle.proof_hearing.specs.proof_queue.proof_attempts.proof_requests.law_host.Notes.{Start}
 use Rattle.proof_hearing.specs.proof_queue.proof_attempts.proof_requests.law_host.Ticks.{nodes_in_order, ticks}
 use Rattle.proof_hearing.specs.proof_queue.proof_attempts.proof_requests.proof_alone.State.{HostMachine}
 use Rattle.proof_hearing.specs.proof_queue.proof_attempts.proof_requests.proof_alone.Steps.{AreFrames}
@@ -34,8 +33,9 @@ use Rattle.proof_noting.proofs.Ascending.{Rises, before_it, later_rises, left_in
 use Rattle.proof_noting.proofs.Quietly.{in_order_nodes}
 use Rattle.proof_noting.proofs.TickChosen.{InTick, first_noted, more_noted, ticking}
 use Rattle.proof_noting.proofs.TickEnds.{notes_joined}
-use Rattle.proof_noting.specs.Following.{CourseOf, Follows, IsQuiet, Lags, Level, timed}
-use Rattle.proof_noting.specs.Ticking.{Ascends, IsIdleAt, NoneNoted, OverSo, SomeNoted}
+use Rattle.proof_noting.specs.Following.{CourseOf, Follows, IsQuiet, Lags, Level, Outset, timed}
+use Rattle.proof_choice.specs.proof_following.proof_ends.Ascending.{Ascends}
+use Rattle.proof_noting.specs.Ticking.{IsIdleAt, NoneNoted, OverSo, SomeNoted}
 use Rattle.proof_noting.proofs.Choosing.{split_on}
 use Rattle.std.proofs.Common.{Bool, List, None, Option, Some, [], ap, append-nil, append_assoc, arith, false, inl, inr, refl, subst, sym, true, ℕ, ◌++◌, ◌<◌, ◌∙◌, ◌∷◌, ◌≡◌, ◌≤◌, ◌⊎◌}
 use Rattle.std.proofs.lemmas.Bool.{lt-ltb}
@@ -50,7 +50,7 @@ use Rattle.zw_text.specs.declared.entry.Entry.{Entry}
 pub nothing_told : (P : List Entry → Type 0) (past told : List Entry) → told ≡ [] → P past → P (past ++ told)
 nothing_told P past told none so = subst P (sym (ap (λ (l : List Entry). past ++ l) none ∙ append-nil past)) so
 
-module _ (key : List ℕ) (taken : List Entry → Carried → List Told) (from : Start) where
+module _ (key : List ℕ) (taken : List Entry → Carried → List Told) (from : Outset) where
   abbrev heeds : Heeds
   heeds = heeds_alone taken
 

@@ -2,7 +2,7 @@
 use Rattle.chip_functions.specs.Field.{IsNode}
 use Rattle.host_heard.specs.declared.told.Told.{Told}
 use Rattle.host_model.specs.After.{after}
-use Rattle.host_model.specs.Ends.{Bad, PartEnd, asleep_entry, done_of, end_entries, part_end, part_entries}
+use Rattle.host_model.specs.Ends.{PartEnd, asleep_entry, done_of, end_entries, end_entries_if, part_entries}
 use Rattle.host_model.specs.Events.{HostEvent, Requests_do}
 use Rattle.host_model.specs.State.{HostState, node_of}
 use Rattle.host_node.specs.Events.NodeEvent.{Ends_attempt}
@@ -26,10 +26,10 @@ use Rattle.law_time.specs.Moments.{KeepsAfter, clock}
 use Rattle.law_time.specs.Requests.{asked}
 use Rattle.law_transcript.specs.Lists.{EachAfter}
 use Rattle.law_transcript.specs.Units.{Carried}
-use Rattle.proof_following.proofs.HostEnds.{ending_of}
-use Rattle.proof_following.proofs.LateEnds.{any_by, silent_ungiven}
-use Rattle.proof_following.proofs.Ticking.{given_ticks, silent_ticks}
-use Rattle.proof_following.specs.Ended.{EndingOf, IsLate}
+use Rattle.proof_choice.proofs.HostEnds.{ending_of}
+use Rattle.proof_choice.proofs.LateEnds.{any_by, silent_ungiven}
+use Rattle.proof_choice.proofs.Ticking.{given_ticks, silent_ticks}
+use Rattle.proof_choice.specs.proof_following.Ended.{EndingOf, IsLate}
 use Rattle.proof_choice.proofs.Doings.{Doing, did, does_at, end_does, node_after, purpose_does}
 use Rattle.proof_choice.proofs.Requesting.{requests_are}
 use Rattle.proof_choice.specs.proof_giving.Walking.{gives_up_well, request_clock}
@@ -45,23 +45,21 @@ use Rattle.proof_hearing.specs.proof_queue.proof_attempts.proof_requests.law_hos
 use Rattle.proof_hearing.specs.proof_queue.proof_attempts.proof_requests.law_host.Ends.{ends_without}
 use Rattle.proof_hearing.specs.proof_queue.proof_attempts.proof_requests.law_host.Following.{is_note}
 use Rattle.proof_hearing.specs.proof_queue.proof_attempts.proof_requests.law_host.Heard.{heeds_alone}
-use Rattle.proof_hearing.specs.proof_queue.proof_attempts.proof_requests.law_host.Notes.{Start}
 use Rattle.proof_hearing.specs.proof_queue.proof_attempts.proof_requests.law_host.Ticks.{nodes_in_order, ticks}
 use Rattle.proof_hearing.specs.proof_queue.proof_attempts.proof_requests.proof_alone.Phases.{Ticking}
 use Rattle.proof_hearing.specs.proof_queue.proof_attempts.proof_requests.proof_alone.State.{HostMachine}
 use Rattle.proof_hearing.specs.proof_queue.proof_attempts.proof_work.Doing.{IsTold}
 use Rattle.proof_host.specs.Facts.{Facts}
-use Rattle.proof_noting.proofs.EndBooks.{request_leaves}
-use Rattle.proof_noting.proofs.EndNotes.{attempt_keep, task_keep}
+use Rattle.proof_noting.proofs.EndLeaves.{one_other, request_leaves, slept_not}
+use Rattle.proof_noting.proofs.EndNotes.{attempt_keep, request_notes, task_keep}
 use Rattle.proof_noting.proofs.Lately.{KeepsLate, late_on}
-use Rattle.proof_noting.proofs.LeftNodes.{one_other}
 use Rattle.proof_noting.proofs.TickChosen.{ticking, without_chosen}
-use Rattle.proof_noting.proofs.TickEnded.{EndedSo, LateBy, LateEnd, end_quiet, end_so, ended}
-use Rattle.proof_noting.proofs.TickEnds.{end_notes}
-use Rattle.proof_noting.proofs.TickGround.{TickGround, slept_not, tick_facts, tick_nodes, tick_numbered, tick_time}
+use Rattle.proof_noting.proofs.TickEnded.{EndedSo, LateBy, LateEnd, bad_part, end_quiet, end_so, ended}
+use Rattle.proof_noting.proofs.TickGround.{TickGround, tick_facts, tick_nodes, tick_numbered, tick_time}
 use Rattle.proof_noting.proofs.TickNoted.{ends_quietly, first_some, nothing_told}
-use Rattle.proof_noting.specs.Following.{IsQuiet, Lags, Level, timed}
-use Rattle.proof_noting.specs.Ticking.{Ascends, IsIdleAt, NoneNoted, TickSo}
+use Rattle.proof_noting.specs.Following.{IsQuiet, Lags, Level, Outset, timed}
+use Rattle.proof_choice.specs.proof_following.proof_ends.Ascending.{Ascends}
+use Rattle.proof_noting.specs.Ticking.{IsIdleAt, NoneNoted, TickSo}
 use Rattle.proof_noting.specs.Ticking.TickSo.{Nothing, Something}
 use Rattle.serial_link.specs.State.{Side}
 use Rattle.std.proofs.Common.{Bool, List, None, Option, Some, [], ap, arith, false, if◌then◌else◌, inl, inr, length, refl, subst, sym, true, ℕ, ◌++◌, ◌<◌, ◌==◌, ◌∙◌, ◌∷◌, ◌≡◌, ◌≤◌, ◌⊎◌}
@@ -71,15 +69,8 @@ use Rattle.std.specs.Prelude.{is_none, nat_le}
 use Rattle.zw_text.specs.declared.entry.Entry.{Entry}
 use Rattle.zw_text.specs.declared.entry.Entry.TheVariants as entry
 
-late_bad : (how : How) → IsLate how → (more : Bool) → part_end more how ≡ Bad
-late_bad Silent late true = refl
-late_bad Silent late false = refl
-late_bad LinkFailed late true = refl
-late_bad LinkFailed late false = refl
-late_bad how late more = absurd late
-
 -- the host after the line's tick, and with an event of its requests
-module _ (key : List ℕ) (taken : List Entry → Carried → List Told) (from : Start) (first : HostEvent) (left : List HostEvent) (past told : List Entry) (m : HostMachine) (s : TickGround taken first left past told m)
+module _ (key : List ℕ) (taken : List Entry → Carried → List Told) (from : Outset) (first : HostEvent) (left : List HostEvent) (past told : List Entry) (m : HostMachine) (s : TickGround taken first left past told m)
     (known : NoneNoted key taken from past m) (side : Side) (event : RequestsEvent) (is_told : IsTold event) (p : Purpose) (progress : Progress)
     (under : m.state.requests.under_way ≡ Some (record { purpose = p; progress = progress })) (how : How) (late : IsLate how)
     (ends : end_at m.state.requests event ≡ Some (record { purpose = p; how = how })) (over : (requests_after m.state.requests event).under_way ≡ None) (carries : CarriesSo p)
@@ -189,7 +180,7 @@ module _ (key : List ℕ) (taken : List Entry → Carried → List Told) (from :
       awaits = tick_numbered taken first left past told m s some
 
       notes : AllByRecursion (λ e. is_note e ≡ true) told
-      notes = subst (AllByRecursion (λ e. is_note e ≡ true)) (sym told_is) (end_notes before p how)
+      notes = subst (AllByRecursion (λ e. is_note e ≡ true)) (ap (end_entries_if before) ends ∙ sym told_is) (request_notes lined event)
 
       running : Level key heeds past m c ⊎ Lags key heeds past m c → Level key heeds past m c
       running (inl level) = level
@@ -210,7 +201,7 @@ module _ (key : List ℕ) (taken : List Entry → Carried → List Told) (from :
           by : (p : Purpose) → told ≡ end_entries before (record { purpose = p; how = how }) → LateBy key taken past h side rs g past (past ++ told) p
           by (Attempt n more payload) are = λ j is other was.
               late_on taken j past told
-              (subst (λ (l : List Entry). EachAfter (KeepsLate taken j) past l) (sym (are ∙ ap (λ (e : PartEnd). part_entries before n e) (late_bad how late more)))
+              (subst (λ (l : List Entry). EachAfter (KeepsLate taken j) past l) (sym (are ∙ ap (λ (e : PartEnd). part_entries before n e) (bad_part key taken more how late)))
               (attempt_keep taken j past h facts.host (s.ground.grounds.shows j).last n other (attempt_end (node_of h n)))) was
           by (Housekeeping t) are = λ j is was.
               late_on taken j past told

@@ -16,21 +16,20 @@ use Rattle.host_requests.specs.declared.end.How.{How}
 use Rattle.host_requests.specs.declared.end.How.TheVariants.{LinkFailed, Silent}
 use Rattle.host_requests.specs.declared.next.Next.{Next}
 use Rattle.host_requests.specs.declared.next.Next.TheVariants.{Ends as ends_so, GoesOn}
-use Rattle.host_requests.specs.declared.task.Purpose.TheVariants.{Abort}
 use Rattle.host_requests.specs.declared.under_way.Progress.{Progress}
 use Rattle.host_requests.specs.declared.under_way.UnderWay.{UnderWay}
 use Rattle.law_time.specs.Heeds.{Heeds}
 use Rattle.law_time.specs.Judged.{acknowledged}
-use Rattle.law_time.specs.Requests.{Failing, are_none, asked, is_new, judged_since}
+use Rattle.law_time.specs.Requests.{Failing, are_none, asked, is_new}
 use Rattle.law_time.specs.Unanswered.{to_give_up}
 use Rattle.law_transcript.specs.Lists.{Has}
 use Rattle.law_transcript.specs.Units.{Carried}
-use Rattle.proof_following.proofs.EndsTold.{given_up_at, silent_at}
+use Rattle.proof_choice.proofs.EndsTold.{given_up_at, silent_at}
 use Rattle.proof_choice.proofs.ReadyTie.{asked_of, ground_of}
-use Rattle.proof_following.proofs.Ticking.{nodes_rest, none_gone}
-use Rattle.proof_following.proofs.proof_ends_Walking.{carries_by}
-use Rattle.proof_following.specs.Ended.{IsLate, rest_of}
-use Rattle.proof_following.specs.Quiet.{NoneGone}
+use Rattle.proof_choice.proofs.Ticking.{nodes_rest, none_gone}
+use Rattle.proof_choice.proofs.proof_ends_Walking.{carries_by, ticks_ascend}
+use Rattle.proof_choice.specs.proof_following.Ended.{IsLate, rest_of}
+use Rattle.proof_choice.specs.proof_following.Quiet.{NoneGone}
 use Rattle.proof_choice.proofs.Line.{failing_few, few_is}
 use Rattle.proof_choice.proofs.Requesting.{requests_are}
 use Rattle.proof_choice.proofs.Stepping.{first_same, left_same}
@@ -40,26 +39,23 @@ use Rattle.proof_choice.proofs.proof_attempts_Walking.{IsWritten, copy_line, lin
 use Rattle.proof_choice.proofs.proof_requests_EndsHere.{cannot_end}
 use Rattle.proof_hearing.proofs.Beginning.{uses_nonces}
 use Rattle.proof_hearing.proofs.KeptAwake.{noted_told}
-use Rattle.proof_hearing.specs.Books.{BooksSo}
 use Rattle.proof_hearing.specs.Hearing.{choosing}
 use Rattle.proof_hearing.specs.proof_queue.proof_attempts.Asleep.{TicksNode}
 use Rattle.proof_hearing.specs.proof_queue.proof_attempts.proof_requests.Asking.{IsPaused, TieAsked, TieLine, doing_of}
 use Rattle.proof_hearing.specs.proof_queue.proof_attempts.proof_requests.Standing.{Standing, failing_in, giving_up_in, standing_of}
 use Rattle.proof_hearing.specs.proof_queue.proof_attempts.proof_requests.Walking.{BeforeTick, HalfTick, IsNodeTick, IsTied, KnowsTick}
-use Rattle.proof_hearing.specs.proof_queue.proof_attempts.proof_requests.law_host.Course.{Course, Offer, Opening, Seal, each_in_turn}
-use Rattle.proof_hearing.specs.proof_queue.proof_attempts.proof_requests.law_host.Ends.{ends_sealing}
+use Rattle.proof_hearing.specs.proof_queue.proof_attempts.proof_requests.law_host.Course.{Course, Heeding}
 use Rattle.proof_hearing.specs.proof_queue.proof_attempts.proof_requests.law_host.Heard.{heeds_alone}
-use Rattle.proof_hearing.specs.proof_queue.proof_attempts.proof_requests.law_host.Nonces.{IsOffer, IsOpening, IsSeal, UsesNonces}
-use Rattle.proof_hearing.specs.proof_queue.proof_attempts.proof_requests.law_host.Notes.{Start, course_of}
+use Rattle.proof_hearing.specs.proof_queue.proof_attempts.proof_requests.law_host.HostLegal.{IsHeeded}
+use Rattle.proof_hearing.specs.proof_queue.proof_attempts.proof_requests.law_host.Nonces.{UsesNonces}
 use Rattle.proof_hearing.specs.proof_queue.proof_attempts.proof_requests.law_host.Ticks.{is_denied, nodes_in_order}
 use Rattle.proof_hearing.specs.proof_queue.proof_attempts.proof_requests.proof_alone.Phases.{May, Phase, Risen, Ticking}
 use Rattle.proof_hearing.specs.proof_queue.proof_attempts.proof_requests.proof_alone.State.{HostMachine, done}
 use Rattle.proof_hearing.specs.proof_queue.proof_attempts.proof_requests.proof_alone.Steps.{AreFrames, AreTold, Does}
-use Rattle.proof_noting.proofs.Aborts.{abort_unended}
-use Rattle.proof_noting.proofs.Ascending.{ticks_ascend}
-use Rattle.proof_noting.proofs.Fitted.{follows_fit}
+use Rattle.proof_noting.specs.Following.{Outset, course_since}
+use Rattle.proof_noting.proofs.Fitted.{before_last, fits_by, follows_fit, uses_same}
+use Rattle.proof_noting.proofs.Followed.{follows_by}
 use Rattle.proof_noting.proofs.Quietly.{in_order_nodes, none_ticked}
-use Rattle.proof_noting.proofs.Requested.{abort_sends}
 use Rattle.proof_noting.proofs.TickChosen.{ticking}
 use Rattle.proof_noting.proofs.TickGround.{TickGround, TickLaws, falls_quiet, nodes_idle, tick_frames, tick_numbered, tick_time, ticks_ground}
 use Rattle.proof_noting.proofs.TickLines.{after_fails, copy_goes, idle_never, none_goes, none_some, side_books}
@@ -67,11 +63,11 @@ use Rattle.proof_noting.proofs.TickNodes.{node_none, node_some}
 use Rattle.proof_noting.proofs.TickNoted.{nothing_told, still_some}
 use Rattle.proof_noting.proofs.TickRequests.{end_goes}
 use Rattle.proof_noting.specs.Behind.{AtOpen}
-use Rattle.proof_noting.specs.Following.{Lags, Level, timed}
 use Rattle.proof_noting.specs.Ground.{NotingGround}
 use Rattle.proof_noting.specs.Noting.{KnowsCourse}
 use Rattle.proof_noting.specs.Steps.{Fitting, StepFollows, TurnFollows, first_of}
-use Rattle.proof_noting.specs.Ticking.{Ascends, IsIdleAt, NoneNoted, OverSo, SomeNoted, TickSo}
+use Rattle.proof_choice.specs.proof_following.proof_ends.Ascending.{Ascends}
+use Rattle.proof_noting.specs.Ticking.{IsIdleAt, NoneNoted, SomeNoted, TickSo}
 use Rattle.proof_noting.specs.Ticking.TickSo.{Nothing, Something}
 use Rattle.serial_frame.specs.Frame.{FrameParts}
 use Rattle.serial_frame.specs.Items.{unit_text}
@@ -79,7 +75,7 @@ use Rattle.serial_frame.specs.declared.unit.Unit.TheVariants.{Framed}
 use Rattle.serial_link.specs.State.{pause_after, turn_ticked}
 use Rattle.serial_link.specs.declared.turn.Turn.{Turn}
 use Rattle.serial_link.specs.declared.turn.Turn.TheVariants.{Copied, Idle, Paused}
-use Rattle.std.proofs.Common.{Bool, List, None, Option, Some, [], ap, append_assoc, ap₂, arith, false, if◌then◌else◌, inl, inr, not, refl, subst, sym, true, ℕ, ◌&&◌, ◌++◌, ◌+◌, ◌==◌, ◌∙◌, ◌∷◌, ◌≡◌, ◌⊎◌}
+use Rattle.std.proofs.Common.{Bool, List, None, Option, Some, [], ap, append_assoc, ap₂, arith, false, if◌then◌else◌, inl, inr, not, refl, subst, sym, true, ℕ, ◌&&◌, ◌++◌, ◌+◌, ◌==◌, ◌∙◌, ◌∷◌, ◌≡◌}
 use Rattle.std.proofs.lemmas.Bool.{and_right}
 use Rattle.std.specs.List.{AllByRecursion, list_any}
 use Rattle.std.specs.Prelude.{is_none, nat_le}
@@ -106,7 +102,8 @@ no_more (e ∷ noted) more is = no_more noted more (let tails : noted ++ more �
 
 -- ---- the line
 
-module _ (key : List ℕ) (taken : List Entry → Carried → List Told) (from : Start) (left : List HostEvent) (past told : List Entry) (m : HostMachine) (s : TickGround taken Line_ticks left past told m) (nodes : List HostEvent)
+module _ (key : List ℕ) (taken : List Entry → Carried → List Told) (from : Outset) (left : List HostEvent) (past told : List Entry) (m : HostMachine) (s : TickGround taken Line_ticks left past told m)
+    (nodes : List HostEvent)
     (left_is : left ≡ Requests_do request_ticks BeforeItsTick ∷ nodes) (before : BeforeTick past m) (known : NoneNoted key taken from past m) (above : Ascends 0 left) where
   abbrev h : HostState
   h = m.state
@@ -201,7 +198,7 @@ module _ (key : List ℕ) (taken : List Entry → Carried → List Told) (from :
 
 -- ---- the request under way
 
-module _ (key : List ℕ) (taken : List Entry → Carried → List Told) (from : Start) (left : List HostEvent) (past told : List Entry) (m : HostMachine)
+module _ (key : List ℕ) (taken : List Entry → Carried → List Told) (from : Outset) (left : List HostEvent) (past told : List Entry) (m : HostMachine)
     (s : TickGround taken (Requests_do request_ticks BeforeItsTick) left past told m) (all : AllByRecursion IsNodeTick left) (half : HalfTick past m) where
   abbrev asking : HostState
   asking = m.state
@@ -255,7 +252,7 @@ module _ (key : List ℕ) (taken : List Entry → Carried → List Told) (from :
 
 -- ---- each of them
 
-module _ (key : List ℕ) (taken : List Entry → Carried → List Told) (from : Start) (laws : TickLaws key taken) where
+module _ (key : List ℕ) (taken : List Entry → Carried → List Told) (from : Outset) (laws : TickLaws key taken) where
   abbrev heeds : Heeds
   heeds = heeds_alone taken
 
@@ -328,37 +325,18 @@ module _ (key : List ℕ) (taken : List Entry → Carried → List Told) (from :
     course = record s.mid { due = [] }
 
     is_so : (keepings : List Bool) (texts : List (Option (List ℕ)))
-        → course_of heeds from s.heard (record { keepings = s.kept ++ keepings; texts = s.opened ++ texts }) ≡ choosing keepings texts course
+        → course_since heeds from s.heard (record { keepings = s.kept ++ keepings; texts = s.opened ++ texts }) ≡ choosing keepings texts course
     is_so keepings texts =
         let (more, due_is, course_is) = s.is keepings texts in
         let same = none_gone heeds s.start m.clock s.rest (choosing keepings texts s.mid) (none_left s.front s.rest s.nodes) in
         let nothing : more ≡ [] = no_more s.noted more (sym due_is ∙ ap (λ (d : Course). d.due) same ∙ s.due) in
         course_is ∙ ap₂ (λ (d : Course) (l : List Entry). record d { due = l }) same nothing
 
-    so : OverSo past m s.mid → Level key heeds past m course ⊎ Lags key heeds past m course
-    so (inl is) = inl (record { over = is; books = subst (λ (b : Bool). BooksSo key heeds (if b then past ++ entry.Time m.clock ∷ [] else past) m.state s.mid) (sym s.numbered) s.books })
-    so (inr (running, none, (id, request))) =
-        inr (record {
-          running = running;
-          none = none;
-          purpose = Abort;
-          id = id;
-          request = request;
-          carries = tt;
-          well = tt;
-          unended = abort_unended past id request true (judged_since (asked past));
-          quiet = record { errands = refl; sleeps = refl; interviews = refl };
-          books = subst (λ (d : Course). BooksSo key heeds (timed m past) m.state d)
-              (sym (ap (λ (l : List Carried). each_in_turn ends_sealing l (record course { over = true })) (abort_sends past id request)))
-              (subst (λ (b : Bool). BooksSo key heeds (if b then past ++ entry.Time m.clock ∷ [] else past) m.state s.mid) (sym s.numbered) s.books);
-          why = inr (inr refl);
-        })
-
     some_over : AtOpen key taken from past m
     some_over = record {
       course = course;
       of = record { heard = s.heard; split = s.split; kept = s.kept; opened = s.opened; is = is_so };
-      follows = record { fits = s.fits; none_due = refl; low = let at = s.ticked in omega (arith, at); heeded = s.heeded; so = so s.over };
+      follows = follows_by key taken past m course s.fits refl (let at = s.ticked in omega (arith, at)) s.heeded s.numbered s.over s.books;
       answered = inl s.frames;
     }
 
@@ -373,27 +351,16 @@ module _ (key : List ℕ) (taken : List Entry → Carried → List Told) (from :
 
 -- ---- it fits
 
-module _ (key : List ℕ) (taken : List Entry → Carried → List Told) (from : Start) (past : List Entry) (m : HostMachine) (left : List HostEvent) where
+module _ (key : List ℕ) (taken : List Entry → Carried → List Told) (from : Outset) (past : List Entry) (m : HostMachine) (left : List HostEvent) where
   some_fits : SomeNoted key taken from past m left → Fitting key taken from past
   some_fits s =
       let (more, due_is, course_is) = s.is [] [] in
       let d : Course = ticking (heeds_alone taken) s.start m.clock s.rest (choosing [] [] s.mid) in
       let same : rest_of d ≡ rest_of (choosing [] [] s.mid) = nodes_rest (heeds_alone taken) s.start m.clock s.rest (choosing [] [] s.mid) in
       let uses : UsesNonces key s.books.drawn s.mid = uses_nonces key (heeds_alone taken) past m.state s.mid s.books in
-      record {
-        heard = s.heard;
-        split = s.split;
-        choices = record { keepings = s.kept ++ []; texts = s.opened ++ [] };
-        drawn = s.books.drawn;
-        fits = ap (λ (c : Course). c.fits) course_is ∙ ap (λ (c : Course). c.fits) same ∙ s.fits;
-        nonces = subst (UsesNonces key s.books.drawn) (sym course_is)
-            (record {
-              seven = uses.seven;
-              offered = subst (λ (l : List Offer). AllByRecursion (IsOffer s.books.drawn) l) (sym (ap (λ (c : Course). c.offered) same)) uses.offered;
-              opened = subst (λ (l : List Opening). AllByRecursion (IsOpening key s.books.drawn) l) (sym (ap (λ (c : Course). c.opened) same)) uses.opened;
-              sealed = subst (λ (l : List Seal). AllByRecursion (IsSeal key) l) (sym (ap (λ (c : Course). c.sealed) same)) uses.sealed;
-            });
-      }
+      fits_by key taken from past s.heard s.split (record { keepings = s.kept ++ []; texts = s.opened ++ [] }) (record d { due = more }) course_is (ap (λ (c : Course). c.fits) same ∙ s.fits)
+      (before_last (IsHeeded taken) d.heeded (subst (λ (l : List Heeding). AllByRecursion (IsHeeded taken) l) (sym (ap (λ (c : Course). c.heeded) same)) s.heeded)) s.books.drawn
+      (uses_same key s.books.drawn (record d { due = more }) s.mid (sym (ap (λ (c : Course). c.offered) same)) (sym (ap (λ (c : Course). c.opened) same)) (sym (ap (λ (c : Course). c.sealed) same)) uses)
 
   pub tick_fits : TickSo key taken from past m left → Fitting key taken from past
   tick_fits (Nothing above known) = follows_fit key taken from past m known.course known.of known.follows

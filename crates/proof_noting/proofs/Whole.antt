@@ -20,29 +20,34 @@ use Rattle.host_model.proofs.Submitted.{SleepersAre, SubmittedAre, next_is, no_m
 use Rattle.proof_choice.specs.proof_giving.Tie.{IsRequest}
 use Rattle.proof_hearing.specs.proof_queue.Heeding.{AllSteps, HeedsAs, HeedsSo}
 use Rattle.proof_hearing.specs.proof_queue.proof_attempts.proof_requests.law_host.Heard.{heeds_alone}
-use Rattle.proof_hearing.specs.proof_queue.proof_attempts.proof_requests.law_host.Notes.{Start}
 use Rattle.proof_hearing.specs.proof_queue.proof_attempts.proof_requests.proof_alone.Careful.{Careful}
 use Rattle.proof_hearing.specs.proof_queue.proof_attempts.proof_requests.proof_alone.State.{HostMachine, done}
 use Rattle.proof_hearing.specs.proof_queue.proof_attempts.proof_requests.proof_alone.Steps.{Step, Tells, Comes, Misses, Says, Says_nothing, Asks, Refuses, Shows, Restarts, Begins_tick, Numbers, Judges, Does, entries, happens}
 use Rattle.proof_hearing.specs.proof_queue.proof_attempts.proof_requests.proof_alone.Phases.{Phase, Resting, Asked, Risen, Ticking, Open, Behind, Sleeping, Submitting, May, Turns}
 use Rattle.proof_hearing.specs.proof_queue.proof_attempts.proof_requests.proof_alone.Runs.{Run}
 use Rattle.proof_hearing.specs.proof_queue.proof_attempts.proof_requests.proof_alone.Runs.Run.{Begins, Turned, Stepped}
+use Rattle.proof_noting.specs.Following.{Outset}
 use Rattle.proof_noting.specs.Behind.{AtOpen, BehindSo}
 use Rattle.proof_noting.specs.Behind.BehindSo.{None_left, One_left, Payload_left}
 use Rattle.proof_noting.specs.Noting.{KnowsCourse}
 use Rattle.proof_noting.specs.Parts.{Parts}
 use Rattle.proof_noting.specs.Steps.{BringsFrame, BringsNotice, BringsPayload, CourseFits, Fitting, IsUnsent, StepFollows, TurnFollows, first_of}
-use Rattle.proof_noting.specs.Sure.{Hears, SureRun, SureStep}
+use Rattle.proof_noting.specs.Sure.{SureRun, SureStep}
 use Rattle.proof_noting.proofs.Fitted.{follows_fit}
 
 -- ---- where it begins
 
+-- along some run
+abbrev pub OfRuns : HostMachine → Type 1
+OfRuns start = (here : Phase) (told : List Entry) (m : HostMachine) → Run start here told m → Type 0
+
 -- The course is known where it has begun. It has at first, or a step begins it; and no other step or end of a part does.
-pub record Beginning (key : List ℕ) (taken : List Entry → Carried → List Told) (from : Start) (Begun : Phase → List Entry → Type 0) (Starts : List Entry → HostMachine → Step → Type 0) : Type 0 where
-  pub first : Begun Resting [] → KnowsCourse key taken from (first_of key) Resting [] (first_of key)
-  pub turn : (here next : Phase) (past : List Entry) (m : HostMachine) → Turns here m next → Begun next past → Begun here past
-  pub step : (here next : Phase) (past : List Entry) (m : HostMachine) (one : Step) → (sure : SureRun taken (first_of key) here past m) → SureStep taken sure.run one → May here m one next → Starts past m one
-      → Begun next (past ++ entries m one) → Begun here past ⊎ KnowsCourse key taken from (first_of key) next (past ++ entries m one) (happens m one)
+pub record Beginning (key : List ℕ) (taken : List Entry → Carried → List Told) (from : Outset) (Begun : OfRuns (first_of key)) : Type 0 where
+  pub first : Begun Resting [] (first_of key) Begins → KnowsCourse key taken from (first_of key) Resting [] (first_of key)
+  pub turn : (here next : Phase) (past : List Entry) (m : HostMachine) (turns : Turns here m next) (run : Run (first_of key) here past m) → Begun next past m (Turned turns run) → Begun here past m run
+  pub step : (here next : Phase) (past all : List Entry) (m later : HostMachine) (one : Step) (may : May here m one next) (all_is : all ≡ past ++ entries m one) (later_is : later ≡ happens m one)
+      → (sure : SureRun taken (first_of key) here past m) → SureStep taken sure.run one → Begun next all later (Stepped one may all_is later_is sure.run)
+      → Begun here past m sure.run ⊎ KnowsCourse key taken from (first_of key) next (past ++ entries m one) (happens m one)
 
 -- ---- which items bring a payload
 
@@ -81,7 +86,7 @@ submitted_of = record {
 sleepers_unsent : SleepersAre IsUnsent
 sleepers_unsent = record { queues = λ n. tt; drops = λ n. tt }
 
-module _ (key : List ℕ) (taken : List Entry → Carried → List Told) (from : Start) (parts : Parts key taken from) where
+module _ (key : List ℕ) (taken : List Entry → Carried → List Told) (from : Outset) (parts : Parts key taken from) where
   abbrev start : HostMachine
   start = first_of key
 
@@ -157,27 +162,27 @@ module _ (key : List ℕ) (taken : List Entry → Carried → List Told) (from :
 
   -- ---- the walk
 
-  module _ (Begun : Phase → List Entry → Type 0) (Starts : List Entry → HostMachine → Step → Type 0) (beginning : Beginning key taken from Begun Starts) where
+  module _ (Begun : OfRuns (first_of key)) (beginning : Beginning key taken from Begun) where
     -- it goes on where it had begun
     goes : (here next : Phase) (past : List Entry) (m : HostMachine) (one : Step) (sure : SureRun taken start here past m) → SureStep taken sure.run one → May here m one next
-        → (Begun here past → Know here past m) → Begun here past ⊎ Know next (past ++ entries m one) (happens m one) → Know next (past ++ entries m one) (happens m one)
+        → (Begun here past m sure.run → Know here past m) → Begun here past m sure.run ⊎ Know next (past ++ entries m one) (happens m one) → Know next (past ++ entries m one) (happens m one)
     goes here next past m one sure so may known (inl begun) = steps here next past m one may sure so may (known begun)
     goes here next past m one sure so may known (inr begins) = begins
 
     pub walks : {here : Phase} {told : List Entry} {m : HostMachine} → (run : Run start here told m) → Careful run → AllSteps (HeedsSo (heeds_alone taken)) run
-        → AllSteps (HeedsAs (heeds_alone taken)) run → Hears run → AllSteps Starts run → Begun here told → Know here told m
-    walks Begins careful sure as_told hears starts begun = beginning.first begun
-    walks {here = next} {told = told} {m = m} (Turned {here = here} turned run) careful sure as_told hears starts begun =
-        turns here next told m turned (record { run = run; careful = careful.0; heeds_so = sure; heeds_as = as_told; hears = hears }) careful.1 turned
-        (walks run careful.0 sure as_told hears starts (beginning.turn here next told m turned begun))
-    walks {here = next} {told = all} {m = later} (Stepped {here = here} {told = told} {m = m} step may all_is later_is run) careful sure as_told hears starts begun =
-        let so_far : SureRun taken start here told m = record { run = run; careful = careful.0; heeds_so = sure.0; heeds_as = as_told.0; hears = hears.0 } in
-        let so : SureStep taken run step = record { well = careful.1; heeds_so = sure.1; heeds_as = as_told.1; hears = hears.1 } in
+        → AllSteps (HeedsAs (heeds_alone taken)) run → Begun here told m run → Know here told m
+    walks Begins careful sure as_told begun = beginning.first begun
+    walks {here = next} {told = told} {m = m} (Turned {here = here} turned run) careful sure as_told begun =
+        turns here next told m turned (record { run = run; careful = careful.0; heeds_so = sure; heeds_as = as_told }) careful.1 turned
+        (walks run careful.0 sure as_told (beginning.turn here next told m turned run begun))
+    walks {here = next} {told = all} {m = later} (Stepped {here = here} {told = told} {m = m} step may all_is later_is run) careful sure as_told begun =
+        let so_far : SureRun taken start here told m = record { run = run; careful = careful.0; heeds_so = sure.0; heeds_as = as_told.0 } in
+        let so : SureStep taken run step = record { well = careful.1; heeds_so = sure.1; heeds_as = as_told.1 } in
         subst (λ (l : List Entry). Know next l later) (sym all_is)
         (subst (λ (k : HostMachine). Know next (told ++ entries m step) k) (sym later_is)
         (goes here next told m step so_far so may
-        (λ before. walks run careful.0 sure.0 as_told.0 hears.0 starts.0 before)
-        (beginning.step here next told m step so_far so may starts.1 (subst (λ (l : List Entry). Begun next l) all_is begun))))
+        (λ before. walks run careful.0 sure.0 as_told.0 before)
+        (beginning.step here next told all m later step may all_is later_is so_far so begun)))
 
   -- ---- it fits
 

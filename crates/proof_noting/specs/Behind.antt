@@ -17,12 +17,11 @@ use Rattle.proof_hearing.specs.proof_queue.proof_attempts.proof_requests.law_hos
 use Rattle.proof_hearing.specs.proof_queue.proof_attempts.proof_requests.law_host.Following.{is_note}
 use Rattle.proof_hearing.specs.proof_queue.proof_attempts.proof_requests.law_host.Heard.{heeds_alone}
 use Rattle.proof_hearing.specs.proof_queue.proof_attempts.proof_requests.law_host.HostLegal.{IsHeeded}
-use Rattle.proof_hearing.specs.proof_queue.proof_attempts.proof_requests.law_host.Notes.{Start, course_of}
 use Rattle.proof_hearing.specs.proof_queue.proof_attempts.proof_requests.proof_alone.State.{HostMachine, done}
 use Rattle.proof_hearing.specs.proof_queue.proof_attempts.proof_requests.proof_alone.Steps.{AreFrames, IsOfUnit}
 use Rattle.proof_hearing.specs.proof_queue.proof_attempts.proof_requests.proof_alone.Phases.{Behind}
-use Rattle.proof_following.specs.Quiet.{acknowledges}
-use Rattle.proof_noting.specs.Following.{CourseOf, Follows, Goes}
+use Rattle.proof_choice.specs.proof_following.Quiet.{acknowledges}
+use Rattle.proof_noting.specs.Following.{CourseOf, Follows, Goes, Outset, course_since}
 use Rattle.proof_noting.specs.Sure.{SureRun}
 use Rattle.proof_noting.specs.Ticking.{OverSo}
 
@@ -31,14 +30,14 @@ abbrev pub Answered : HostMachine → Course → Type 0
 Answered m course = AreFrames m.came ⊎ ((course.ticked ≡ m.clock) × (m.awaits ≡ false))
 
 -- nothing is left
-pub record AtOpen (key : List ℕ) (taken : List Entry → Carried → List Told) (from : Start) (past : List Entry) (m : HostMachine) : Type 0 where
+pub record AtOpen (key : List ℕ) (taken : List Entry → Carried → List Told) (from : Outset) (past : List Entry) (m : HostMachine) : Type 0 where
   pub course : Course
   pub of : CourseOf (heeds_alone taken) from past course
   pub follows : Follows key taken past m course
   pub answered : Answered m course
 
 -- One event is left, of a request or an interview: its notes make of the course one that follows the host.
-pub record OneLeft (key : List ℕ) (taken : List Entry → Carried → List Told) (from : Start) (past : List Entry) (m : HostMachine) (event : HostEvent) : Type 0 where
+pub record OneLeft (key : List ℕ) (taken : List Entry → Carried → List Told) (from : Outset) (past : List Entry) (m : HostMachine) (event : HostEvent) : Type 0 where
   pub course : Course
   pub of : CourseOf (heeds_alone taken) from past course
   pub fits : course.fits ≡ true
@@ -50,11 +49,11 @@ pub record OneLeft (key : List ℕ) (taken : List Entry → Carried → List Tol
   pub follows : Follows key taken (past ++ told) (done m event) next
   pub numbered : m.awaits ≡ false
   pub answered : Answered m next
-  pub same : (next.offered ≡ course.offered) × (next.opened ≡ course.opened) × (next.sealed ≡ course.sealed)
+  pub same : (next.offered ≡ course.offered) × (next.opened ≡ course.opened) × (next.sealed ≡ course.sealed) × (next.heeded ≡ course.heeded)
 
 -- Events of a payload are left, of those that followed it (`followed`). In the run without what became of the acknowledgement (`marks`) the course is in the middle of it: since `begun` these
 -- choices were made, the rest is what comes of what remains, and by all of it the host goes by these messages. With the marks the attempts of each node are the same.
-pub record InPayload (key : List ℕ) (taken : List Entry → Carried → List Told) (from : Start) (start : HostMachine) (past : List Entry) (m : HostMachine) (left : List HostEvent) : Type 0 where
+pub record InPayload (key : List ℕ) (taken : List Entry → Carried → List Told) (from : Outset) (start : HostMachine) (past : List Entry) (m : HostMachine) (left : List HostEvent) : Type 0 where
   pub before : List Entry
   pub marks : List Entry
   pub marked : AllByRecursion IsOfUnit marks
@@ -71,7 +70,7 @@ pub record InPayload (key : List ℕ) (taken : List Entry → Carried → List T
   pub heard : List Entry
   pub split : before ++ acknowledges ∷ [] ≡ from.before ++ heard
   pub begins : (keepings : List Bool) (texts : List (Option (List ℕ)))
-      → course_of (heeds_alone taken) from heard (record { keepings = kept ++ keepings; texts = opened ++ texts })
+      → course_since (heeds_alone taken) from heard (record { keepings = kept ++ keepings; texts = opened ++ texts })
       ≡ with_heeded (before ++ acknowledges ∷ []) (record { node = node; payload = payload })
       (finishes (hearing_at taken before (before ++ acknowledges ∷ []) node payload) Whole (choosing keepings texts begun))
   pub untaken : begun.taken ≡ []
@@ -101,7 +100,7 @@ pub record InPayload (key : List ℕ) (taken : List Entry → Carried → List T
   pub sure : SureRun taken start (Behind left) ((before ++ acknowledges ∷ []) ++ course.due) m
 
 -- whichever of these it is
-pub data BehindSo (key : List ℕ) (taken : List Entry → Carried → List Told) (from : Start) (start : HostMachine) (past : List Entry) (m : HostMachine) : (left : List HostEvent) → Type 0 where
+pub data BehindSo (key : List ℕ) (taken : List Entry → Carried → List Told) (from : Outset) (start : HostMachine) (past : List Entry) (m : HostMachine) : (left : List HostEvent) → Type 0 where
   None_left : AtOpen key taken from past m → BehindSo key taken from start past m []
   One_left : (event : HostEvent) → OneLeft key taken from past m event → BehindSo key taken from start past m (event ∷ [])
   Payload_left : {left : List HostEvent} → InPayload key taken from start past m left → BehindSo key taken from start past m left

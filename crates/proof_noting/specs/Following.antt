@@ -17,27 +17,44 @@ use Rattle.proof_hearing.specs.Books.{BooksSo}
 use Rattle.proof_hearing.specs.Hearing.{choosing}
 use Rattle.proof_hearing.specs.proof_queue.proof_attempts.Carried.{CarriesWell}
 use Rattle.proof_hearing.specs.proof_queue.proof_attempts.proof_requests.Carrying.{CarriesSo}
-use Rattle.proof_hearing.specs.proof_queue.proof_attempts.proof_requests.law_host.Course.{Course}
+use Rattle.proof_hearing.specs.proof_queue.proof_attempts.proof_requests.law_host.Course.{Book, Choices, Course, Offer, course_from}
 use Rattle.proof_hearing.specs.proof_queue.proof_attempts.proof_requests.law_host.Following.{course_after}
 use Rattle.proof_hearing.specs.proof_queue.proof_attempts.proof_requests.law_host.Heard.{heeds_alone}
 use Rattle.proof_hearing.specs.proof_queue.proof_attempts.proof_requests.law_host.HostLegal.{IsHeeded}
-use Rattle.proof_hearing.specs.proof_queue.proof_attempts.proof_requests.law_host.Notes.{Start, course_of}
+use Rattle.proof_hearing.specs.proof_queue.proof_attempts.proof_requests.law_host.Notes.{Start}
 use Rattle.proof_hearing.specs.proof_queue.proof_attempts.proof_requests.law_host.Ticks.{is_denied}
 use Rattle.proof_hearing.specs.proof_queue.proof_attempts.proof_requests.proof_alone.State.{HostMachine}
-use Rattle.proof_following.specs.Ended.{sleep_entries}
-use Rattle.proof_following.specs.Quiet.{ended_silently}
-use Rattle.proof_following.specs.proof_ends.Ends.{errands_of, seconds_of}
+use Rattle.proof_choice.specs.proof_following.Ended.{sleep_entries}
+use Rattle.proof_choice.specs.proof_following.Quiet.{ended_silently}
+use Rattle.proof_choice.specs.proof_following.proof_ends.Ends.{errands_of, seconds_of}
+
+-- ---- where it begins
+
+-- The course of what was heard begins after what stood before, with the books that were kept, and as if these nonces had been offered: those that were live.
+pub record Outset : Type 0 where
+  pub before : List Entry
+  pub books : List Book
+  pub offered : List Offer
+
+abbrev pub outset_of : Start → List Offer → Outset
+outset_of start offered = record { before = start.before; books = start.books; offered = offered }
+
+abbrev pub first_course : Outset → Choices → Course
+first_course from choices = record (course_from from.books choices) { offered = from.offered }
+
+abbrev pub course_since : Heeds → Outset → List Entry → Choices → Course
+course_since heeds from heard choices = course_after heeds from.before heard (first_course from choices)
 
 -- ---- choices
 
 -- The course of what was heard since the start, whatever is chosen later: these choices were made, and those that are still to come stand in it.
-pub record CourseOf (heeds : Heeds) (from : Start) (past : List Entry) (course : Course) : Type 0 where
+pub record CourseOf (heeds : Heeds) (from : Outset) (past : List Entry) (course : Course) : Type 0 where
   pub heard : List Entry
   pub split : past ≡ from.before ++ heard
   pub kept : List Bool
   pub opened : List (Option (List ℕ))
   pub is : (keepings : List Bool) (texts : List (Option (List ℕ)))
-      → course_of heeds from heard (record { keepings = kept ++ keepings; texts = opened ++ texts }) ≡ choosing keepings texts course
+      → course_since heeds from heard (record { keepings = kept ++ keepings; texts = opened ++ texts }) ≡ choosing keepings texts course
 
 -- Entries make this of a course, by these choices, whatever is chosen later.
 pub record Goes (heeds : Heeds) (past told : List Entry) (course next : Course) : Type 0 where

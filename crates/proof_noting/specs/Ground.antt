@@ -14,7 +14,7 @@ use Rattle.proof_hearing.specs.proof_queue.proof_attempts.proof_requests.law_hos
 use Rattle.proof_hearing.specs.proof_queue.proof_attempts.proof_requests.proof_alone.State.{HostMachine, first_alone}
 use Rattle.proof_hearing.specs.proof_queue.proof_attempts.proof_requests.proof_alone.Phases.{Phase}
 use Rattle.proof_hearing.specs.proof_queue.proof_attempts.proof_requests.proof_alone.Runs.{Told as ToldAlone}
-use Rattle.proof_following.specs.proof_ends.Ends.{nodes_asked}
+use Rattle.proof_choice.specs.proof_following.proof_ends.Ends.{nodes_asked}
 use Rattle.proof_noting.specs.Sure.{SureRun}
 
 -- `grounds` has what is known of its sleep, its requests and its ends (KnowsSleep), and how sessions are shown.

@@ -9,4 +9,4 @@ pub mod Parts
 pub mod Starts
 pub use Rattle.proof_choice.specs as proof_choice
 pub use Rattle.proof_hearing.specs as proof_hearing
-pub use Rattle.proof_following.specs as proof_following
+pub use Rattle.proof_choice.specs.proof_following as proof_following

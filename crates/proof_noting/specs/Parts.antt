@@ -10,10 +10,10 @@ use Rattle.law_transcript.specs.Units.{Carried}
 use Rattle.host_model.specs.Events.{HostEvent}
 use Rattle.host_model.specs.State.{HostState}
 use Rattle.proof_choice.specs.proof_giving.Tie.{IsRequest}
-use Rattle.proof_hearing.specs.proof_queue.proof_attempts.proof_requests.law_host.Notes.{Start}
 use Rattle.proof_hearing.specs.proof_queue.proof_attempts.proof_requests.proof_alone.State.{HostMachine, done}
 use Rattle.proof_hearing.specs.proof_queue.proof_attempts.proof_requests.proof_alone.Steps.{Step, Restarts, Judges, Does}
 use Rattle.proof_hearing.specs.proof_queue.proof_attempts.proof_requests.proof_alone.Phases.{Phase, Resting, Asked, Risen, Ticking, Open, Behind, Sleeping, Submitting, May}
+use Rattle.proof_noting.specs.Following.{Outset}
 use Rattle.proof_noting.specs.Behind.{AtOpen, InPayload, OneLeft}
 use Rattle.proof_noting.specs.Ground.{GroundAlong}
 use Rattle.proof_noting.specs.Noting.{AtRest, KnowsCourse}
@@ -21,7 +21,7 @@ use Rattle.proof_noting.specs.Steps.{BringsPayload, CourseFits, Fitting, Fitting
 use Rattle.proof_noting.specs.Sure.{SureRun}
 
 -- each kind of step, and each part that is over
-pub record Parts (key : List ℕ) (taken : List Entry → Carried → List Told) (from : Start) : Type 0 where
+pub record Parts (key : List ℕ) (taken : List Entry → Carried → List Told) (from : Outset) : Type 0 where
   pub along : GroundAlong taken (first_of key)
   pub beside : (here next : Phase) (past : List Entry) (m : HostMachine) (step : Step) → IsBeside step → StepFollows key taken from here past m step next
   pub unsent : (here next : Phase) (past told : List Entry) (m : HostMachine) (event : HostEvent) → IsPumping here → IsUnsent event → StepFollows key taken from here past m (Does event told) next

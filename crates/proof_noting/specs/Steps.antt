@@ -1,5 +1,5 @@
 -- What is owed so that the course of a host's notes follows a host alone along its runs (this project's own rule): at each kind of step, where a part is over, and that it fits.
-use Rattle.std.specs.Prelude.{◌≡◌, Bool, true, List, [], ◌++◌, Some, ℕ}
+use Rattle.std.specs.Prelude.{◌≡◌, Bool, true, false, List, [], ◌++◌, Some, ℕ}
 use Rattle.std.specs.List.{AllByRecursion}
 use Rattle.serial_frame.specs.declared.item.Item.{Item}
 use Rattle.serial_frame.specs.declared.item.Item.TheVariants.{Good}
@@ -18,7 +18,7 @@ use Rattle.law_transcript.specs.Units.{Carried}
 use Rattle.host_model.specs.Events.{HostEvent, Begins, Begin_unkept, Drops_no_more, Queues_no_more}
 use Rattle.proof_hearing.specs.proof_queue.proof_attempts.proof_requests.law_host.Course.{Choices}
 use Rattle.proof_hearing.specs.proof_queue.proof_attempts.proof_requests.law_host.Heard.{heeds_alone}
-use Rattle.proof_hearing.specs.proof_queue.proof_attempts.proof_requests.law_host.HostLegal.{IsHeeded}
+use Rattle.proof_hearing.specs.proof_queue.proof_attempts.proof_requests.law_host.HostLegal.{IsHeeded, gone_through}
 use Rattle.proof_hearing.specs.proof_queue.proof_attempts.proof_requests.law_host.Following.{ended_whole}
 use Rattle.proof_hearing.specs.proof_queue.proof_attempts.proof_requests.law_host.Nonces.{UsesNonces}
 use Rattle.proof_hearing.specs.proof_queue.proof_attempts.proof_requests.law_host.Notes.{NotesWhatHappens, Start, course_of}
@@ -26,6 +26,7 @@ use Rattle.proof_hearing.specs.proof_queue.proof_attempts.proof_requests.proof_a
 use Rattle.proof_hearing.specs.proof_queue.proof_attempts.proof_requests.proof_alone.Steps.{Step, Tells, Comes, Misses, Says, Says_nothing, Asks, Refuses, Shows, Begins_tick, Numbers, entries, happens}
 use Rattle.proof_hearing.specs.proof_queue.proof_attempts.proof_requests.proof_alone.Phases.{Phase, Sleeping, Submitting, May, Turns}
 use Rattle.proof_hearing.specs.proof_queue.proof_attempts.proof_requests.proof_alone.Careful.{TurnsWell, stage_of}
+use Rattle.proof_noting.specs.Following.{Outset, course_since}
 use Rattle.proof_noting.specs.Sure.{SureRun, SureStep}
 use Rattle.proof_noting.specs.Noting.{KnowsCourse}
 
@@ -36,13 +37,13 @@ first_of key = first_alone (keys_of key) (Some [])
 -- ---- steps
 
 -- where what is known of the course stands before the step, it stands after it
-abbrev pub StepFollows : (key : List ℕ) (taken : List Entry → Carried → List Told) (from : Start) (here : Phase) (past : List Entry) (m : HostMachine) (step : Step) (next : Phase) → Type 0
+abbrev pub StepFollows : (key : List ℕ) (taken : List Entry → Carried → List Told) (from : Outset) (here : Phase) (past : List Entry) (m : HostMachine) (step : Step) (next : Phase) → Type 0
 StepFollows key taken from here past m step next =
     (sure : SureRun taken (first_of key) here past m) → SureStep taken sure.run step → May here m step next → KnowsCourse key taken from (first_of key) here past m
     → KnowsCourse key taken from (first_of key) next (past ++ entries m step) (happens m step)
 
 -- where a part is over
-abbrev pub TurnFollows : (key : List ℕ) (taken : List Entry → Carried → List Told) (from : Start) (here next : Phase) (past : List Entry) (m : HostMachine) → Type 0
+abbrev pub TurnFollows : (key : List ℕ) (taken : List Entry → Carried → List Told) (from : Outset) (here next : Phase) (past : List Entry) (m : HostMachine) → Type 0
 TurnFollows key taken from here next past m =
     (sure : SureRun taken (first_of key) here past m) → TurnsWell (stage_of sure.run) here m → Turns here m next → KnowsCourse key taken from (first_of key) here past m
     → KnowsCourse key taken from (first_of key) next past m
@@ -90,30 +91,31 @@ BringsPayload item = ⊥
 
 -- ---- the law
 
--- by some choices all entries may stand, and nonces are used as they should
-pub record Fitting (key : List ℕ) (taken : List Entry → Carried → List Told) (from : Start) (past : List Entry) : Type 0 where
+-- by some choices all entries may stand, nonces are used as they should, and by each payload but the last, of which it may be in the middle, it goes as far as it took up its messages
+pub record Fitting (key : List ℕ) (taken : List Entry → Carried → List Told) (from : Outset) (past : List Entry) : Type 0 where
   pub heard : List Entry
   pub split : past ≡ from.before ++ heard
   pub choices : Choices
   pub drawn : ℕ → ℕ → List ℕ
-  pub fits : (course_of (heeds_alone taken) from heard choices).fits ≡ true
-  pub nonces : UsesNonces key drawn (course_of (heeds_alone taken) from heard choices)
+  pub fits : (course_since (heeds_alone taken) from heard choices).fits ≡ true
+  pub nonces : UsesNonces key drawn (course_since (heeds_alone taken) from heard choices)
+  pub heeded : AllByRecursion (IsHeeded taken) (gone_through false (course_since (heeds_alone taken) from heard choices).heeded)
 
-abbrev pub CourseFits : (key : List ℕ) (taken : List Entry → Carried → List Told) (from : Start) (here : Phase) (past : List Entry) (m : HostMachine) → Type 0
+abbrev pub CourseFits : (key : List ℕ) (taken : List Entry → Carried → List Told) (from : Outset) (here : Phase) (past : List Entry) (m : HostMachine) → Type 0
 CourseFits key taken from here past m = SureRun taken (first_of key) here past m → KnowsCourse key taken from (first_of key) here past m → Fitting key taken from past
 
--- and at a rest nothing is left to be noted, and by each payload it goes as far as it took up its messages
-pub record FittingWhole (key : List ℕ) (taken : List Entry → Carried → List Told) (from : Start) (past : List Entry) : Type 0 where
+-- and at a rest nothing is left to be noted, and by the last payload too it goes so
+pub record FittingWhole (key : List ℕ) (taken : List Entry → Carried → List Told) (from : Outset) (past : List Entry) : Type 0 where
   pub heard : List Entry
   pub split : past ≡ from.before ++ heard
   pub choices : Choices
   pub drawn : ℕ → ℕ → List ℕ
-  pub fits : (course_of (heeds_alone taken) from heard choices).fits ≡ true
-  pub in_the_end : (ended_whole (heeds_alone taken) past (course_of (heeds_alone taken) from heard choices)).fits ≡ true
-  pub nonces : UsesNonces key drawn (course_of (heeds_alone taken) from heard choices)
-  pub heeded : AllByRecursion (IsHeeded taken) (course_of (heeds_alone taken) from heard choices).heeded
+  pub fits : (course_since (heeds_alone taken) from heard choices).fits ≡ true
+  pub in_the_end : (ended_whole (heeds_alone taken) past (course_since (heeds_alone taken) from heard choices)).fits ≡ true
+  pub nonces : UsesNonces key drawn (course_since (heeds_alone taken) from heard choices)
+  pub heeded : AllByRecursion (IsHeeded taken) (course_since (heeds_alone taken) from heard choices).heeded
 
--- the law of notes by these messages, and where the run is whole what they are in the course
+-- the law of notes by these messages, and what they are in the course, but of the last payload of a run that is cut
 pub record NotesInFull (key : List ℕ) (taken : List Entry → Carried → List Told) (from : Start) (whole : Bool) (heard : List Entry) : Type 0 where
   pub notes : NotesWhatHappens key (heeds_alone taken) from whole heard
-  pub heeded : whole ≡ true → AllByRecursion (IsHeeded taken) (course_of (heeds_alone taken) from heard notes.choices).heeded
+  pub heeded : AllByRecursion (IsHeeded taken) (gone_through whole (course_of (heeds_alone taken) from heard notes.choices).heeded)

@@ -9,7 +9,7 @@ use Rattle.law_time.specs.Moments.{clock}
 use Rattle.law_time.specs.Requests.{request_last}
 use Rattle.host_requests.specs.Frames.{request_of}
 use Rattle.host_requests.specs.declared.task.Purpose.TheVariants.{Abort}
-use Rattle.host_model.specs.Events.{HostEvent, Line_ticks, Node_ticks, Requests_do}
+use Rattle.host_model.specs.Events.{HostEvent, Line_ticks, Requests_do}
 use Rattle.proof_hearing.specs.Books.{BooksSo}
 use Rattle.proof_hearing.specs.Hearing.{choosing}
 use Rattle.proof_hearing.specs.proof_queue.proof_attempts.proof_requests.law_host.Course.{Course, each_in_turn}
@@ -17,27 +17,19 @@ use Rattle.proof_hearing.specs.proof_queue.proof_attempts.proof_requests.law_hos
 use Rattle.proof_hearing.specs.proof_queue.proof_attempts.proof_requests.law_host.Following.{is_note}
 use Rattle.proof_hearing.specs.proof_queue.proof_attempts.proof_requests.law_host.Heard.{heeds_alone}
 use Rattle.proof_hearing.specs.proof_queue.proof_attempts.proof_requests.law_host.HostLegal.{IsHeeded}
-use Rattle.proof_hearing.specs.proof_queue.proof_attempts.proof_requests.law_host.Notes.{Start, course_of}
 use Rattle.proof_hearing.specs.proof_queue.proof_attempts.proof_requests.law_host.Ticks.{nodes_in_order}
 use Rattle.proof_hearing.specs.proof_queue.proof_attempts.proof_requests.proof_alone.State.{HostMachine}
 use Rattle.proof_hearing.specs.proof_queue.proof_attempts.proof_requests.proof_alone.Steps.{AreFrames}
-use Rattle.proof_noting.specs.Following.{CourseOf, Follows}
+use Rattle.proof_choice.specs.proof_following.proof_ends.Ascending.{Ascends}
+use Rattle.proof_noting.specs.Following.{CourseOf, Follows, Outset, course_since}
 
 -- nothing was noted in it
-pub record NoneNoted (key : List ℕ) (taken : List Entry → Carried → List Told) (from : Start) (past : List Entry) (m : HostMachine) : Type 0 where
+pub record NoneNoted (key : List ℕ) (taken : List Entry → Carried → List Told) (from : Outset) (past : List Entry) (m : HostMachine) : Type 0 where
   pub course : Course
   pub of : CourseOf (heeds_alone taken) from past course
   pub follows : Follows key taken past m course
   pub early : course.ticked < m.clock
   pub frames : AreFrames m.came
-
--- the ticks of nodes that are left are of nodes above this one, in their order
-abbrev pub Ascends : ℕ → List HostEvent → Type 0
-Ascends last [] = Unit {0}
-Ascends last (Node_ticks n ∷ left) = (last < n) × Ascends n left
-Ascends last (Line_ticks ∷ left) = Ascends last left
-Ascends last (Requests_do event moment ∷ left) = Ascends last left
-Ascends last (event ∷ left) = ⊥
 
 -- the line has had its part, and where the request is still to have its, none is under way
 abbrev pub IsIdleAt : List HostEvent → HostMachine → Type 0
@@ -52,7 +44,7 @@ OverSo past m course =
     ⊎ ((course.over ≡ false) × (m.state.requests.under_way ≡ None) × ((id : ℕ) × (request_last past ≡ request_of Abort id ∷ [])))
 
 -- Something was: `noted` since `start`, by an end of the request or by nodes up to the last one; the course in the middle of it (`mid`) has all that as due, and its books are the host's.
-pub record SomeNoted (key : List ℕ) (taken : List Entry → Carried → List Told) (from : Start) (past : List Entry) (m : HostMachine) (left : List HostEvent) : Type 0 where
+pub record SomeNoted (key : List ℕ) (taken : List Entry → Carried → List Told) (from : Outset) (past : List Entry) (m : HostMachine) (left : List HostEvent) : Type 0 where
   pub start : List Entry
   pub noted : List Entry
   pub are : past ≡ start ++ noted
@@ -71,7 +63,7 @@ pub record SomeNoted (key : List ℕ) (taken : List Entry → Carried → List T
   -- what the nodes still to tick give up is due
   pub is : (keepings : List Bool) (texts : List (Option (List ℕ)))
       → (more : List Entry) × ((each_in_turn (gives_up_late (heeds_alone taken) start m.clock) rest (choosing keepings texts mid)).due ≡ noted ++ more)
-      × (course_of (heeds_alone taken) from heard (record { keepings = kept ++ keepings; texts = opened ++ texts })
+      × (course_since (heeds_alone taken) from heard (record { keepings = kept ++ keepings; texts = opened ++ texts })
       ≡ record (each_in_turn (gives_up_late (heeds_alone taken) start m.clock) rest (choosing keepings texts mid)) { due = more })
   pub due : mid.due ≡ noted
   pub fits : mid.fits ≡ true
@@ -84,6 +76,6 @@ pub record SomeNoted (key : List ℕ) (taken : List Entry → Carried → List T
   pub time : clock start ≡ m.clock
   pub frames : AreFrames m.came
 
-pub data TickSo (key : List ℕ) (taken : List Entry → Carried → List Told) (from : Start) (past : List Entry) (m : HostMachine) (left : List HostEvent) : Type 0 where
+pub data TickSo (key : List ℕ) (taken : List Entry → Carried → List Told) (from : Outset) (past : List Entry) (m : HostMachine) (left : List HostEvent) : Type 0 where
   Nothing : Ascends 0 left → NoneNoted key taken from past m → TickSo key taken from past m left
   Something : SomeNoted key taken from past m left → TickSo key taken from past m left

@@ -9,7 +9,7 @@ use Rattle.zw_base.specs.declared.property.Setting.{Setting}
 use Rattle.zw_base.specs.declared.order.Order.{Order}
 use Rattle.supervision.specs.Host.{command_at as session_at}
 use Rattle.device_kinds.specs.declared.change.Change.{Change}
-use Rattle.device_stack.specs.State.{State, value_of}
+use Rattle.proof_messages.specs.device_stack.State.{State, value_of}
 use Rattle.zw_text.specs.declared.entry.Entry.{Entry}
 use Rattle.zw_text.specs.declared.entry.Outcome.{Outcome}
 use Rattle.zw_text.specs.declared.entry.Outcome.TheVariants.{Success}

@@ -1,7 +1,7 @@
 -- The headline, of its parts.
 use Rattle.std.proofs.Common.{◌≡◌, ℕ, ◌==◌, Bool, true, false, if◌then◌else◌, List, [], ◌∷◌, Option, Some, subst, arith}
 use Rattle.std.specs.List.{AllByRecursion}
-use Rattle.device_sim.specs.State.{State}
+use Rattle.proof_messages.specs.device_sim.State.{State}
 use Rattle.zw_text.specs.declared.entry.Entry.{Entry}
 use Rattle.proof_host.specs.law_transcript.Headline.{Headline, HeadlineOf}
 use Rattle.proof_host.specs.law_transcript.Nodes.{device_of, is_supervised, listing_of, always}

@@ -10,9 +10,9 @@ use Rattle.device_kinds.specs.declared.kind.Kind.{Kind}
 use Rattle.device_kinds.specs.declared.verdict.Verdict.{Verdict}
 use Rattle.device_kinds.specs.declared.verdict.Verdict.TheVariants.{NoSupport, Fails, Makes, Works}
 use Rattle.device_kinds.specs.Kind.{lists}
-use Rattle.device_sim.specs.State.{State}
-use Rattle.device_sim.specs.Event.{DeviceEvent, Hears, Ticks, Wakes, Sets, device_after}
-use Rattle.device_sim.specs.Laws.{IsChanged, IsHeard, IsMade, IsTicked}
+use Rattle.proof_messages.specs.device_sim.State.{State}
+use Rattle.proof_messages.specs.device_sim.Event.{DeviceEvent, Hears, Ticks, Wakes, Sets, device_after}
+use Rattle.proof_messages.specs.device_sim.Laws.{IsChanged, IsHeard, IsMade, IsTicked}
 use Rattle.proof_host.specs.law_transcript.Devices.{after_events}
 use Rattle.proof_host.specs.law_transcript.Once.{IsSupervisedChange}
 use Rattle.proof_device.specs.GoingOn.{GoOn, IsSame}

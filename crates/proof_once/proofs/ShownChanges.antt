@@ -13,7 +13,7 @@ use Rattle.supervision.specs.Host.{command_at as session_at}
 use Rattle.supervision.specs.declared.session.TheConstants.{SUCCESS}
 use Rattle.supervision.proofs.OnceLemmas.{All-slice_get}
 use Rattle.device_kinds.specs.declared.change.Change.{Change}
-use Rattle.device_sim.specs.State.{State}
+use Rattle.proof_messages.specs.device_sim.State.{State}
 use Rattle.proof_messages.specs.Ending.{HasEnded}
 use Rattle.proof_device.specs.Showing.{IsShownAmong}
 use Rattle.zw_text.specs.declared.entry.Entry.{Entry}

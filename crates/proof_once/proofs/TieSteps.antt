@@ -9,7 +9,7 @@ use Rattle.zw_base.specs.declared.property.Setting.{Setting}
 use Rattle.supervision.specs.Host.{command_at as session_at}
 use Rattle.proof_course.specs.Parts.{successes}
 use Rattle.device_kinds.specs.declared.change.Change.{Change}
-use Rattle.device_sim.specs.State.{State}
+use Rattle.proof_messages.specs.device_sim.State.{State}
 use Rattle.proof_messages.specs.Ending.{HasEnded}
 use Rattle.zw_text.specs.declared.entry.Entry.{Entry}
 use Rattle.zw_text.specs.declared.entry.Outcome.{Outcome}

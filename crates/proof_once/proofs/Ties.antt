@@ -9,7 +9,7 @@ use Rattle.supervision.specs.declared.session.TheConstants.{WORKING}
 use Rattle.proof_course.specs.Sessions.{Course}
 use Rattle.proof_course.specs.SessionFacts.{AreEnds, CourseFacts}
 use Rattle.device_kinds.specs.declared.change.Change.{Change}
-use Rattle.device_sim.specs.State.{State}
+use Rattle.proof_messages.specs.device_sim.State.{State}
 use Rattle.proof_messages.specs.Ending.{HasEnded}
 use Rattle.zw_text.specs.declared.entry.Outcome.{Outcome}
 use Rattle.zw_text.specs.Transcript.{by_session}

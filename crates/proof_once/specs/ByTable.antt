@@ -4,7 +4,7 @@ use Rattle.std.specs.Prelude.{◌≡◌, ℕ, ◌≤◌, List, length, Some}
 use Rattle.std.specs.List.{AllByRecursion}
 use Rattle.zw_base.specs.declared.property.Property.{Property}
 use Rattle.device_kinds.specs.declared.change.Change.{Change}
-use Rattle.device_stack.specs.State.{State, value_of}
+use Rattle.proof_messages.specs.device_stack.State.{State, value_of}
 use Rattle.zw_text.specs.declared.entry.Entry.{Entry}
 use Rattle.zw_text.specs.declared.entry.Outcome.TheVariants.{Success}
 use Rattle.zw_text.specs.Transcript.{accepted, sessions, outcome}

@@ -2,7 +2,7 @@
 -- own rule).
 use Rattle.std.specs.Prelude.{◌≡◌, true}
 use Rattle.std.specs.List.{AllByRecursion}
-use Rattle.device_sim.specs.State.{State}
+use Rattle.proof_messages.specs.device_sim.State.{State}
 use Rattle.proof_host.specs.law_transcript.Nodes.{is_supervised}
 use Rattle.proof_host.specs.law_transcript.Once.{IsSupervisedChange}
 

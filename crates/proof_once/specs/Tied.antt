@@ -7,7 +7,7 @@ use Rattle.zw_base.specs.declared.property.Setting.{Setting}
 use Rattle.supervision.specs.Host.{HostBook, begun_of, command_at as session_at}
 use Rattle.proof_course.specs.SessionFacts.{AreTold}
 use Rattle.device_kinds.specs.declared.change.Change.{Change}
-use Rattle.device_sim.specs.State.{State}
+use Rattle.proof_messages.specs.device_sim.State.{State}
 use Rattle.proof_messages.specs.Ending.{HasEnded}
 use Rattle.zw_text.specs.declared.entry.Outcome.{Outcome}
 use Rattle.zw_text.specs.Transcript.{by_session}

@@ -3,7 +3,7 @@ use Rattle.std.specs.Prelude.{◌≡◌, ℕ, List, [], ◌∷◌, Some}
 use Rattle.std.specs.List.{AllByRecursion}
 use Rattle.supervision.specs.Host.{command_at as session_at}
 use Rattle.supervision.specs.declared.session.TheConstants.{SUCCESS}
-use Rattle.device_sim.specs.State.{State}
+use Rattle.proof_messages.specs.device_sim.State.{State}
 use Rattle.proof_messages.specs.Ending.{HasEnded}
 use Rattle.proof_host.specs.law_transcript.Lists.{Has}
 use Rattle.host_keep.specs.declared.final_status.FinalStatus.TheVariants as final

@@ -9,8 +9,8 @@ ghost use Rattle.supervision.specs.Host.{command_at as session_at};
 ghost use Rattle.supervision.specs.declared.session.TheConstants.{SUCCESS};
 ghost use Rattle.proof_course.specs.Sessions.{Course};
 ghost use Rattle.proof_course.specs.SessionFacts.{CourseFacts};
-ghost use Rattle.device_sim.specs.State.{State};
-ghost use Rattle.device_sim.specs.Event.{DeviceEvent, device_after};
+ghost use Rattle.proof_messages.specs.device_sim.State.{State};
+ghost use Rattle.proof_messages.specs.device_sim.Event.{DeviceEvent, device_after};
 ghost use Rattle.proof_messages.specs.Ending.{HasEnded};
 ghost use Rattle.proof_device.specs.GoingOn.{GoOn};
 ghost use Rattle.proof_device.specs.Showing.{AreUnchanged, IsShownAmong};
@@ -31,9 +31,9 @@ ghost use Rattle.proof_once.specs.Tied.{AllTied, AreOutcomes, AreTied, IsTaken, 
 ghost use Rattle.proof_once.specs.ByTable.{ConfirmsByTable, IsTable, OnceByTable};
 ghost use Rattle.proof_once.specs.InSessions.{ChangesInSessions};
 
-use device_sim::when_changes_come;
 use proof_device::devices_stay_the_same;
 use proof_host::{laws_follow, values_are_in_order, what_is_over_stays};
+use proof_messages::when_changes_come;
 
 /// A course that keeps its facts ties the host's book to a device that ended its sessions as the course has it, where outcomes are those that the
 /// host was told and changes make what was asked for.

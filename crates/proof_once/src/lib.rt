@@ -14,6 +14,12 @@ pub use laws::{
     laws_of_transcripts_follow, restarts_keep_ties, ties_confirm_what_was_set, ties_go_on,
     ties_keep_once_only,
 };
-pub use proof_device as device;
-pub use proof_host as host;
-pub use proof_messages as messages;
+pub use proof_device::{changes_are_shown, devices_go_on, devices_stay_the_same};
+pub use proof_host::{
+    asides_keep_facts, events_keep_facts, first_facts_hold, laws_follow, restarts_keep_facts,
+    what_is_over_stays,
+};
+pub use proof_messages::{
+    devices_end_sessions, hosts_leave_nonces, messages_do_what_is_asked,
+    messages_follow_the_course, messages_open, others_are_no_messages, reports_tell, segments_tell,
+};

@@ -10,7 +10,7 @@ use Rattle.law_transcript.specs.Lists.{EachAfter}
 use Rattle.law_transcript.specs.Units.{Carried}
 use Rattle.law_time.specs.Moments.{KeepsAfter}
 use Rattle.law_time.specs.Queue.{may_queue}
-use Rattle.proof_host.proofs.Lists.{each-append}
+use Rattle.proof_attempts.proofs.Lists.{each-append}
 use Rattle.host_node.specs.State.{NodeState}
 use Rattle.host_model.specs.State.{first_host, node_of}
 use Rattle.proof_attempts.specs.proof_requests.law_host.Heard.{heeds_alone, is_refusal_of_others}
@@ -45,7 +45,7 @@ module _ (start : HostMachine) (asks : (here : Phase) (told : List Entry) (m : H
   paced {here = next} {m = later} (Stepped {here = here} {told = told} {m = m} step may all_is later_is run) careful =
       subst (λ (l : List Entry). Paced next (stage_after (stage_of run) step) l later) (sym all_is)
       (subst (λ (n : HostMachine). Paced next (stage_after (stage_of run) step) (told ++ entries m step) n) (sym later_is)
-      (pace_step here next (stage_of run) told m step may careful.1 (asks here told m run) (paced run careful.0)))
+      (pace_step here next (stage_of run) told m step may careful.1.0 (asks here told m run) (paced run careful.0)))
 
 pub first_waiting : (taken : List Entry → Carried → List Told) (keys : Keys) → Sights Resting [] (first_alone keys (Some [])) → Know taken Resting Looked [] (first_alone keys (Some []))
 first_waiting taken keys sights = record { stands = record { wants_are = refl; owed_are = refl; dropped = λ n from to. sym (undropped n from to) }; answered = refl }
@@ -68,7 +68,7 @@ module _ (taken : List Entry → Carried → List Told) (brings : PayloadsBring)
   along {here = next} {m = later} (Stepped {here = here} {told = told} {m = m} step may all_is later_is run) careful sure =
       let got = along run careful.0 sure.0 in
       let grounds : Grounds here (stage_of run) told m = record { asks = asks here told m run; sights = sights here told m run; pace = paced start asks pace run careful.0 } in
-      let one = step_goes taken brings here next (stage_of run) told m step may careful.1 grounds
+      let one = step_goes taken brings here next (stage_of run) told m step may careful.1.0 grounds
       (sights next (told ++ entries m step) (happens m step) (Stepped step may refl refl run)) sure.1 got.1 in
       subst (λ (l : List Entry). Stand taken [] l × Know taken next (stage_after (stage_of run) step) l later) (sym all_is) (
         each-append (Fits (heeds_alone taken)) [] told (entries m step) got.0 one.0,

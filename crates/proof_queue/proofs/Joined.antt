@@ -1,20 +1,18 @@
 -- The nodes that joined by the transcript of a host alone: each is a node and joined once, and each that was interviewed joined.
 use Rattle.std.proofs.Common.{◌≡◌, ◌⊎◌, ◌≤◌, ◌<◌, ℕ, ◌+◌, ◌==◌, ◌||◌, Bool, true, false, if◌then◌else◌, inl, inr, List, [], ◌∷◌, ◌++◌, refl, sym, ap, ◌∙◌, subst, append-nil, append_assoc, arith}
-use Rattle.std.specs.Prelude.{Option, Some, None, Result, Ok, Err, is_some}
+use Rattle.std.specs.Prelude.{Some, None, is_some}
 use Rattle.std.specs.List.{AllByRecursion, flat_map, list_any}
 use Rattle.std.proofs.lemmas.Bool.{both_ways, eq-eqb, eqb-true, or_from, or_left}
 use Rattle.std.proofs.lemmas.Grind.{flat_map-append}
 use Rattle.std.proofs.lemmas.List.Folds.{list_any-append}
 use Rattle.zw_base.proofs.Each.{all-append}
-use Rattle.zw_words.specs.declared.fault.LineFault.{LineFault}
-use Rattle.zw_text.specs.Line.{IsNode, LineText, line_at}
+use Rattle.zw_text.specs.Line.{IsNode, line_at}
 use Rattle.zw_text.specs.declared.line.Line.{Line}
 use Rattle.zw_text.specs.declared.line.Line.TheVariants as lines
 use Rattle.zw_text.specs.declared.entry.Refusal.{Refusal}
 use Rattle.zw_text.specs.declared.entry.Entry.{Entry}
 use Rattle.zw_text.specs.declared.entry.Entry.TheVariants as entry
-use Rattle.zw_text.specs.Transcript.{Doing, doing_lines, doing_step, folded, interview_at, interviews, join_of, joined, line_of, lines_done, read_as}
-use Rattle.zw_text.proofs.TextLaws.{line_takes}
+use Rattle.zw_text.specs.Transcript.{Doing, doing_lines, doing_step, folded, interview_at, interviews, join_of, joined, line_of, lines_done}
 use Rattle.zw_text.proofs.Views.{folded-append, shown-append}
 use Rattle.law_transcript.specs.Answers.{before_last}
 use Rattle.law_transcript.specs.Nodes.{is_interviewed, known_at_first, known_classes}
@@ -23,7 +21,7 @@ use Rattle.host_model.specs.Did.{MayAll}
 use Rattle.host_model.specs.May.{May as MayHost}
 use Rattle.host_model.specs.Events.{HostEvent, Accepts, Hears, Interviews, Joins}
 use Rattle.host_model.specs.Outs.{answers, outs}
-use Rattle.proof_world.proofs.Hosts.{of_joined}
+use Rattle.proof_sending.proofs.Hosts.{of_joined}
 use Rattle.proof_attempts.specs.proof_requests.law_host.Heard.{listing_heard}
 use Rattle.proof_attempts.specs.proof_requests.proof_alone.State.{HostMachine}
 use Rattle.proof_attempts.specs.proof_requests.proof_alone.Steps.{AreTold, AsksNothing, IsAskedBy, IsOfOthers, Step, Tells, Comes, Misses, Says, Says_nothing, Asks, Refuses, Shows, Restarts, Begins_tick, Numbers, Judges, Does, entries, happens}
@@ -35,6 +33,7 @@ use Rattle.proof_attempts.specs.Since.{IsElse}
 use Rattle.proof_attempts.proofs.Lasting.{by_else}
 use Rattle.proof_known.specs.Known.{KnowsTold}
 use Rattle.proof_known.proofs.Events.{AreAnswers, answers_are, outs_told}
+use Rattle.proof_known.proofs.Telling.{read_join}
 use Rattle.proof_known.proofs.proof_alone_Apart.{AreOfLine, missed_are}
 use Rattle.proof_known.proofs.proof_device_HostOuts.{OwnIs, SharedAre, outs_are}
 use Rattle.proof_queue.proofs.Books.{before_line}
@@ -184,14 +183,6 @@ distinct_more (m ∷ nodes) n distinct none = (
         by : (c : Bool) → (n == m) ≡ c → (n == m) ≡ false
         by false same = same
         by true same = absurd (both_ways (m == n) (is ∙ none) (eq-eqb m n (sym (eqb-true n m same))))
-
-read_join : (words : List ℕ) (n : ℕ) (read : Result (Option Line) LineFault) → line_at words ≡ read → read_as read ≡ lines.Join n ∷ [] → IsNode 1 n
-read_join words n (Ok (Some line)) is are =
-    let same : line ≡ lines.Join n = cc in
-    let text : LineText words (lines.Join n) = line_takes words (Some (lines.Join n)) (subst (λ (l : Line). line_at words ≡ Ok (Some l)) same is) in
-    text.stands.0
-read_join words n (Ok None) is are = absurd (let bad : [] ≡ lines.Join n ∷ [] = are in cc)
-read_join words n (Err fault) is are = absurd (let bad : [] ≡ lines.Join n ∷ [] = are in cc)
 
 join_so : (before : List Entry) (words : List ℕ) (n : ℕ) → line_of (entry.Said words) ≡ lines.Join n ∷ [] → is_among (joined before) n ≡ false → JoinedSo before → JoinedSo (before ++ entry.Said words ∷ [])
 join_so before words n read none so =

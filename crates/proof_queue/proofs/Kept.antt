@@ -27,8 +27,8 @@ use Rattle.host_model.specs.Sessions.{settings_with}
 use Rattle.host_model.specs.After.{after, finishing, giving, holding, is_full, is_held, node_does, offering, outcome_of, queues_if_room, requests_do}
 use Rattle.host_model.specs.Events.{HostEvent, Finishes, Gives, Has_no_room, Hears_value, Is_unkept, Notifies, Offers, Reports_old, Resends, Spends, Spends_unread, Takes_nonce, Unreads, Works}
 use Rattle.host_model.specs.Outs.{ended_of, held_entries, stored_entries}
-use Rattle.proof_host.proofs.Commands.{taken_set}
-use Rattle.proof_host.specs.Tables.{taken_at}
+use Rattle.proof_attempts.proofs.Commands.{taken_set}
+use Rattle.proof_attempts.specs.proof_host.Tables.{taken_at}
 use Rattle.proof_attempts.proofs.Doing.{holds_asks}
 use Rattle.proof_queue.proofs.Segments.{Keeps}
 use Rattle.proof_queue.proofs.Stills.{IsStill}

@@ -77,3 +77,5 @@ pub use Rattle.proof_attempts.proofs.InOrder
 pub use Rattle.proof_sending.proofs.Grounds as proof_sending_Grounds
 pub use Rattle.proof_attempts.proofs.proof_waking_Parts
 pub use Rattle.proof_attempts.proofs.UnderWay
+pub use Rattle.proof_known.proofs.Saying as proof_known_Saying
+pub use Rattle.proof_known.proofs.Ordered

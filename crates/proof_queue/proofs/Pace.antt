@@ -32,7 +32,7 @@ use Rattle.proof_attempts.proofs.Wrote.Wrote.{Quietly, Again, Anew}
 use Rattle.proof_known.proofs.Events.{AreAnswers, answers_are, outs_told}
 use Rattle.proof_known.proofs.proof_alone_Apart.{AreOfLine}
 use Rattle.proof_known.proofs.proof_device_HostOuts.{OutsAre}
-use Rattle.proof_attempts.specs.proof_requests.proof_alone.Careful.{Stage, Fresh, Reading, Read, Looked, Judging, MayJudge, MayPump, StepsWell, TurnsWell, stage_after, stage_judged, stage_pumped, stage_turned}
+use Rattle.proof_attempts.specs.proof_requests.proof_alone.Careful.{Stage, Fresh, Reading, Read, Looked, Judging, MayJudge, MayPump, MayStep, TurnsWell, stage_after, stage_judged, stage_pumped, stage_turned}
 
 abbrev pub is_reading : Stage → Bool
 is_reading Reading = true
@@ -313,7 +313,7 @@ answered (Refused (Stray x)) = tt
 answered (Refused (BadLength n)) = tt
 answered (Refused Aborted) = tt
 
-pub pace_step : (here next : Phase) (stage : Stage) (past : List Entry) (m : HostMachine) (one : Step) → May here m one next → StepsWell stage one → both_know Ground KnowsAsked here past m
+pub pace_step : (here next : Phase) (stage : Stage) (past : List Entry) (m : HostMachine) (one : Step) → May here m one next → MayStep stage one → both_know Ground KnowsAsked here past m
     → Paced here stage past m → Paced next (stage_after stage one) (past ++ entries m one) (happens m one)
 pace_step here next stage past m (Tells e) may well asks pace = goes here next stage past (e ∷ []) m m (where_same here next stage may.3 pace.at) (others_unjudged e may.1, tt) refl pace.left pace
 pace_step here next stage past m (Comes unit) may well asks pace = record {

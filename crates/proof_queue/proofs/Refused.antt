@@ -21,8 +21,8 @@ use Rattle.law_time.specs.Wants.{wants_of}
 use Rattle.host_model.specs.State.{HostState, node_of}
 use Rattle.host_model.specs.Asking.{interview_refusal, join_refusal, places_refusal, refusal_for}
 use Rattle.host_model.specs.Refusals.{IsRefusedBy, IsRefusedOrUnkept, IsUncancelled, shown}
-use Rattle.world_model.specs.State.{Machine}
-use Rattle.world_model.specs.Refusals.{IsRefused, IsUnopened}
+use Rattle.proof_attempts.specs.world_model.State.{Machine}
+use Rattle.proof_attempts.specs.world_model.Refusals.{IsRefused, IsUnopened}
 use Rattle.proof_attempts.specs.proof_requests.law_host.Heard.{listing_heard}
 
 -- ---- rules

@@ -21,8 +21,8 @@ use Rattle.host_model.specs.After.{after}
 use Rattle.host_model.specs.Did.{MayAll}
 use Rattle.host_model.specs.Events.{HostEvent, Accepts, Cancels}
 use Rattle.host_model.specs.Outs.{answers, outs}
-use Rattle.world_model.specs.Events.{OpensFrom}
-use Rattle.world_model.specs.Refusals.{IsRefused}
+use Rattle.proof_attempts.specs.world_model.Events.{OpensFrom}
+use Rattle.proof_attempts.specs.world_model.Refusals.{IsRefused}
 use Rattle.proof_attempts.specs.proof_work.Work.{HostWork}
 use Rattle.proof_attempts.specs.proof_requests.law_host.Heard.{heeds_alone, is_of_others, is_refusal_of_others, listing_heard}
 use Rattle.proof_attempts.specs.proof_requests.proof_alone.State.{HostMachine, done, with_world}

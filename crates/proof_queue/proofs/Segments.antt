@@ -21,7 +21,7 @@ use Rattle.host_node.specs.State.{is_open as has_open}
 use Rattle.host_model.specs.State.{Command, HostState, command_at, node_of}
 use Rattle.host_model.specs.Sessions.{command_if, message_for, open_segment, segment_at, segment_by, segment_count, segment_of}
 use Rattle.host_model.specs.Taking.{wanted_segment}
-use Rattle.proof_host.specs.Tables.{taken_at, taken_by}
+use Rattle.proof_attempts.specs.proof_host.Tables.{taken_at, taken_by}
 use Rattle.proof_attempts.specs.proof_requests.law_host.Heard.{listing_heard}
 use Rattle.proof_sending.specs.Due.{AreCarried}
 

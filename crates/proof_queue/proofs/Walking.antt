@@ -12,12 +12,12 @@ use Rattle.host_model.specs.Events.{HostEvent}
 use Rattle.host_model.specs.Outs.{answers, outs}
 use Rattle.host_model.specs.Pumping.{no_more_event}
 use Rattle.host_model.specs.Ticking.{tick_events}
-use Rattle.world_model.specs.Events.{shown_values}
+use Rattle.proof_attempts.specs.world_model.Events.{shown_values}
 use Rattle.proof_attempts.specs.proof_requests.law_host.Heard.{heeds_alone}
 use Rattle.proof_attempts.specs.proof_requests.proof_alone.State.{HostMachine, done}
 use Rattle.proof_attempts.specs.proof_requests.proof_alone.Steps.{AreTold, IsOfOthers, Step, Tells, Comes, Misses, Says, Says_nothing, Asks, Refuses, Shows, Restarts, Begins_tick, Numbers, Judges, Does, entries, happens}
 use Rattle.proof_attempts.specs.proof_requests.proof_alone.Phases.{Phase, Resting, Asked, Risen, Ticking, Open, Behind, Sleeping, Submitting, IsBetween, May, Turns}
-use Rattle.proof_attempts.specs.proof_requests.proof_alone.Careful.{Stage, Fresh, Reading, Read, Looked, Judging, MayMeet, StepsWell, stage_after, stage_judged, stage_pumped, stage_turned}
+use Rattle.proof_attempts.specs.proof_requests.proof_alone.Careful.{Stage, Fresh, Reading, Read, Looked, Judging, MayMeet, MayStep, stage_after, stage_judged, stage_pumped, stage_turned}
 use Rattle.proof_attempts.proofs.Queued.{PayloadsBring}
 use Rattle.proof_attempts.proofs.Wrote.{writes}
 use Rattle.proof_queue.specs.Heeding.{HeedsSo}
@@ -92,7 +92,7 @@ module _ (taken : List Entry → Carried → List Told) where
 
   -- ---- the walk
 
-  pub step_goes : PayloadsBring → (here next : Phase) (stage : Stage) (past : List Entry) (m : HostMachine) (one : Step) → May here m one next → StepsWell stage one → Grounds here stage past m
+  pub step_goes : PayloadsBring → (here next : Phase) (stage : Stage) (past : List Entry) (m : HostMachine) (one : Step) → May here m one next → MayStep stage one → Grounds here stage past m
       → Sights next (past ++ entries m one) (happens m one) → HeedsSo (heeds_alone taken) past m one → Know taken here stage past m → Leads next stage past m one
   step_goes brings here next stage past m (Tells e) may well grounds after_it heeds known =
       between here next stage past (e ∷ []) m may.0 may.3 may.2 (others_still e may.1, tt) (λ judging. (may.1, tt)) grounds.sights after_it known

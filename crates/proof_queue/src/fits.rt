@@ -7,9 +7,9 @@ ghost use Rattle.zw_text.specs.declared.entry.Entry.{Entry};
 ghost use Rattle.host_heard.specs.declared.told.Told.{Told as Message};
 ghost use Rattle.law_transcript.specs.Units.{Carried};
 ghost use Rattle.law_time.specs.Queue.{FitsQueue};
-ghost use Rattle.world_model.specs.State.{first_machine};
-ghost use Rattle.world_lines.specs.Spoken.{Spoken, transcript_of};
-ghost use Rattle.world_lines.specs.Done.{AreDone};
+ghost use Rattle.proof_attempts.specs.world_model.State.{first_machine};
+ghost use Rattle.proof_attempts.specs.world_lines.Spoken.{Spoken, transcript_of};
+ghost use Rattle.proof_attempts.specs.world_lines.Done.{AreDone};
 ghost use Rattle.proof_attempts.specs.proof_requests.law_host.Heard.{heard_by_host, heeds_alone};
 ghost use Rattle.proof_attempts.specs.proof_requests.proof_alone.State.{HostMachine, first_alone};
 ghost use Rattle.proof_attempts.specs.proof_requests.proof_alone.Phases.{Phase};
@@ -20,12 +20,12 @@ ghost use Rattle.proof_queue.specs.Heeding.{AllSteps, HeedsAs, HeedsSo};
 ghost use Rattle.proof_queue.specs.Turn.{GoesByQueue};
 
 use crate::queued::hosts_queue_as_told;
-use proof_attempts::hosts_show_open_sessions;
-use proof_attempts::requests::alone::{lines_are_a_hosts, what_is_heard_is_a_hosts};
-use proof_attempts::requests::hosts_ask_as_told;
-use proof_host::laws_follow;
+use proof_attempts::{
+    hosts_ask_as_told, hosts_show_open_sessions, laws_follow, lines_are_a_hosts,
+    what_is_heard_is_a_hosts,
+};
 use proof_known::{hosts_answer_lines, hosts_keep_what_is_said, hosts_know_what_nodes_list};
-use proof_sending::spoken::orders_are_carried_as_said;
+use proof_sending::orders_are_carried_as_said;
 
 /// For any run of a host alone, over a keeper that tells its records and has none at first, there are messages of each payload such that the host goes by
 /// them: those for which it put a Nonce Report or a segment into its queue, took a nonce, or took its node to be at work. A segment that was asked for again is

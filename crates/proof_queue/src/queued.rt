@@ -23,9 +23,9 @@ ghost use Rattle.proof_queue.specs.Heeding.{AllSteps, HeedsSo};
 ghost use Rattle.proof_queue.specs.Turn.{GoesByQueue};
 
 use host_model::attempts_have_what_they_give;
-use proof_attempts::requests::hosts_ask_as_told;
 use proof_attempts::{
-    hosts_hold_as_told, hosts_run_series_as_told, hosts_show_open_sessions, hosts_tell_of_sleep,
+    hosts_ask_as_told, hosts_hold_as_told, hosts_run_series_as_told, hosts_show_open_sessions,
+    hosts_tell_of_sleep,
 };
 use proof_known::{hosts_keep_what_is_said, hosts_know_what_nodes_list, hosts_know_what_was_told};
 

@@ -15,9 +15,9 @@ ghost use Rattle.proof_attempts.specs.proof_requests.proof_alone.Runs.{Run};
 ghost use Rattle.proof_queue.specs.Waiting.{queue_of};
 ghost use Rattle.proof_queue.specs.Sleeping.{IsLooking, WaitsIn, full_for, slept, wanting};
 
-use proof_attempts::requests::hosts_listen_as_told;
 use proof_attempts::{
-    hosts_hold_as_told, hosts_run_series_as_told, hosts_show_open_sessions, hosts_tell_of_sleep,
+    hosts_hold_as_told, hosts_listen_as_told, hosts_run_series_as_told, hosts_show_open_sessions,
+    hosts_tell_of_sleep,
 };
 use proof_known::{hosts_keep_what_is_said, hosts_know_what_nodes_list, hosts_know_what_was_told};
 

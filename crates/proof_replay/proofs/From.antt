@@ -1,13 +1,16 @@
 -- What hosts keep over all that they heard, a host that starts with records keeps from its start on.
-use Rattle.std.proofs.Common.{ℕ, Bool, true, false, List, [], ◌∷◌, ◌++◌, subst, append_assoc}
+use Rattle.std.proofs.Common.{ℕ, Bool, true, false, List, [], ◌∷◌, ◌++◌, refl, subst, append_assoc}
 use Rattle.std.specs.Prelude.{Option}
 use Rattle.s0_crypto.specs.declared.key_pair.Keys.{Keys}
+use Rattle.host_heard.specs.declared.told.Told.{Told}
+use Rattle.port_run.specs.host_core.Network.{keys_of}
 use Rattle.zw_text.specs.declared.entry.Entry.{Entry}
 use Rattle.zw_text.specs.declared.entry.Entry.TheVariants.{Said}
 use Rattle.law_transcript.specs.Answers.{MayAnswer, MayCancel, refusals_by_host}
 use Rattle.law_transcript.specs.Lists.{EachAfter}
 use Rattle.law_transcript.specs.Payloads.{FollowsBegin, MayRequest}
 use Rattle.law_transcript.specs.Sessions.{MayBegin}
+use Rattle.law_transcript.specs.Units.{Carried}
 use Rattle.law_wire.specs.Serial.{ended}
 use Rattle.law_time.specs.Heeds.{Heeds}
 use Rattle.law_time.specs.Moments.{Allows}
@@ -19,6 +22,9 @@ use Rattle.law_time.specs.Prompt.{IsPrompt, IsPromptAfter}
 use Rattle.proof_host.proofs.Over.{each-right as each_from}
 use Rattle.proof_asking.specs.proof_requests.law_host.Heard.{heeds_alone, listing_heard}
 use Rattle.proof_asking.specs.proof_requests.law_host.HostLegal.{ShowsValues}
+use Rattle.proof_asking.specs.proof_requests.law_host.Notes.{Start}
+use Rattle.proof_asking.specs.proof_requests.law_host.Starting.{IsLegalFrom, StartsFrom}
+use Rattle.proof_noting.specs.Starts.{NotesFrom}
 use Rattle.proof_replay.specs.Laws.{HostsKeepLaws, KeepsFrom}
 
 -- the end of a whole run stands after all of it
@@ -54,3 +60,32 @@ keeps_from keys before whole heard records laws = record {
   prompt = (laws.prompt.0, prompt_after (heeds_alone laws.prompt.0) whole before heard laws.prompt.1);
   records_kept = laws.said.records_kept;
 }
+
+-- so it is legal from that start, with its notes from there
+pub legal_from : (key : List ℕ) (records : List (List ℕ)) (from : Start) (starts : StartsFrom records from) (whole : Bool) (heard : List Entry) (told : Option (List (List ℕ)))
+    (taken : List Entry → Carried → List Told) → HostsKeepLaws (keys_of key) whole (from.before ++ heard) told → IsPrompt whole (heeds_alone taken) (from.before ++ heard)
+    → NotesFrom key taken from starts.kept whole heard → IsLegalFrom key records whole heard told
+legal_from key records from starts whole heard told taken laws prompt noted =
+    let keeps : KeepsFrom (keys_of key) from.before whole heard told = keeps_from (keys_of key) from.before whole heard told laws in
+    record {
+      start = from;
+      starts = starts;
+      alone = record {
+        taken = taken;
+        legal = record {
+          answers = keeps.answers;
+          cancels = keeps.cancels;
+          sessions = keeps.sessions;
+          carries = keeps.carries;
+          link = keeps.link;
+          notes = noted.in_full.notes;
+          stores = keeps.stores;
+          values = keeps.values;
+          sends = keeps.sends key refl;
+          prompt = prompt_after (heeds_alone taken) whole from.before heard prompt;
+          records_kept = keeps.records_kept;
+        };
+        heeded = noted.in_full.heeded;
+      };
+      live = noted.live;
+    }

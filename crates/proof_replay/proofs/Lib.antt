@@ -3,12 +3,14 @@ mod LineHeard
 mod CameItems
 mod Replaying
 mod Ran
-mod Serving
+pub mod Serving
 mod Words
 mod From
 mod Begun
+mod Started
 mod Starting
 mod Orderly
 mod HeardEvents
 mod HeardLink
 mod Wholly
+mod Agreeing

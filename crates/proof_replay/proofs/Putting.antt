@@ -15,7 +15,7 @@ use Rattle.proof_noting.proofs.Times.{time_of}
 use Rattle.proof_asking.specs.proof_requests.proof_alone.State.{HostMachine, host_machine}
 use Rattle.proof_asking.specs.proof_requests.proof_alone.Steps.{AreTold}
 use Rattle.proof_asking.specs.proof_requests.proof_alone.Phases.{Phase, Resting}
-use Rattle.proof_asking.specs.proof_requests.proof_alone.Careful.{CarefulRun, Stage}
+use Rattle.proof_asking.specs.proof_requests.proof_alone.Careful.{Stage}
 use Rattle.proof_asking.proofs.Coming.{at_time}
 use Rattle.proof_asking.proofs.Hosting.{Enters}
 use Rattle.proof_asking.proofs.Stamps.{entered_still, stamp_both}
@@ -56,17 +56,17 @@ abbrev pub awaiting : List HostOut → Bool
 awaiting [] = true
 awaiting (one ∷ puts) = false
 
-module _ (start : HostMachine) (stage : Stage) (keys : Keys) (records : Option (List (List ℕ))) (h : HostState) (came : List LineUnit) (left clock : ℕ) where
+module _ (Led : Stage → Phase → List Entry → HostMachine → Type 0) (stage : Stage) (keys : Keys) (records : Option (List (List ℕ))) (h : HostState) (came : List LineUnit) (left clock : ℕ) where
   -- no tick runs: nothing is added
   pub untimed : (here : Phase) (past told : List Entry)
-      → CarefulRun start stage here (past ++ stamp (clock_at clock false) told) (at_time keys records h came left (time_of (has_entered (clock_at clock false) told)))
-      → CarefulRun start stage here (past ++ told) (host_machine keys records h came clock left false)
+      → Led stage here (past ++ stamp (clock_at clock false) told) (at_time keys records h came left (time_of (has_entered (clock_at clock false) told)))
+      → Led stage here (past ++ told) (host_machine keys records h came clock left false)
   untimed here past [] run = run
   untimed here past (e ∷ told) run = run
 
   -- in a tick its number is entered where anything is put out
   pub in_tick : (past : List Entry) (puts : List HostOut)
-      → CarefulRun start stage Resting (past ++ stamp (clock_at clock true) (entries_of puts)) (at_time keys records h came left (time_of (has_entered (clock_at clock true) (entries_of puts))))
-      → CarefulRun start stage Resting (past ++ timed clock puts) (host_machine keys records h came clock left (awaiting puts))
+      → Led stage Resting (past ++ stamp (clock_at clock true) (entries_of puts)) (at_time keys records h came left (time_of (has_entered (clock_at clock true) (entries_of puts))))
+      → Led stage Resting (past ++ timed clock puts) (host_machine keys records h came clock left (awaiting puts))
   in_tick past [] run = run
   in_tick past (one ∷ puts) run = run

@@ -43,8 +43,8 @@ use Rattle.proof_asking.specs.proof_requests.proof_alone.State.{HostMachine, hos
 use Rattle.proof_asking.specs.proof_requests.proof_alone.Steps as step
 use Rattle.proof_asking.specs.proof_requests.proof_alone.Steps.{IsAskedBy}
 use Rattle.proof_asking.specs.proof_requests.proof_alone.Phases.{Phase, Resting, Asked, Risen, Open}
-use Rattle.proof_asking.specs.proof_requests.proof_alone.Careful.{CarefulRun, Fresh, Looked, Read, Reading, Stage, stage_pumped}
-use Rattle.proof_asking.proofs.Carefully.{all_judged, stepped, still_reads, turned}
+use Rattle.proof_asking.specs.proof_requests.proof_alone.Careful.{Fresh, Looked, Read, Reading, Stage, stage_pumped}
+use Rattle.proof_asking.proofs.Carefully.{Leads, all_judged, goes_on, still_reads, turns_on}
 use Rattle.proof_asking.proofs.InOrder.{asked_puts, is_asked}
 use Rattle.proof_asking.proofs.Hosting.{items_run, kept, pump_run, tick_and_pump}
 use Rattle.proof_asking.specs.proof_line.Arrivals.{AreTexts}
@@ -71,12 +71,12 @@ may_rest m [] b may = may
 may_rest m (event ∷ a) b may = may_rest (happens m event) a b may.1
 
 -- No line reads the records. So those of the run need not be the keeper's, but they stand so to them, and go on doing so.
-module _ (start : HostMachine) (keys : Keys) (Beside : Option (List (List ℕ)) → Option (List (List ℕ)) → Type 0)
+module _ (Led : Stage → Phase → List Entry → HostMachine → Type 0) (leads : Leads Led) (keys : Keys) (Beside : Option (List (List ℕ)) → Option (List (List ℕ)) → Type 0)
     (grows : (records held : Option (List (List ℕ))) (texts : List (List ℕ)) → Beside records held → Beside (with_texts records texts) (with_texts held texts)) (obey : HostsObey) where
   -- a careful run to here, with nothing that came left, and what is known of the line
   abbrev pub At : Stage → Phase → ℕ → Bool → List Entry → Lone → Type 0
   At stage here left awaits past m =
-      (held : Option (List (List ℕ))) × Beside m.records held × CarefulRun start stage here past (host_machine keys held m.host.state [] m.clock left awaits)
+      (held : Option (List (List ℕ))) × Beside m.records held × Led stage here past (host_machine keys held m.host.state [] m.clock left awaits)
       × KnowsLineAt here left awaits past m.clock m.host.state
 
   -- with the records of what was done
@@ -122,8 +122,8 @@ module _ (start : HostMachine) (keys : Keys) (Beside : Option (List (List ℕ)) 
       let now : Option (List (List ℕ)) = kept held m.host.state pumped in (
         now,
         grown m held pumped beside,
-        untimed start (stage_pumped stage) keys now n.host.state [] 0 m.clock Resting past (entries_of (outs_all m.host.state pumped))
-            (pump_run OuterState alone_at alone_put alone_next alone_enters start keys 0 stage pumped past held m.host.state (clock_at m.clock false) pumps may run),
+        untimed Led (stage_pumped stage) keys now n.host.state [] 0 m.clock Resting past (entries_of (outs_all m.host.state pumped))
+            (pump_run OuterState alone_at alone_put alone_next alone_enters Led leads keys 0 stage pumped past held m.host.state (clock_at m.clock false) pumps may run),
         rests_at obey (past ++ entries_of (outs_all m.host.state pumped)) m.clock 0 n.host.state (pump_line obey pumped m.host.state past m.clock 0 pumps may line),
       )
 
@@ -135,26 +135,26 @@ module _ (start : HostMachine) (keys : Keys) (Beside : Option (List (List ℕ)) 
   -- ---- bytes of the chip
 
   comes_run : (items : List Item) (texts : List (List ℕ)) (past : List Entry) (came : List LineUnit) (held : Option (List (List ℕ))) (m : Lone) → AreTexts items texts
-      → CarefulRun start Reading Open past (host_machine keys held m.host.state came m.clock 0 false)
-      → CarefulRun start Reading Open (past ++ came_so items texts) (host_machine keys held m.host.state (came ++ good_units items) m.clock 0 false)
+      → Led Reading Open past (host_machine keys held m.host.state came m.clock 0 false)
+      → Led Reading Open (past ++ came_so items texts) (host_machine keys held m.host.state (came ++ good_units items) m.clock 0 false)
   comes_run [] [] past came held m are run =
-      subst (λ (l : List Entry). CarefulRun start Reading Open l (host_machine keys held m.host.state (came ++ []) m.clock 0 false)) (sym (append-nil past))
-      (subst (λ (l : List LineUnit). CarefulRun start Reading Open past (host_machine keys held m.host.state l m.clock 0 false)) (sym (append-nil came)) run)
+      subst (λ (l : List Entry). Led Reading Open l (host_machine keys held m.host.state (came ++ []) m.clock 0 false)) (sym (append-nil past))
+      (subst (λ (l : List LineUnit). Led Reading Open past (host_machine keys held m.host.state l m.clock 0 false)) (sym (append-nil came)) run)
   comes_run [] (text ∷ texts) past came held m are run = absurd are
   comes_run (item ∷ items) [] past came held m are run = absurd are
   comes_run (Good unit ∷ items) (text ∷ texts) past came held m are run =
       let told : List Entry = entry.Written by_chip text ∷ [] in
-      let one : CarefulRun start Reading Open (past ++ told) (host_machine keys held m.host.state (came ++ unit ∷ []) m.clock 0 false) =
-      stepped (step.Comes unit) (tt, refl, refl, inr refl) tt refl (ap (λ (t : List ℕ). past ++ entry.Written by_chip t ∷ []) are.0.1) refl run in
+      let one : Led Reading Open (past ++ told) (host_machine keys held m.host.state (came ++ unit ∷ []) m.clock 0 false) =
+      goes_on leads (step.Comes unit) (tt, refl, refl, inr refl) (tt, tt) refl (ap (λ (t : List ℕ). past ++ entry.Written by_chip t ∷ []) are.0.1) refl run in
       let all = comes_run items texts (past ++ told) (came ++ unit ∷ []) held m are.1 one in
-      subst (λ (l : List Entry). CarefulRun start Reading Open l (host_machine keys held m.host.state (came ++ unit ∷ good_units items) m.clock 0 false)) (append_assoc past told (came_so items texts))
-      (subst (λ (l : List LineUnit). CarefulRun start Reading Open ((past ++ told) ++ came_so items texts) (host_machine keys held m.host.state l m.clock 0 false)) (append_assoc came (unit ∷ []) (good_units items)) all)
+      subst (λ (l : List Entry). Led Reading Open l (host_machine keys held m.host.state (came ++ unit ∷ good_units items) m.clock 0 false)) (append_assoc past told (came_so items texts))
+      (subst (λ (l : List LineUnit). Led Reading Open ((past ++ told) ++ came_so items texts) (host_machine keys held m.host.state l m.clock 0 false)) (append_assoc came (unit ∷ []) (good_units items)) all)
   comes_run (refused_item refusal ∷ items) (text ∷ texts) past came held m are run =
       let told : List Entry = entry.Written by_chip text ∷ entry.Garbled by_chip text ∷ [] in
       let none = refused_answers refusal text are.0 in
-      let one : CarefulRun start Reading Open (past ++ told) (host_machine keys held m.host.state came m.clock 0 false) =
-      stepped (step.Misses text (entry.Garbled by_chip text ∷ [])) (tt, tt, refl, refl, (none, none)) tt refl refl refl run in
-      subst (λ (l : List Entry). CarefulRun start Reading Open l (host_machine keys held m.host.state (came ++ good_units items) m.clock 0 false)) (append_assoc past told (came_so items texts))
+      let one : Led Reading Open (past ++ told) (host_machine keys held m.host.state came m.clock 0 false) =
+      goes_on leads (step.Misses text (entry.Garbled by_chip text ∷ [])) (tt, tt, refl, refl, (none, none)) (tt, tt) refl refl refl run in
+      subst (λ (l : List Entry). Led Reading Open l (host_machine keys held m.host.state (came ++ good_units items) m.clock 0 false)) (append_assoc past told (came_so items texts))
       (comes_run items texts (past ++ told) came held m are.1 one)
 
   pub taken_run : (past : List Entry) (m : Lone) (bytes : List ℕ) (rest : Rest) (items : List Item) (judged : List HostEvent) → May m (Takes bytes rest items judged) → At Reading Open 0 false past m
@@ -167,12 +167,12 @@ module _ (start : HostMachine) (keys : Keys) (Beside : Option (List (List ℕ)) 
       let stream : List ℕ = m.host.decoder.bytes ++ bytes in
       let puts : List Entry = entries_of (outs_all m.host.state judged) in
       let (texts, are, same) = came_texts items stream rest.bytes may.feeds.reads in
-      let came : CarefulRun start Reading Open (past ++ came_so items texts) (host_machine keys held m.host.state units m.clock 0 false) = comes_run items texts past [] held m are run in
-      let all : CarefulRun start Reading Open ((past ++ came_so items texts) ++ puts) (host_machine keys now n.host.state [] m.clock 0 false) =
-      subst (λ (s : Stage). CarefulRun start s Open ((past ++ came_so items texts) ++ puts) (host_machine keys now n.host.state [] m.clock 0 false)) (still_reads items)
-      (untimed start (all_judged Reading items) keys now n.host.state [] 0 m.clock Open (past ++ came_so items texts) puts
-      (items_run OuterState alone_at alone_put alone_next alone_enters start keys 0 Reading items judged (past ++ came_so items texts) held m.host.state [] (clock_at m.clock false) tt may.judged may.may
-      (subst (λ (l : List LineUnit). CarefulRun start Reading Open (past ++ came_so items texts) (host_machine keys held m.host.state l m.clock 0 false)) (sym (append-nil units)) came))) in
+      let came : Led Reading Open (past ++ came_so items texts) (host_machine keys held m.host.state units m.clock 0 false) = comes_run items texts past [] held m are run in
+      let all : Led Reading Open ((past ++ came_so items texts) ++ puts) (host_machine keys now n.host.state [] m.clock 0 false) =
+      subst (λ (s : Stage). Led s Open ((past ++ came_so items texts) ++ puts) (host_machine keys now n.host.state [] m.clock 0 false)) (still_reads items)
+      (untimed Led (all_judged Reading items) keys now n.host.state [] 0 m.clock Open (past ++ came_so items texts) puts
+      (items_run OuterState alone_at alone_put alone_next alone_enters Led leads keys 0 Reading items judged (past ++ came_so items texts) held m.host.state [] (clock_at m.clock false) tt may.judged may.may
+      (subst (λ (l : List LineUnit). Led Reading Open (past ++ came_so items texts) (host_machine keys held m.host.state l m.clock 0 false)) (sym (append-nil units)) came))) in
       let known = bytes_line obey items texts judged m.host.state past m.clock 0 are may.judged may.may line in
       subst (λ (l : List Entry). At Reading Open 0 false (past ++ (l ++ puts)) n) (sym same)
       (subst (λ (l : List Entry). At Reading Open 0 false l n) (append_assoc past (came_so items texts) puts) (now, grown m held judged beside, all, known))
@@ -204,7 +204,7 @@ module _ (start : HostMachine) (keys : Keys) (Beside : Option (List (List ℕ)) 
       subst (λ (l : List Entry). KnowsLine l m.clock 0 (after_all h (event ∷ []))) (append-nil (k.before ++ entry.Said k.words ∷ []) ∙ sym k.is) done in (
         kept held m.host.state (event ∷ []),
         grown m held (event ∷ []) beside,
-        stepped (step.Asks event) (line, refl, asked, may, (λ (bad : false ≡ true). absurd cc), refl) tt refl refl refl run,
+        goes_on leads (step.Asks event) (line, refl, asked, may, (λ (bad : false ≡ true). absurd cc), refl) (tt, tt) refl refl refl run,
         told_line obey event h (after_all h (event ∷ [])) past m.clock 0 there,
       )
 
@@ -231,7 +231,7 @@ module _ (start : HostMachine) (keys : Keys) (Beside : Option (List (List ℕ)) 
   refused_run line past m refusal same may (held, beside, run, asked) = (
     held,
     beside,
-    stepped (step.Refuses refusal) (line, refl, inl (same held refusal may), refl, refl) tt refl refl refl run,
+    goes_on leads (step.Refuses refusal) (line, refl, inl (same held refusal may), refl, refl) (tt, tt) refl refl refl run,
     refused_line obey line past m.clock m.host.state refusal (refused_ticks line (alone m) refusal may) asked,
   )
 
@@ -246,7 +246,7 @@ module _ (start : HostMachine) (keys : Keys) (Beside : Option (List (List ℕ)) 
       let known : KnowsLine (k.before ++ entry.Said k.words ∷ told) m.clock 0 m.host.state =
       words_line obey k.before k.awaits m.clock m.host.state k.rests k.words told (lines.Store node ∷ []) tt k.read (λ now due. (refl, refl)) (tt, tt) (ap ticks_asked k.read) in
       let is : k.before ++ entry.Said k.words ∷ told ≡ past ++ told = sym (append_assoc k.before (entry.Said k.words ∷ []) told) ∙ ap (λ (l : List Entry). l ++ told) (sym k.is) in
-      (held, beside, stepped (step.Shows node) (refl, refl, refl) tt refl refl refl run, subst (λ (l : List Entry). KnowsLine l m.clock 0 m.host.state) is known)
+      (held, beside, goes_on leads (step.Shows node) (refl, refl, refl) (tt, tt) refl refl refl run, subst (λ (l : List Entry). KnowsLine l m.clock 0 m.host.state) is known)
 
   by_rule : (line : Line) (past : List Entry) (m : Lone) (event : HostEvent) (rule : Option Refused) (there : List WorldEvent) (events : List Event) → WorldAsks rule line event there
       → events ≡ flat_map by_host there → (rule ≡ None → IsAskedBy line m.host.state event) → Same line m → Goes line past m events
@@ -305,16 +305,16 @@ module _ (start : HostMachine) (keys : Keys) (Beside : Option (List (List ℕ)) 
       let h : HostState = m.host.state in
       let n : Lone = happens m (Ticks (tick_events h ++ pumped)) in
       let now : Option (List (List ℕ)) = kept held h (tick_events h ++ pumped) in
-      let begun : CarefulRun start Fresh Risen past (host_machine keys held h [] (m.clock + 1) more true) =
-      stepped (step.Begins_tick more) (refl, refl, refl) tt refl (sym (append-nil past)) refl run in
+      let begun : Led Fresh Risen past (host_machine keys held h [] (m.clock + 1) more true) =
+      goes_on leads (step.Begins_tick more) (refl, refl, refl) (tt, tt) refl (sym (append-nil past)) refl run in
       let puts : List HostOut = outs_all h (tick_events h ++ pumped) in (
         awaiting puts,
         Looked,
         (
           now,
           grown m held (tick_events h ++ pumped) beside,
-          in_tick start Looked keys now n.host.state [] more (m.clock + 1) past puts
-              (tick_and_pump OuterState alone_at alone_put alone_next alone_enters start keys more pumped past held h (clock_at (m.clock + 1) true) pumps may begun),
+          in_tick Led Looked keys now n.host.state [] more (m.clock + 1) past puts
+              (tick_and_pump OuterState alone_at alone_put alone_next alone_enters Led leads keys more pumped past held h (clock_at (m.clock + 1) true) pumps may begun),
           tick_line obey pumped past awaits m.clock more h pumps may line,
         ),
       )
@@ -338,7 +338,7 @@ module _ (start : HostMachine) (keys : Keys) (Beside : Option (List (List ℕ)) 
   plain_goes (lines.Tick count) past m events is replayed may (held, beside, run, k) =
       let line : KnowsLine past m.clock count m.host.state =
       subst (λ (l : List Entry). KnowsLine l m.clock count m.host.state) (sym k.is) (ticks_line obey k.before k.awaits m.clock m.host.state k.rests k.words count k.read) in
-      ticks_goes count past m events is may (false, Fresh, (held, beside, turned (inr (count, refl, refl)) tt refl run, rests_at obey past m.clock count m.host.state line))
+      ticks_goes count past m events is may (false, Fresh, (held, beside, turns_on leads (inr (count, refl, refl)) tt refl run, rests_at obey past m.clock count m.host.state line))
   plain_goes line past m events is replayed may run = (false, Looked, effect_then line past m events is replayed may run)
 
   line_goes : (past : List Entry) (m : Lone) (said : Replayed) → IsRun m said → Rests 0 past m
@@ -358,7 +358,7 @@ module _ (start : HostMachine) (keys : Keys) (Beside : Option (List (List ℕ)) 
           (plain_goes line (past ++ words) m said.events these replayed is.may (
             held,
             beside,
-            stepped (step.Says said.words line) (refl, refl, read, refl) tt refl refl refl run,
+            goes_on leads (step.Says said.words line) (refl, refl, read, refl) (tt, tt) refl refl refl run,
             record { before = past; words = said.words; awaits = awaits; is = refl; read = read; rests = rests },
           ))
       by (Chip bytes) read replayed (first, rest, are, taking, pump) =
@@ -366,7 +366,7 @@ module _ (start : HostMachine) (keys : Keys) (Beside : Option (List (List ℕ)) 
           let there : At Reading Open 0 false (past ++ words) m = (
             held,
             beside,
-            turned refl tt refl (stepped (step.Says_nothing said.words) (refl, refl, read, refl) tt refl refl refl run),
+            turns_on leads refl tt refl (goes_on leads (step.Says_nothing said.words) (refl, refl, read, refl) (tt, tt) refl refl refl run),
             words_line obey past awaits m.clock m.host.state rests said.words [] [] tt read (λ now due. (refl, refl)) tt (ap ticks_asked read),
           ) in
           after_words (

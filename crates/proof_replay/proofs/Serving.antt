@@ -44,8 +44,8 @@ use Rattle.proof_asking.specs.proof_requests.proof_alone.State.{HostMachine, hos
 use Rattle.proof_asking.specs.proof_requests.proof_alone.Steps as step
 use Rattle.proof_asking.specs.proof_requests.proof_alone.Steps.{IsAskedBy}
 use Rattle.proof_asking.specs.proof_requests.proof_alone.Phases.{Phase, Resting, Asked, Open}
-use Rattle.proof_asking.specs.proof_requests.proof_alone.Careful.{CarefulRun, Fresh, Reading, Stage, stage_pumped}
-use Rattle.proof_asking.proofs.Carefully.{stepped, turned}
+use Rattle.proof_asking.specs.proof_requests.proof_alone.Careful.{Fresh, Reading, Stage, stage_pumped}
+use Rattle.proof_asking.proofs.Carefully.{Leads, goes_on, turns_on}
 use Rattle.proof_replay.specs.Heard.{came_of}
 use Rattle.proof_replay.specs.HostSteps.{AreOrderly, HearsPart, HearsSteps, IsServed, WithPump, chip_word, clock_after, lone_at, restart_word, tick_words}
 use Rattle.proof_replay.specs.Linked.{KnowsLine, KnowsLineAt}
@@ -150,8 +150,8 @@ pub none_added : (records later : Option (List (List ℕ))) → OptAdds records 
 none_added None later adds = adds
 none_added (Some texts) later adds = adds ∙ ap (λ (l : List (List ℕ)). Some l) (append-nil texts)
 
--- what was put out before others
-added : (events : List HostEvent) (old new : Place) (before outs : List HostOut) → Did events old.host.state new.host.state [] outs old.shelf new.shelf
+-- outs that were added to others
+pub added : (events : List HostEvent) (old new : Place) (before outs : List HostOut) → Did events old.host.state new.host.state [] outs old.shelf new.shelf
     → Did events old.host.state new.host.state before (before ++ outs) old.shelf new.shelf
 added events old new before outs did = record {
   may = did.may;
@@ -162,25 +162,25 @@ added events old new before outs did = record {
   never_falls = did.never_falls;
 }
 
-module _ (start : HostMachine) (keys : Keys) (Beside : Option (List (List ℕ)) → Option (List (List ℕ)) → Type 0)
+module _ (Led : Stage → Phase → List Entry → HostMachine → Type 0) (leads : Leads Led) (keys : Keys) (Beside : Option (List (List ℕ)) → Option (List (List ℕ)) → Type 0)
     (grows : (records held : Option (List (List ℕ))) (texts : List (List ℕ)) → Beside records held → Beside (with_texts records texts) (with_texts held texts)) (obey : HostsObey) where
   abbrev At : Stage → Phase → List Entry → Place → ℕ → Type 0
-  At stage here past place clock = replaying.At start keys Beside grows obey stage here 0 false past (lone_at place clock)
+  At stage here past place clock = replaying.At Led leads keys Beside grows obey stage here 0 false past (lone_at place clock)
 
   abbrev pub Rests0 : List Entry → Lone → Type 0
-  Rests0 past m = replaying.Rests start keys Beside grows obey 0 past m
+  Rests0 past m = replaying.Rests Led leads keys Beside grows obey 0 past m
 
   -- from what events make of a host to the place where they led
   moved : (stage : Stage) (here : Phase) (past : List Entry) (clock : ℕ) (awaits : Bool) (old new : Place) (events : List HostEvent) (outs : List HostOut)
       → Did events old.host.state new.host.state [] outs old.shelf new.shelf
       → (held : Option (List (List ℕ))) × Beside (with_texts old.shelf.records (texts_of (records_all old.host.state events))) held
-      × CarefulRun start stage here past (host_machine keys held (after_all old.host.state events) [] clock 0 awaits) × KnowsLineAt here 0 awaits past clock (after_all old.host.state events)
-      → (held : Option (List (List ℕ))) × Beside new.shelf.records held × CarefulRun start stage here past (host_machine keys held new.host.state [] clock 0 awaits)
+      × Led stage here past (host_machine keys held (after_all old.host.state events) [] clock 0 awaits) × KnowsLineAt here 0 awaits past clock (after_all old.host.state events)
+      → (held : Option (List (List ℕ))) × Beside new.shelf.records held × Led stage here past (host_machine keys held new.host.state [] clock 0 awaits)
       × KnowsLineAt here 0 awaits past clock new.host.state
   moved stage here past clock awaits old new events outs did (held, beside, run, line) = (
     held,
     subst (λ (r : Option (List (List ℕ))). Beside r held) (sym (adds_is old.shelf.records new.shelf.records (texts_of (records_all old.host.state events)) did.records)) beside,
-    subst (λ (s : HostState). CarefulRun start stage here past (host_machine keys held s [] clock 0 awaits)) (sym did.state) run,
+    subst (λ (s : HostState). Led stage here past (host_machine keys held s [] clock 0 awaits)) (sym did.state) run,
     subst (λ (s : HostState). KnowsLineAt here 0 awaits past clock s) (sym did.state) line,
   )
 
@@ -190,7 +190,7 @@ module _ (start : HostMachine) (keys : Keys) (Beside : Option (List (List ℕ)) 
   unfolding happens entries May
   pump_part stage past clock old new outs (does, decoder) at =
       let m : Lone = lone_at old clock in
-      let run = pumped_run start keys Beside grows obey stage past m does.events does.are does.did.may at in (
+      let run = pumped_run Led leads keys Beside grows obey stage past m does.events does.are does.did.may at in (
         false,
         stage_pumped stage,
         subst (λ (l : List HostOut). At (stage_pumped stage) Resting (past ++ entries_of l) new clock) (sym does.did.outs)
@@ -208,7 +208,7 @@ module _ (start : HostMachine) (keys : Keys) (Beside : Option (List (List ℕ)) 
   none_said past clock place said none (awaits, stage, (held, beside, run, rests)) = (
     held,
     beside,
-    turned refl tt refl (stepped (step.Says_nothing said) (refl, refl, none, refl) tt refl refl refl run),
+    turns_on leads refl tt refl (goes_on leads (step.Says_nothing said) (refl, refl, none, refl) (tt, tt) refl refl refl run),
     words_line obey past awaits clock place.host.state rests said [] [] tt none (λ now due. (refl, refl)) tt (ap ticks_asked none),
   )
 
@@ -218,8 +218,8 @@ module _ (start : HostMachine) (keys : Keys) (Beside : Option (List (List ℕ)) 
   line_said past clock place line said read none (awaits, stage, (held, beside, run, rests)) = (
     held,
     beside,
-    subst (λ (n : ℕ). CarefulRun start Fresh (Asked line) (past ++ Said said ∷ []) (host_machine keys held place.host.state [] clock n false)) none
-        (stepped (step.Says said line) (refl, refl, read, refl) tt refl refl refl run),
+    subst (λ (n : ℕ). Led Fresh (Asked line) (past ++ Said said ∷ []) (host_machine keys held place.host.state [] clock n false)) none
+        (goes_on leads (step.Says said line) (refl, refl, read, refl) (tt, tt) refl refl refl run),
     record { before = past; words = said; awaits = awaits; is = refl; read = read; rests = rests },
   )
 
@@ -232,12 +232,12 @@ module _ (start : HostMachine) (keys : Keys) (Beside : Option (List (List ℕ)) 
       let before : List Entry = asked ++ entry.Refused by.entered ∷ [] in
       let (held, beside, run, k) = line_said past clock old line said read (served_ticks line served) rests in
       let none : ticks_asked (line ∷ []) ≡ 0 = refused_ticks line (alone (lone_at old clock)) by.entered by.is in
-      let told : CarefulRun start Fresh Open before (host_machine keys held old.host.state [] clock 0 false) =
-      stepped (step.Refuses by.entered) (line, refl, inl (by.whatever keys held), refl, refl) tt refl refl refl run in
+      let told : Led Fresh Open before (host_machine keys held old.host.state [] clock 0 false) =
+      goes_on leads (step.Refuses by.entered) (line, refl, inl (by.whatever keys held), refl, refl) (tt, tt) refl refl refl run in
       let there : At Fresh Open before both.mid clock = (
         held,
         subst (λ (r : Option (List (List ℕ))). Beside r held) (sym (none_added old.shelf.records both.mid.shelf.records still.records)) beside,
-        subst (λ (p : HostParts). CarefulRun start Fresh Open before (host_machine keys held p.state [] clock 0 false)) (sym still.host) told,
+        subst (λ (p : HostParts). Led Fresh Open before (host_machine keys held p.state [] clock 0 false)) (sym still.host) told,
         subst (λ (p : HostParts). KnowsLine before clock 0 p.state) (sym still.host) (refused_line obey line asked clock old.host.state by.entered none k),
       ) in (
         Said said ∷ (entry.Refused by.entered ∷ entries_of both.rest),
@@ -263,7 +263,7 @@ module _ (start : HostMachine) (keys : Keys) (Beside : Option (List (List ℕ)) 
       let there : At Fresh Open (before ++ told) mid clock =
       subst (λ (l : List Entry). At Fresh Open (before ++ l) mid clock) same
       (moved Fresh Open (before ++ answers h one.event) clock false old mid (one.event ∷ []) [] did
-      (asked_says start keys Beside grows obey line before (lone_at old clock) one.event one.asked did.may (line_said past clock old line said read one.no_ticks rests))) in (
+      (asked_says Led leads keys Beside grows obey line before (lone_at old clock) one.event one.asked did.may (line_said past clock old line said read one.no_ticks rests))) in (
         Said said ∷ (told ++ entries_of rest),
         (said, read, refl),
         subst (λ (l : List Entry). Rests0 l (lone_at new clock)) (append_assoc before told (entries_of rest) ∙ append_assoc past (Said said ∷ []) (told ++ entries_of rest))
@@ -279,7 +279,7 @@ module _ (start : HostMachine) (keys : Keys) (Beside : Option (List (List ℕ)) 
       let first : List Entry = entries_of both.first in
       let rest : List Entry = entries_of both.rest in
       let taken =
-      taken_run start keys Beside grows obey before (lone_at old clock) bytes both.mid.host.decoder fed.items fed.events
+      taken_run Led leads keys Beside grows obey before (lone_at old clock) bytes both.mid.host.decoder fed.items fed.events
       (record { feeds = fed.feeds; stream = fed.stream; judged = fed.judged; may = fed.did.may }) (none_said past clock old chip_word chip_is rests) in
       let there : At Reading Open (before ++ (came ++ first)) both.mid clock =
       subst (λ (l : List HostOut). At Reading Open (before ++ (came ++ entries_of l)) both.mid clock) (sym fed.did.outs)
@@ -306,13 +306,13 @@ module _ (start : HostMachine) (keys : Keys) (Beside : Option (List (List ℕ)) 
       (added pumped.events both.mid new both.first both.rest pumped.did) in
       let pumps : pump_events (after_all h (tick_events h)) pumped.events = subst (λ (s : HostState). pump_events s pumped.events) first.state pumped.are in
       let (awaits', led, there) =
-      tick_one start keys Beside grows obey before (lone_at old clock) pumped.events 0 pumps did.may (
+      tick_one Led leads keys Beside grows obey before (lone_at old clock) pumped.events 0 pumps did.may (
         false,
         Fresh,
         (
           held,
           beside,
-          turned (inr (1, refl, refl)) tt refl (stepped (step.Says tick_words (lines.Tick 1)) (refl, refl, tick_is, refl) tt refl refl refl run),
+          turns_on leads (inr (1, refl, refl)) tt refl (goes_on leads (step.Says tick_words (lines.Tick 1)) (refl, refl, tick_is, refl) (tt, tt) refl refl refl run),
           rests_at obey before clock 1 h (ticks_line obey past awaits clock h rests tick_words 1 tick_is),
         ),
       ) in (
@@ -321,8 +321,8 @@ module _ (start : HostMachine) (keys : Keys) (Beside : Option (List (List ℕ)) 
         (
           awaits',
           led,
-          subst (λ (l : List Entry). replaying.At start keys Beside grows obey led Resting 0 awaits' l (lone_at new (clock + 1))) (append_assoc past (Said tick_words ∷ []) (timed (clock + 1) outs))
-              (subst (λ (l : List HostOut). replaying.At start keys Beside grows obey led Resting 0 awaits' (before ++ timed (clock + 1) l) (lone_at new (clock + 1))) (sym did.outs)
+          subst (λ (l : List Entry). replaying.At Led leads keys Beside grows obey led Resting 0 awaits' l (lone_at new (clock + 1))) (append_assoc past (Said tick_words ∷ []) (timed (clock + 1) outs))
+              (subst (λ (l : List HostOut). replaying.At Led leads keys Beside grows obey led Resting 0 awaits' (before ++ timed (clock + 1) l) (lone_at new (clock + 1))) (sym did.outs)
               (moved led Resting (before ++ timed (clock + 1) (outs_all h (tick_events h ++ pumped.events))) (clock + 1) awaits' old new (tick_events h ++ pumped.events) outs did there)),
         ),
       )

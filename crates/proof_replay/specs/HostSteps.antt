@@ -11,7 +11,7 @@ use Rattle.zw_text.specs.declared.entry.Entry.{Entry}
 use Rattle.zw_text.specs.declared.entry.Entry.TheVariants.{Said}
 use Rattle.zw_text.specs.declared.entry.Entry.TheVariants as entry
 use Rattle.zw_text.specs.declared.entry.Refusal.{Refusal}
-use Rattle.host_core.specs.Network.{keys_of}
+use Rattle.port_run.specs.host_core.Network.{keys_of}
 use Rattle.host_model.specs.State.{HostState}
 use Rattle.host_model.specs.Outs.{answers}
 use Rattle.host_model.specs.declared.out.HostOut.{HostOut}
@@ -22,17 +22,17 @@ use Rattle.port_run.specs.declared.line.PortLine.{PortLine}
 use Rattle.port_run.specs.declared.line.PortLine.TheVariants.{Plain, Wait}
 use Rattle.world_model.specs.Refusals.{IsRefused}
 use Rattle.run_replay.specs.Machine.{Lone, alone, entries_of, timed}
-use Rattle.proof_asking.specs.proof_requests.law_host.Notes.{Start}
-use Rattle.proof_asking.specs.proof_requests.law_host.Starting.{StartsFrom}
+use Rattle.proof_asking.specs.proof_requests.law_host.HostLegal.{IsLegalAlone}
+use Rattle.proof_asking.specs.proof_requests.law_host.Notes.{Start, first_start}
+use Rattle.proof_asking.specs.proof_requests.law_host.Starting.{IsLegalFrom, StartsFrom}
 use Rattle.proof_asking.specs.proof_requests.proof_alone.State.{first_alone, host_machine}
 use Rattle.proof_asking.specs.proof_requests.proof_alone.Phases.{Resting}
 use Rattle.proof_asking.specs.proof_requests.proof_alone.Runs.{Run}
 use Rattle.proof_asking.specs.proof_requests.proof_alone.Careful.{Careful}
 use Rattle.proof_asking.specs.proof_known.Known.{AreSaidToHost}
-use Rattle.proof_noting.specs.Sure.{ComeByReads}
 use Rattle.proof_replay.specs.Heard.{came_of}
 use Rattle.proof_replay.specs.Linked.{LineRests}
-use Rattle.proof_replay.specs.Laws.{HostsKeepLaws, IsLegalSoFar, KeepsFrom}
+use Rattle.proof_replay.specs.Laws.{HostsKeepLaws, KeepsFrom}
 
 -- ---- words
 
@@ -137,7 +137,7 @@ Holds number None held = (number ≡ 0) × (held ≡ Some [])
 Holds number (Some texts) held = held ≡ Some texts
 
 -- Hosts with these keys have heard this, in earlier runs, over a keeper that holds so many records now and tells these; so many ticks have passed. The last
--- one was at rest, they judged what came as programs do, which their chips wrote in reads, their links have kept the rules, and no line was for others.
+-- one was at rest, they judged what came as programs do, their links have kept the rules, and no line was for others.
 pub record HaveHeard (keys : Keys) (number : ℕ) (told : Option (List (List ℕ))) (past : List Entry) : Type 0 where
   pub held : Option (List (List ℕ))
   pub state : HostState
@@ -148,16 +148,16 @@ pub record HaveHeard (keys : Keys) (number : ℕ) (told : Option (List (List ℕ
   pub line : LineRests past awaits clock 0 state
   pub holds : Holds number told held
   pub said : AreSaidToHost past
-  pub reads : ComeByReads false past
 
 -- From its start a host did these steps and heard this, and over what hosts have heard by now these laws hold; with a network key they are legal as one host alone is. What it heard itself keeps
--- laws from what stood before, up to its start, and their links kept the rules over all of it; what stood before shows what its keeper's records give, where it tells them. Where it came to rest,
--- and its keeper tells its records, hosts have heard all that when the next one starts.
+-- laws from what stood before, up to its start, and their links kept the rules over all of it; what stood before shows what its keeper's records give, where it tells them, and with a network key it
+-- is legal from such a start. Where it came to rest, and its keeper tells its records, hosts have heard all that when the next one starts.
 pub record HearsMore (keys : Keys) (past : List Entry) (clock : ℕ) (whole : Bool) (steps : List Step) (old new : Place) : Type 0 where
   pub heard : List Entry
   pub hears : HearsRun clock steps old new heard
   pub keeps : HostsKeepLaws keys whole (past ++ Said restart_word ∷ heard) new.shelf.records
-  pub legal : (key : List ℕ) → keys ≡ keys_of key → IsLegalSoFar key whole (past ++ Said restart_word ∷ heard) new.shelf.records
+  pub legal : (key : List ℕ) → keys ≡ keys_of key → IsLegalAlone key first_start whole (past ++ Said restart_word ∷ heard) new.shelf.records
   pub starts : IfSome old.shelf.records (StartsAfter (past ++ Said restart_word ∷ []))
   pub from : KeepsFrom keys (past ++ Said restart_word ∷ []) whole heard new.shelf.records
+  pub legal_from : (key : List ℕ) → keys ≡ keys_of key → IfSome old.shelf.records (λ texts. IsLegalFrom key texts whole heard new.shelf.records)
   pub next : whole ≡ true → (many : ℕ) → IsSome new.shelf.records → HaveHeard keys many new.shelf.records (past ++ Said restart_word ∷ heard)

@@ -1,11 +1,10 @@
 -- What a host keeps true over all that it heard, whatever that was (this project's own rule).
-use Rattle.std.specs.Prelude.{◌≡◌, ℕ, Bool, true, false, List, [], ◌++◌, Option, Some, IfSome}
-use Rattle.std.specs.List.{AllByRecursion}
+use Rattle.std.specs.Prelude.{◌≡◌, ℕ, Bool, true, List, [], ◌++◌, Option, Some, None, IfSome}
 use Rattle.zw_words.specs.declared.side.Side.TheVariants.{Host}
 use Rattle.zw_text.specs.declared.line.ReplayLine.{ReplayLine}
 use Rattle.zw_text.specs.declared.entry.Entry.{Entry}
 use Rattle.s0_crypto.specs.declared.key_pair.Keys.{Keys}
-use Rattle.host_core.specs.Network.{keys_of}
+use Rattle.port_run.specs.host_core.Network.{keys_of}
 use Rattle.host_heard.specs.declared.told.Told.{Told}
 use Rattle.host_keep.specs.Keeping.{OptAdds}
 use Rattle.law_transcript.specs.Answers.{AnswersAfter, MayCancel, refusals_by_host}
@@ -16,8 +15,8 @@ use Rattle.law_transcript.specs.Records.{KeepsRecords}
 use Rattle.law_transcript.specs.Sessions.{MayBegin}
 use Rattle.law_transcript.specs.Stores.{StoresConfirmed}
 use Rattle.proof_asking.specs.proof_requests.law_host.Heard.{heeds_alone, listing_heard}
-use Rattle.proof_asking.specs.proof_requests.law_host.HostLegal.{IsHeeded, IsHostLegal, IsLegalAlone, ShowsValues}
-use Rattle.proof_asking.specs.proof_requests.law_host.Notes.{course_of, first_start}
+use Rattle.proof_asking.specs.proof_requests.law_host.HostLegal.{IsLegalAlone, ShowsValues}
+use Rattle.proof_asking.specs.proof_requests.law_host.Notes.{first_start}
 use Rattle.law_transcript.specs.Units.{Carried}
 use Rattle.law_time.specs.Prompt.{IsPrompt, IsPromptAfter}
 use Rattle.law_time.specs.Errands.{SaysHowDone}
@@ -32,9 +31,8 @@ use Rattle.run_replay.specs.Machine.{Lone}
 use Rattle.proof_host.specs.Laws.{HostLaws}
 use Rattle.proof_noting.specs.proof_choice.proof_ends.proof_notes.proof_attempts.proof_walk.Time.{MayCount}
 use Rattle.proof_asking.specs.proof_requests.proof_alone.State.{HostMachine, first_alone}
-use Rattle.proof_asking.specs.proof_requests.proof_alone.Phases.{Resting}
-use Rattle.proof_asking.specs.proof_requests.proof_alone.Runs.{Run}
-use Rattle.proof_asking.specs.proof_requests.proof_alone.Careful.{Careful}
+use Rattle.proof_asking.specs.proof_requests.proof_alone.Phases.{Phase, Resting}
+use Rattle.proof_asking.specs.proof_requests.proof_alone.Careful.{RunCarefully}
 use Rattle.proof_asking.specs.proof_known.Known.{AreForHost, KeepsWhatIsSaid}
 use Rattle.proof_asking.specs.proof_known.Noted.{NotesWhatOpens, NotesWhatWasTold}
 use Rattle.proof_noting.specs.proof_choice.proof_ends.proof_notes.Full.{NotesInFull}
@@ -42,7 +40,6 @@ use Rattle.proof_noting.specs.proof_choice.proof_ends.Ends.{NotesOfEnds}
 use Rattle.proof_noting.specs.proof_choice.proof_ends.proof_nonces.Giving.{CountsNonces}
 use Rattle.proof_noting.specs.proof_choice.proof_ends.proof_nonces.Sealing.{SealsOnce}
 use Rattle.proof_noting.specs.proof_choice.proof_ends.proof_notes.Unkept.{UnkeptWhereAsked}
-use Rattle.proof_noting.specs.Sure.{ComeByReads}
 use Rattle.proof_replay.specs.Heard.{AreReplayed, AreSaid, Replayed, heard_of, told_of}
 
 -- By some messages of each payload, those that the host took up, it does what it is asked for as soon as it can, each thing in its turn; and so after what stood before.
@@ -90,12 +87,6 @@ pub record HostsKeepLaws (keys : Keys) (whole : Bool) (heard : List Entry) (reco
   pub nonces : CountsNonces keys heard
   pub link : KeepsLink Host (ended whole heard)
 
--- With this network key it is legal as it goes by some messages of each payload; and where it came to rest these are those that it took up.
-pub record IsLegalSoFar (key : List ℕ) (whole : Bool) (heard : List Entry) (records : Option (List (List ℕ))) : Type 0 where
-  pub taken : List Entry → Carried → List Told
-  pub legal : IsHostLegal key (heeds_alone taken) first_start whole heard records
-  pub heeded : whole ≡ true → AllByRecursion (IsHeeded taken) (course_of (heeds_alone taken) first_start heard legal.notes.choices).heeded
-
 -- Of a host that starts with records, after what stood before: the fields of `IsHostLegal` that are proved of it. It goes by what nodes listed in their interviews, and by
 -- the whole of what it heard; where its keys are those of a network key, this key.
 pub record KeepsFrom (keys : Keys) (before : List Entry) (whole : Bool) (heard : List Entry) (records : Option (List (List ℕ))) : Type 0 where
@@ -110,19 +101,21 @@ pub record KeepsFrom (keys : Keys) (before : List Entry) (whole : Bool) (heard :
   pub prompt : IsPromptFrom before whole heard
   pub records_kept : whole ≡ true → IfSome records (KeepsRecords (before ++ heard))
 
--- A careful run of a host alone that began without records tells this, and ends at rest with no tick to come; none of its lines is for others; and the keeper holds what it held and the records
--- of that run, where it tells them. The host's link kept the rules of the line, and what its chip wrote came in reads.
-pub record IsHeardAlone (keys : Keys) (before after : Option (List (List ℕ))) (heard : List Entry) : Type 0 where
+-- where the keeper tells its records, they are those that a run holds
+abbrev pub Agrees : Option (List (List ℕ)) → Option (List (List ℕ)) → Type 0
+Agrees None held = Unit {0}
+Agrees (Some texts) held = held ≡ Some texts
+
+-- A careful run of a host alone that began without records tells this. Where all was run it ends at rest with no tick to come, and holds the records that the keeper tells.
+-- No line that it refuses is for others, and the host's link kept the rules of the line.
+pub record IsHeardAlone (keys : Keys) (whole : Bool) (heard : List Entry) (told : Option (List (List ℕ))) : Type 0 where
+  pub here : Phase
   pub last : HostMachine
-  pub added : List (List ℕ)
-  pub run : Run (first_alone keys (Some [])) Resting heard last
-  pub careful : Careful run
-  pub over : last.left ≡ 0
+  pub run : RunCarefully (first_alone keys (Some [])) here heard last
+  pub rests : whole ≡ true → (here ≡ Resting) × (last.left ≡ 0)
+  pub agrees : whole ≡ true → Agrees told last.records
   pub for_host : AreForHost heard
-  pub tells : last.records ≡ Some added
-  pub adds : OptAdds before after added
-  pub link : KeepsLink Host (ended true heard)
-  pub reads : ComeByReads false heard
+  pub link : KeepsLink Host (ended whole heard)
 
 -- Lines were run whole, and this transcript tells them. Over what the host heard of them, with what came, it keeps these laws; and the records are those that were added
 -- to what the keeper had. Where its keys are those of a network key it is legal as a host alone is, over those records.

@@ -5,7 +5,7 @@ ghost use Rattle.std.specs.List.{AllByRecursion};
 ghost use Rattle.zw_text.specs.declared.entry.Entry.{Entry};
 ghost use Rattle.s0_crypto.specs.declared.key_pair.Keys.{Keys};
 ghost use Rattle.host_keep.specs.Keeping.{OptAdds};
-ghost use Rattle.host_core.specs.Opening.{Opens};
+ghost use Rattle.port_run.specs.host_core.Opening.{Opens};
 ghost use Rattle.host_model.specs.declared.out.HostOut.{HostOut};
 ghost use Rattle.port_run.specs.declared.asking.Answer.{Answer};
 ghost use Rattle.port_run.specs.declared.line.PortLine.{PortLine};
@@ -14,10 +14,8 @@ ghost use Rattle.port_run.specs.Steps.{AllRan, Place, Step};
 ghost use Rattle.port_run.specs.Schedule.{CutRun, RunSteps, is_quiet};
 ghost use Rattle.proof_replay.specs.HostSteps.{HaveHeard, HearsMore, Holds, IsRunSteps, IsServedLine};
 
-use crate::replay::{hosts_are_legal, hosts_keep_laws};
-use proof_asking::known::hosts_record_what_is_shown;
-use proof_asking::requests::alone::traffic::hosts_obey_the_line;
-use proof_asking::requests::hosts_listen_as_told;
+use crate::replay::{hosts_are_legal, hosts_are_legal_from_starts, hosts_keep_laws};
+use proof_asking::{hosts_listen_as_told, hosts_obey_the_line, hosts_record_what_is_shown};
 
 /// Where a keeper holds nothing, no host has heard anything. A host that starts from the records that earlier ones left is told by a run of a host alone
 /// that goes on from what they heard, so it keeps the laws of hosts over all that. The steps of lines come as this needs, where they were cut short too.
@@ -33,6 +31,7 @@ pub fn served_steps_are_heard()
 {
     hosts_keep_laws();
     hosts_are_legal();
+    hosts_are_legal_from_starts();
     hosts_record_what_is_shown();
     hosts_listen_as_told();
     hosts_obey_the_line();

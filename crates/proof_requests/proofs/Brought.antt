@@ -1,14 +1,10 @@
 -- While a request is under way the host keeps what the one before it brought: also behind an item, which is in the transcript already, until an event behind it ends the request.
 use Rattle.std.proofs.Common.{◌≡◌, ℕ, false, inl, inr, List, [], ◌∷◌, ◌++◌, refl, sym, ap, ◌∙◌, subst}
 use Rattle.std.specs.Prelude.{Option, Some, None}
-use Rattle.std.specs.List.{AllByRecursion}
-use Rattle.zw_base.proofs.Each.{all-append, all-right, all-weaker}
 use Rattle.serial_frame.specs.Items.{unit_text}
 use Rattle.serial_frame.specs.declared.item.Item.{Item}
-use Rattle.serial_frame.specs.declared.item.Item.TheVariants.{Good, Refused as refused_item}
-use Rattle.serial_frame.specs.declared.item.Refusal.TheVariants.{Stray, BadLength, BadSum, BadKind, Aborted}
 use Rattle.serial_frame.specs.declared.unit.Unit.{Unit as LineUnit}
-use Rattle.serial_frame.specs.declared.unit.Unit.TheVariants.{Ack, Nak, Can, Framed}
+use Rattle.serial_frame.specs.declared.unit.Unit.TheVariants.{Ack, Nak}
 use Rattle.zw_text.specs.declared.entry.Entry.{Entry}
 use Rattle.zw_text.specs.declared.entry.Entry.TheVariants as entry
 use Rattle.proof_waking.specs.law_transcript.Restarts.{begins_refused}
@@ -18,17 +14,19 @@ use Rattle.host_requests.specs.Next.{at_update}
 use Rattle.host_requests.specs.declared.next.Next.{Next}
 use Rattle.host_requests.specs.declared.next.Next.TheVariants.{Ends, GoesOn as goes_on}
 use Rattle.host_requests.specs.declared.under_way.UnderWay.{UnderWay}
-use Rattle.host_model.specs.State.{HostState}
-use Rattle.host_model.specs.After.{after}
-use Rattle.host_model.specs.Events.{HostEvent, Queues, Hears, Requests_do, Interviews, Interview_unkept, Line_ticks, Submits_abort, Submits_front, Starts, Gives_text, Gives_segment}
-use Rattle.host_model.specs.Outs.{answer_to, outs}
-use Rattle.host_model.specs.declared.out.HostOut.TheVariants.{Write}
+use Rattle.proof_messages.specs.host_model.State.{HostState}
+use Rattle.proof_messages.specs.host_model.After.{after}
+use Rattle.proof_messages.specs.host_model.Events.{HostEvent, Queues, Hears, Requests_do, Interviews, Interview_unkept, Line_ticks, Submits_abort, Submits_front, Starts, Gives_text, Gives_segment}
+use Rattle.proof_messages.specs.host_model.Outs.{answer_to, outs}
+use Rattle.proof_messages.specs.host_model.declared.out.HostOut.TheVariants.{Write}
 use Rattle.proof_waking.specs.proof_alone.State.{HostMachine, done}
-use Rattle.proof_waking.specs.proof_alone.Steps.{AreTold, IsOfUnit, Step, Tells, Comes, Misses, Says, Says_nothing, Asks, Refuses, Shows, Restarts, Begins_tick, Numbers, Judges, Does, entries, happens}
+use Rattle.proof_waking.specs.proof_alone.Steps.{AreTold, Step, Tells, Comes, Misses, Says, Says_nothing, Asks, Refuses, Shows, Restarts, Begins_tick, Numbers, Judges, Does, entries, happens}
 use Rattle.proof_waking.specs.proof_alone.Phases.{Phase, Resting, Asked, Risen, Ticking, Open, Behind, Sleeping, Submitting, IsBetween, May, Turns}
 use Rattle.proof_waking.specs.proof_alone.Runs.{WalkOver, both_know}
-use Rattle.proof_waking.specs.Judged.{IsOfRequest, KnowsJudged}
-use Rattle.proof_waking.proofs.Followed.{MayFollow, frame_all}
+use Rattle.proof_waking.specs.Judged.{KnowsJudged}
+use Rattle.proof_waking.proofs.Followed.{MayFollow}
+use Rattle.proof_waking.proofs.Settling.{behind_follows}
+use Rattle.proof_waking.proofs.Parts.{item_told, unit_told}
 use Rattle.proof_requests.specs.Standing.{GoesOn, brought_before, prior_of, standing_of, with_entries}
 use Rattle.proof_requests.specs.Asking.{Doing, TieUnderWay, doing_after, doing_from, doing_next, doing_of}
 use Rattle.proof_requests.specs.Walking.{AddsWell, Ground, IsOfChip, IsTied, KeepsBrought, KnowsAsked, KnowsBrought}
@@ -71,22 +69,11 @@ from_tie past m (inr (was, asks)) u is =
 written_on : (past told : List Entry) (unit : LineUnit) → is_data (unit_text unit) ≡ false → AreTold (Write unit ∷ []) told → asked (past ++ told) ≡ with_entries (asked past) told
 written_on past told unit none (marks, rest, is, all, nothing) =
     asked_on past told (subst (λ (l : List Entry). begins_refused l ≡ false) (sym is) refl)
-    (subst (AllByRecursion GoesOn) (sym is)
-    (none, all-append GoesOn marks rest (all-weaker IsOfUnit GoesOn (λ e mark. quiet_goes e (mark_quiet e mark)) marks all) (subst (AllByRecursion GoesOn) (sym nothing) tt)))
-
-nothing_on : (past told : List Entry) → told ≡ [] → asked (past ++ told) ≡ with_entries (asked past) told
-nothing_on past told is = asked_on past told (subst (λ (l : List Entry). begins_refused l ≡ false) (sym is) refl) (subst (AllByRecursion GoesOn) (sym is) tt)
+    (unit_told GoesOn (λ e mark. quiet_goes e (mark_quiet e mark)) unit told none (marks, rest, is, all, nothing))
 
 item_on : (past told : List Entry) (item : Item) → AreTold (answer_to item) told → asked (past ++ told) ≡ with_entries (asked past) told
-item_on past told (Good (Framed f)) is = written_on past told Ack refl is
-item_on past told (Good Ack) is = nothing_on past told is
-item_on past told (Good Nak) is = nothing_on past told is
-item_on past told (Good Can) is = nothing_on past told is
-item_on past told (refused_item (BadSum want got)) is = written_on past told Nak refl is
-item_on past told (refused_item (BadKind x)) is = written_on past told Nak refl is
-item_on past told (refused_item (Stray x)) is = nothing_on past told is
-item_on past told (refused_item (BadLength n)) is = nothing_on past told is
-item_on past told (refused_item Aborted) is = nothing_on past told is
+item_on past told item are =
+    item_told (λ (l : List Entry). asked (past ++ l) ≡ with_entries (asked past) l) (λ l is. written_on past l Ack refl is) (λ l is. written_on past l Nak refl is) (asked_on past [] refl tt) item told are
 
 -- ---- events behind it
 
@@ -111,15 +98,8 @@ follows_behind unit (Gives_text n payload) may well = absurd may
 follows_behind unit (Gives_segment n more payload) may well = absurd may
 follows_behind unit event may well = tt
 
-request_behind : (event : HostEvent) → IsOfRequest event → AddsWell event → IsBehind event
-request_behind (Requests_do event moment) of_it well = well
-request_behind event of_it well = absurd of_it
-
 behind_is : (first : HostEvent) (left : List HostEvent) (past : List Entry) (m : HostMachine) → KnowsJudged (Behind (first ∷ left)) past m → AddsWell first → IsBehind first
-behind_is first left past m (frames, inl behind) well =
-    let follow = frame_all behind.frame.first behind.frame.frame (behind.frame.gone ++ (first ∷ left)) behind.frame.followed in
-    follows_behind (unit_text (Framed behind.frame.frame)) first (all-right (MayFollow (unit_text (Framed behind.frame.frame))) behind.frame.gone (first ∷ left) follow).0 well
-behind_is first left past m (frames, inr (requests, settled)) well = request_behind first requests.0 well
+behind_is first left past m judged well = let (unit, may) = behind_follows first left past m judged.1 in follows_behind unit first may well
 
 event_kept : (past : List Entry) (h : HostState) (event : HostEvent) → IsBehind event → KeepsBrought past (doing_of h) → KeepsBrought past (doing_of (after h event))
 event_kept past h (Requests_do event moment) is keeps =

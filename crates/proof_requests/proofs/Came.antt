@@ -3,7 +3,7 @@ use Rattle.std.proofs.Common.{◌≡◌, inl, inr, List, [], ◌∷◌, ◌++◌
 use Rattle.zw_base.proofs.Each.{all-append}
 use Rattle.serial_frame.specs.declared.unit.Unit.{Unit as LineUnit}
 use Rattle.zw_text.specs.declared.entry.Entry.{Entry}
-use Rattle.host_model.specs.Events.{HostEvent}
+use Rattle.proof_messages.specs.host_model.Events.{HostEvent}
 use Rattle.proof_waking.specs.proof_alone.State.{HostMachine}
 use Rattle.proof_waking.specs.proof_alone.Steps.{AreFrames, IsFramed, Step, Tells, Comes, Misses, Says, Says_nothing, Asks, Refuses, Shows, Restarts, Begins_tick, Numbers, Judges, Does, entries, happens}
 use Rattle.proof_waking.specs.proof_alone.Phases.{Phase, Resting, Asked, Risen, Ticking, Open, Behind, Sleeping, Submitting, MayCome, May, Turns}

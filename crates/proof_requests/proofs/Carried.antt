@@ -24,9 +24,9 @@ use Rattle.host_orders.specs.declared.carriage.Form.{Form}
 use Rattle.host_orders.specs.declared.carriage.Form.TheVariants.{Plain as Whole, Cut, Sealed}
 use Rattle.host_orders.specs.declared.errand.Gettable.{Gettable}
 use Rattle.host_orders.specs.declared.errand.Gettable.TheVariants as gettables
-use Rattle.host_model.specs.State.{Command, HostState}
-use Rattle.host_model.specs.May.{IsStart}
-use Rattle.host_model.specs.Sessions.{command_if, message_for, open_segment, segment_at, segment_by, segment_count, segment_of, start_by}
+use Rattle.proof_messages.specs.host_model.State.{Command, HostState}
+use Rattle.proof_messages.specs.host_model.May.{IsStart}
+use Rattle.proof_messages.specs.host_model.Sessions.{command_if, message_for, open_segment, segment_at, segment_by, segment_count, segment_of, start_by}
 use Rattle.host_node.specs.State.{NodeState}
 use Rattle.host_node.specs.declared.attempt.Plan.{Plan}
 use Rattle.supervision.specs.Host.{command_at as command_of_session}

@@ -19,11 +19,11 @@ use Rattle.host_node.specs.Steps.{attempt_end, tick_end}
 use Rattle.host_node.specs.declared.attempt.Moment.{Moment}
 use Rattle.host_node.specs.declared.attempt.AttemptEnd.{AttemptEnd}
 use Rattle.host_node.specs.declared.attempt.AttemptEnd.TheVariants.{NoneRan, Again, Unanswered}
-use Rattle.host_model.specs.State.{HostState, node_of, with_node}
-use Rattle.host_model.specs.Sessions.{open_command}
-use Rattle.host_model.specs.After.{after, giving, holding, finishing, is_full, is_held, node_does, offering, queues_if_room, requests_do}
-use Rattle.host_model.specs.Ends.{PartEnd, Good, Passed_over, Bad, after_end, after_end_if, after_part, after_task, attempt_ended, part_end, unanswered}
-use Rattle.host_model.specs.Events.{HostEvent, Accepts, Cancels, Joins, Queues, Queues_interview, Queues_probe, Hears, Requests_do, Interviews, Interview_unkept, Unreads, Is_unkept, Reports_old, Works, Finishes, Offers, Gives, Spends, Spends_unread, Takes_nonce, Notifies, Resends, Hears_value, Has_no_room, Line_ticks, Node_ticks, Queues_no_more, Drops_no_more, Submits_abort, Submits_front, Starts, Gives_text, Gives_segment, Begins, Begin_unkept}
+use Rattle.proof_messages.specs.host_model.State.{HostState, node_of, with_node}
+use Rattle.proof_messages.specs.host_model.Sessions.{open_command}
+use Rattle.proof_messages.specs.host_model.After.{after, giving, holding, finishing, is_full, is_held, node_does, offering, queues_if_room, requests_do}
+use Rattle.proof_messages.specs.host_model.Ends.{PartEnd, Good, Passed_over, Bad, after_end, after_end_if, after_part, after_task, attempt_ended, part_end, unanswered}
+use Rattle.proof_messages.specs.host_model.Events.{HostEvent, Accepts, Cancels, Joins, Queues, Queues_interview, Queues_probe, Hears, Requests_do, Interviews, Interview_unkept, Unreads, Is_unkept, Reports_old, Works, Finishes, Offers, Gives, Spends, Spends_unread, Takes_nonce, Notifies, Resends, Hears_value, Has_no_room, Line_ticks, Node_ticks, Queues_no_more, Drops_no_more, Submits_abort, Submits_front, Starts, Gives_text, Gives_segment, Begins, Begin_unkept}
 use Rattle.proof_requests.specs.Asking.{Doing, doing_of}
 
 -- ---- the end of an attempt, and of a request

@@ -250,7 +250,7 @@ not_given now fails false all = refl
 not_given now [] true all = refl
 not_given now (one ∷ fails) true all = ap (λ (b : Bool). b || list_any (λ tick. nat_le tick now) (flat_map (λ one. one.tick ∷ []) fails)) (lt-leb one.tick now all.0) ∙ not_given now fails true all.1
 
-not_silent : (now : ℕ) (test : ℕ → Bool) (waits : List ℕ) → list_all (nat_lt now) waits ≡ true → list_any (λ tick. nat_le tick now) (filter test waits) ≡ false
+pub not_silent : (now : ℕ) (test : ℕ → Bool) (waits : List ℕ) → list_all (nat_lt now) waits ≡ true → list_any (λ tick. nat_le tick now) (filter test waits) ≡ false
 not_silent now test [] all = refl
 not_silent now test (wait ∷ waits) all =
     let parts = and_parts (nat_lt now wait) (list_all (nat_lt now) waits) all in

@@ -20,7 +20,7 @@ use Rattle.host_requests.specs.declared.end.How.TheVariants.{AtCallback, AtRespo
 use Rattle.host_requests.specs.declared.task.Task.TheVariants.{Plain, Offer, Segment, NoMore, First, Second, Members, Neighbours, IsFailed, Version, MemoryId, Capabilities}
 use Rattle.host_requests.specs.declared.task.Purpose.{Purpose}
 use Rattle.host_requests.specs.declared.task.Purpose.TheVariants.{Housekeeping, Attempt, Abort}
-use Rattle.host_model.specs.Ends.{done_of}
+use Rattle.proof_messages.specs.host_model.Ends.{done_of}
 use Rattle.proof_requests.specs.Ends.{EndsHere, IsLast}
 
 abbrev pub IsSending : Purpose → Type 0

@@ -26,7 +26,6 @@ use Rattle.chip_functions.specs.Response.{response_function, response_of}
 use Rattle.zw_words.specs.declared.side.Side.TheVariants.{Host}
 use Rattle.zw_text.specs.declared.entry.Entry.{Entry}
 use Rattle.zw_text.specs.declared.entry.Entry.TheVariants as entry
-use Rattle.zw_text.specs.Transcript.{folded}
 use Rattle.zw_text.proofs.Views.{folded-append}
 use Rattle.proof_waking.specs.law_transcript.Units.{function_in, notice_in, read_well, request_in}
 use Rattle.proof_waking.specs.law_time.Moments.{clock}
@@ -46,6 +45,7 @@ use Rattle.proof_waking.specs.proof_alone.Steps.{IsOfUnit}
 use Rattle.proof_waking.specs.Judged.{TieFrames}
 use Rattle.proof_waking.proofs.Apart.{IsApart, acknowledged_frames, apart_judged, apart_same}
 use Rattle.proof_waking.proofs.Parts.{mark_still}
+use Rattle.proof_waking.proofs.Judging.{units_after}
 use Rattle.proof_requests.specs.Standing.{Prior, Standing, brought_before, ending_in, ends_now, failing_in, first_ending, prior_of, responses_in, standing_of, wait_in, with_entries, with_judging}
 use Rattle.proof_requests.specs.Asking.{AsksSo, Doing, FollowsFirst, HasEnded, IsKept, IsUnderWay, TieAsked, TieUnderWay, WasAsked}
 use Rattle.proof_requests.specs.Ends.{EndsBy, EndsFrom, EndsHow, EndsNone, IsLast, IsTaken}
@@ -156,13 +156,6 @@ unasked_ends a none =
     ap (λ (l : List Judging). filter (λ one. list_all (nat_lt one.tick) (wait_of a) && list_all (is_before_failing one) (failing a)) l)
     (ap (λ (frame : List ℕ). ending_among frame true (judged_since a)) none ∙ none_asked true (judged_since a))
 
-marks_follow : (marks : List Entry) → AllByRecursion IsOfUnit marks → folded after_step true marks ≡ true
-marks_follow [] all = refl
-marks_follow (entry.Dropped Host ∷ marks) all = marks_follow marks all.1
-marks_follow (entry.Garbled Host unit ∷ marks) all = marks_follow marks all.1
-marks_follow (entry.Overrun Host ∷ marks) all = marks_follow marks all.1
-marks_follow (e ∷ marks) all = absurd all.0
-
 module _ (past marks : List Entry) (f : FrameParts) (rest : List LineUnit) (marked : AllByRecursion IsOfUnit marks) (frames : TieFrames past (Framed f ∷ rest)) where
   abbrev acked : List Entry
   acked = past ++ entry.Written Host (ACK ∷ []) ∷ []
@@ -183,7 +176,7 @@ module _ (past marks : List Entry) (f : FrameParts) (rest : List LineUnit) (mark
   last = (acknowledged_frames past (Framed f ∷ rest) rest (unit_text (Framed f)) (ACK ∷ []) refl refl frames).last
 
   following : is_following later ≡ true
-  following = folded-append after_step false past (entry.Written Host (ACK ∷ []) ∷ marks) ∙ marks_follow marks marked
+  following = folded-append after_step false past (entry.Written Host (ACK ∷ []) ∷ marks) ∙ units_after marks marked
 
   pub frame_here : judged_here later ≡ unit_text (Framed f) ∷ []
   frame_here =

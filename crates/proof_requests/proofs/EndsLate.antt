@@ -21,7 +21,7 @@ use Rattle.host_requests.specs.declared.task.Purpose.{Purpose}
 use Rattle.host_requests.specs.declared.under_way.Progress.{Progress}
 use Rattle.host_requests.specs.declared.under_way.Progress.TheVariants.{Submitted, Sent, Answered}
 use Rattle.host_requests.specs.declared.under_way.UnderWay.{UnderWay}
-use Rattle.host_model.specs.After.{gives_up}
+use Rattle.proof_messages.specs.host_model.After.{gives_up}
 use Rattle.proof_waking.specs.proof_alone.Steps.{AreFrames}
 use Rattle.proof_requests.specs.Effects.{denied_at}
 use Rattle.proof_requests.specs.Standing.{Standing, giving_up_in, responses_in, standing_of}

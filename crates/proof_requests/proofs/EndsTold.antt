@@ -50,13 +50,13 @@ use Rattle.host_requests.specs.declared.under_way.Progress.{Progress}
 use Rattle.host_requests.specs.declared.under_way.Progress.TheVariants.{Submitted, Sent, Answered}
 use Rattle.host_requests.specs.declared.under_way.UnderWay.{UnderWay}
 use Rattle.host_node.specs.declared.attempt.Moment.TheVariants.{BeforeItsTick, BetweenTicks}
-use Rattle.host_model.specs.State.{HostState}
-use Rattle.host_model.specs.After.{after, gives_up, is_busy, line_ticked, requests_do}
-use Rattle.host_model.specs.Ends.{done_of, end_entries, end_entries_if, failed_entry, neighbours_entry}
-use Rattle.host_model.specs.Events.{HostEvent, Accepts, Cancels, Hears, Line_ticks, Node_ticks, Requests_do}
-use Rattle.host_model.specs.Outs.{answer_to, answers, copy_out, failing_entries, noted, outs, request_entries}
-use Rattle.host_model.specs.Taking.{FrameEvents, InterviewEvents, NoticeEvents, ResponseEvents, told_if, told_requests}
-use Rattle.host_model.proofs.Submitted.{SleepersAre, SubmittedAre, next_is, no_more_is}
+use Rattle.proof_messages.specs.host_model.State.{HostState}
+use Rattle.proof_messages.specs.host_model.After.{after, gives_up, is_busy, line_ticked, requests_do}
+use Rattle.proof_messages.specs.host_model.Ends.{done_of, end_entries, end_entries_if, failed_entry, neighbours_entry}
+use Rattle.proof_messages.specs.host_model.Events.{HostEvent, Accepts, Cancels, Hears, Line_ticks, Node_ticks, Requests_do}
+use Rattle.proof_messages.specs.host_model.Outs.{answer_to, answers, copy_out, failing_entries, noted, outs, request_entries}
+use Rattle.proof_messages.specs.host_model.Taking.{FrameEvents, InterviewEvents, NoticeEvents, ResponseEvents, told_if, told_requests}
+use Rattle.proof_messages.proofs.Submitted.{SleepersAre, SubmittedAre, next_is, no_more_is}
 use Rattle.proof_waking.specs.proof_alone.State.{HostMachine, done}
 use Rattle.proof_waking.specs.proof_alone.Steps.{AreFrames, AreTold, DidNotCome, IsOfOthers, IsOfUnit, Step, Tells, Comes, Misses, Says, Says_nothing, Asks, Refuses, Shows, Restarts, Begins_tick, Numbers, Judges, Does, entries, happens}
 use Rattle.proof_waking.specs.proof_alone.Phases.{Phase, Resting, Asked, Risen, Ticking, Open, Behind, Sleeping, Submitting, IsBetween, IsJudgedNow, IsNumbered, May, Turns}
@@ -67,7 +67,7 @@ use Rattle.proof_requests.specs.Standing.{giving_up_in, prior_of, standing_of, w
 use Rattle.proof_requests.specs.Asking.{FollowsFirst, TieAsked, doing_of}
 use Rattle.proof_requests.specs.Saying.{frame_next, kind_next, notice_next, response_next}
 use Rattle.proof_requests.specs.Walking.{Ground, IsNodeTick, KnowsAsked, KnowsTick}
-use Rattle.proof_requests.specs.Ends.{AreToldOf, BringsNone, ByFrame, ByLine, EndsBy, EndsFrom, EndsHere, EndsNone, GivenUp, IsUntold, KnowsEnds, LineEnds, OwesNoEnd, TellsEnd, TellsNoEnd, next_at}
+use Rattle.proof_requests.specs.Ends.{AreToldOf, BringsNone, ByFrame, ByLine, EndsBy, EndsFrom, EndsHere, EndsNone, GivenUp, IsUntold, KnowsEnds, LineEnds, OwesNoEnd, TellsEnd, TellsNoEnd, next_at, IsLate}
 use Rattle.proof_requests.specs.Ends.OwesNoEnd.{Aborted as an_abort, Apart, Unended, Untold}
 use Rattle.proof_requests.proofs.EndsHere.{answers_it, cannot_end, ends_if, ends_same, frame_ends_so}
 use Rattle.proof_requests.proofs.EndsLate.{denied_here, given_up_here, silent_here, silent_so}
@@ -95,12 +95,6 @@ told_one : (past told rest : List Entry) (e : Entry) → told ≡ e ∷ rest →
 told_one past told rest e are none goes = subst (Goes past) (sym (are ∙ ap (λ (l : List Entry). e ∷ l) none)) goes
 
 -- ---- an end is told
-
--- a wait ended, or the line gave it up
-abbrev IsLate : How → Type 0
-IsLate Silent = Unit {0}
-IsLate LinkFailed = Unit {0}
-IsLate how = ⊥
 
 wrong : false ≡ true → ⊥
 wrong is = cc
@@ -232,27 +226,27 @@ tick_silent None how is = silent_so how is
 -- ---- an interview
 
 -- a node's information ends the question for it
-record IsAsked (first : Option ℕ) (update : Update) (o : Option UnderWay) (capability : ℕ) : Type 0 where
-  u : UnderWay
-  under_way : o ≡ Some u
-  ends : ends_at_update update u ≡ true
-  brought : first ≡ Some capability
+pub record Informs (o : Option UnderWay) (first : Option ℕ) (update : Update) (capability : ℕ) : Type 0 where
+  pub u : UnderWay
+  pub under_way : o ≡ Some u
+  pub ends : ends_at_update update u ≡ true
+  pub brought : first ≡ Some capability
 
 none_is : (capability : ℕ) → None ≡ Some capability → ⊥
 none_is capability is = cc
 
-asked_so : (first : Option ℕ) (update : Update) (o : Option UnderWay) (capability : ℕ) → interviewed_from first update o ≡ Some capability → IsAsked first update o capability
+pub asked_so : (first : Option ℕ) (update : Update) (o : Option UnderWay) (capability : ℕ) → interviewed_from first update o ≡ Some capability → Informs o first update capability
 asked_so first (Received n basic generic specific classes) (Some u) capability is = by (ends_at_update (Received n basic generic specific classes) u) refl is
   where
     by : (b : Bool) → ends_at_update (Received n basic generic specific classes) u ≡ b → (if b then first else None) ≡ Some capability
-        → IsAsked first (Received n basic generic specific classes) (Some u) capability
+        → Informs (Some u) first (Received n basic generic specific classes) capability
     by true ends is = record { u = u; under_way = refl; ends = ends; brought = is }
     by false ends is = absurd (none_is capability is)
 asked_so first (Received n basic generic specific classes) None capability is = absurd (none_is capability is)
 asked_so first RequestFailed (Some u) capability is = absurd (none_is capability is)
 asked_so first RequestFailed None capability is = absurd (none_is capability is)
 
-second_is : (p : Purpose) (n basic generic specific : ℕ) (classes : List ℕ) → purpose_ends_at_update (Received n basic generic specific classes) p ≡ true → p ≡ Housekeeping (Second n)
+pub second_is : (p : Purpose) (n basic generic specific : ℕ) (classes : List ℕ) → purpose_ends_at_update (Received n basic generic specific classes) p ≡ true → p ≡ Housekeeping (Second n)
 second_is (Housekeeping (Second m)) n basic generic specific classes is = ap (λ (k : ℕ). Housekeeping (Second k)) (sym (eqb-true n m is))
 second_is (Housekeeping task) n basic generic specific classes is = absurd (wrong is)
 second_is (Attempt m more payload) n basic generic specific classes is = absurd (wrong is)
@@ -263,9 +257,6 @@ first_is first these left is = cc
 
 rest_none : (first these : HostEvent) (left : List HostEvent) → first ∷ left ≡ these ∷ [] → left ≡ []
 rest_none first these left is = cc
-
-some_is : (u v : UnderWay) → Some u ≡ Some v → u ≡ v
-some_is u v is = cc
 
 -- the end of an interview that ends well
 interview_ends : (past : List Entry) (id : ℕ) (first : Option ℕ) (o : Option UnderWay) (n basic generic specific : ℕ) (classes : List ℕ) (capability : ℕ)
@@ -325,7 +316,7 @@ frame_does past h event first left told is ends tells = absurd is
 
 -- ---- behind an answer of the chip
 
-given_so : (past : List Entry) (now id : ℕ) (purpose : Purpose) → clock past ≡ now → GivenUp past now id purpose → EndsHere past id purpose LinkFailed
+pub given_so : (past : List Entry) (now id : ℕ) (purpose : Purpose) → clock past ≡ now → GivenUp past now id purpose → EndsHere past id purpose LinkFailed
 given_so past now id purpose time gone = record {
   request = gone.request;
   follows = gone.follows;

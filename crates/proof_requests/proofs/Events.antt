@@ -29,11 +29,11 @@ use Rattle.host_requests.specs.declared.task.Purpose.{Purpose}
 use Rattle.host_requests.specs.declared.task.Purpose.TheVariants.{Housekeeping, Attempt, Abort}
 use Rattle.host_requests.specs.declared.under_way.UnderWay.{UnderWay}
 use Rattle.host_node.specs.declared.attempt.Moment.{Moment}
-use Rattle.host_model.specs.State.{HostState}
-use Rattle.host_model.specs.After.{after, requests_do}
-use Rattle.host_model.specs.Did.{after_all}
-use Rattle.host_model.specs.Events.{HostEvent, Requests_do}
-use Rattle.host_model.specs.Taking.{FrameEvents, InterviewEvents, NoticeEvents, ResponseEvents}
+use Rattle.proof_messages.specs.host_model.State.{HostState}
+use Rattle.proof_messages.specs.host_model.After.{after, requests_do}
+use Rattle.proof_messages.specs.host_model.Did.{after_all}
+use Rattle.proof_messages.specs.host_model.Events.{HostEvent, Requests_do}
+use Rattle.proof_messages.specs.host_model.Taking.{FrameEvents, InterviewEvents, NoticeEvents, ResponseEvents}
 use Rattle.proof_waking.proofs.Followed.{FollowersAre, payload_all}
 use Rattle.proof_requests.specs.Asking.{Doing, doing_after, doing_from, doing_next, doing_of}
 use Rattle.proof_requests.specs.Walking.{IsOfChip}

@@ -41,6 +41,12 @@ pub use Rattle.proof_waking.proofs.Apart as proof_waking_Apart
 pub use Rattle.proof_waking.proofs.Carrying as proof_waking_Carrying
 pub use Rattle.proof_waking.proofs.Followed as proof_waking_Followed
 pub use Rattle.proof_waking.proofs.Judging as proof_waking_Judging
+pub use Rattle.proof_waking.proofs.Listening as proof_waking_Listening
 pub use Rattle.proof_waking.proofs.Parts as proof_waking_Parts
 pub use Rattle.proof_waking.proofs.Settling as proof_waking_Settling
 pub use Rattle.proof_waking.proofs.proof_alone_Apart
+pub use Rattle.proof_waking.proofs.Timing
+pub use Rattle.proof_messages.proofs.Submitted
+pub use Rattle.proof_messages.proofs.Own
+pub use Rattle.proof_messages.proofs.SealedByNumber
+pub use Rattle.proof_messages.proofs.SealedTexts

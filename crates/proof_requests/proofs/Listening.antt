@@ -18,13 +18,13 @@ use Rattle.proof_waking.specs.law_time.Interviews.{listens, says_listening}
 use Rattle.host_requests.specs.Events.{interviewed_from}
 use Rattle.host_requests.specs.Next.{ends_at_update}
 use Rattle.host_requests.specs.declared.under_way.UnderWay.{UnderWay}
-use Rattle.host_model.specs.State.{HostState}
-use Rattle.host_model.specs.After.{after}
-use Rattle.host_model.specs.Events.{HostEvent, Hears, Interviews}
-use Rattle.host_model.specs.May.{May as MayHost, says_listens}
-use Rattle.host_model.specs.Outs.{answers, outs}
-use Rattle.host_model.proofs.Own.{IsOwn, sleepers_own, submitted_own}
-use Rattle.host_model.proofs.Submitted.{next_is, no_more_is}
+use Rattle.proof_messages.specs.host_model.State.{HostState}
+use Rattle.proof_messages.specs.host_model.After.{after}
+use Rattle.proof_messages.specs.host_model.Events.{HostEvent, Hears, Interviews, IsOwn}
+use Rattle.proof_messages.specs.host_model.May.{May as MayHost, says_listens}
+use Rattle.proof_messages.specs.host_model.Outs.{answers, outs}
+use Rattle.proof_messages.proofs.Own.{sleepers_own, submitted_own}
+use Rattle.proof_messages.proofs.Submitted.{next_is, no_more_is}
 use Rattle.proof_waking.specs.proof_alone.State.{HostMachine, done}
 use Rattle.proof_waking.specs.proof_alone.Steps.{AreTold, Step, Tells, Comes, Misses, Says, Says_nothing, Asks, Refuses, Shows, Restarts, Begins_tick, Numbers, Judges, Does, entries, happens}
 use Rattle.proof_waking.specs.proof_alone.Phases.{Phase, Resting, Asked, Risen, Ticking, Open, Behind, Sleeping, Submitting, May}

@@ -28,7 +28,7 @@ use Rattle.host_requests.specs.declared.task.Purpose.TheVariants.{Housekeeping, 
 use Rattle.host_requests.specs.declared.under_way.Progress.{Progress}
 use Rattle.host_requests.specs.declared.under_way.Progress.TheVariants.{Submitted, Sent, Answered}
 use Rattle.host_requests.specs.declared.under_way.UnderWay.{UnderWay}
-use Rattle.host_model.specs.After.{gives_up}
+use Rattle.proof_messages.specs.host_model.After.{gives_up}
 use Rattle.proof_waking.specs.proof_alone.Steps.{AreFrames}
 use Rattle.proof_requests.specs.Standing.{Prior, Standing, brought_before, brought_by, ends_now, first_standing, responses_in, sent_in, with_answer, with_copy, with_judging}
 use Rattle.proof_requests.specs.Carrying.{CarriesSo}

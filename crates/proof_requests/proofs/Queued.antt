@@ -45,15 +45,14 @@ use Rattle.host_node.specs.Events.NodeEvent.{Ticks as node_ticks}
 use Rattle.host_node.specs.declared.attempt.Moment.{Moment}
 use Rattle.host_node.specs.declared.attempt.Plan.{Plan}
 use Rattle.host_node.specs.declared.attempt.Moment.TheVariants.{BeforeItsTick}
-use Rattle.host_model.specs.State.{HostState, node_of}
-use Rattle.host_model.specs.Facts.{HostFacts}
-use Rattle.host_model.specs.Sessions.{open_command, open_segment}
+use Rattle.proof_messages.specs.host_model.State.{HostState, node_of}
+use Rattle.proof_messages.specs.host_model.Facts.{HostFacts}
+use Rattle.proof_messages.specs.host_model.Sessions.{open_command, open_segment}
 use Rattle.supervision.specs.Host.{open_session}
-use Rattle.host_model.specs.After.{after, failing_if, finishing, gives_up, giving, is_busy, is_full, is_held, line_ticked, node_does, offering, queues_if_room, request_does, requests_do}
-use Rattle.host_model.specs.Events.{HostEvent, Accepts, Cancels, Joins, Queues, Queues_interview, Queues_probe, Hears, Requests_do, Interviews, Interview_unkept, Unreads, Is_unkept, Reports_old, Works, Finishes, Offers, Gives, Spends, Spends_unread, Takes_nonce, Notifies, Resends, Hears_value, Has_no_room, Line_ticks, Node_ticks, Queues_no_more, Drops_no_more, Submits_abort, Submits_front, Starts, Gives_text, Gives_segment, Begins, Begin_unkept}
-use Rattle.host_model.specs.May.{IsStart, May}
-use Rattle.host_model.specs.Taking.{FrameEvents, InterviewEvents, IsFollowed, NoticeEvents, ResponseEvents, told_if}
-use Rattle.host_model.proofs.Own.{IsOwn}
+use Rattle.proof_messages.specs.host_model.After.{after, failing_if, finishing, gives_up, giving, is_busy, is_full, is_held, line_ticked, node_does, offering, queues_if_room, request_does, requests_do}
+use Rattle.proof_messages.specs.host_model.Events.{HostEvent, Accepts, Cancels, Joins, Queues, Queues_interview, Queues_probe, Hears, Requests_do, Interviews, Interview_unkept, Unreads, Is_unkept, Reports_old, Works, Finishes, Offers, Gives, Spends, Spends_unread, Takes_nonce, Notifies, Resends, Hears_value, Has_no_room, Line_ticks, Node_ticks, Queues_no_more, Drops_no_more, Submits_abort, Submits_front, Starts, Gives_text, Gives_segment, Begins, Begin_unkept, IsOwn}
+use Rattle.proof_messages.specs.host_model.May.{IsStart, May}
+use Rattle.proof_messages.specs.host_model.Taking.{FrameEvents, InterviewEvents, IsFollowed, NoticeEvents, ResponseEvents, told_if}
 use Rattle.proof_waking.proofs.Always.{either, none, one}
 use Rattle.proof_waking.proofs.Followed.{FollowersAre, payload_all}
 use Rattle.proof_requests.specs.Carrying.{CarriesSo}

@@ -20,16 +20,16 @@ use Rattle.host_orders.specs.Refusals.{classes_of}
 use Rattle.host_node.specs.State.{SealsText, ends_to}
 use Rattle.host_node.specs.declared.attempt.Plan.TheVariants.{Sealed}
 use Rattle.host_requests.specs.State.{RequestsState}
-use Rattle.host_model.specs.State.{HostState, first_host, node_of}
-use Rattle.host_model.specs.After.{after}
-use Rattle.host_model.specs.Did.{MayAll}
-use Rattle.host_model.specs.Events.{HostEvent, Hears, Queues_no_more, Starts, Takes_nonce}
-use Rattle.host_model.specs.Facts.{HostFacts}
-use Rattle.host_model.specs.May.{May as may_event, known_of}
-use Rattle.host_model.specs.Opening.{opened, restored_all}
-use Rattle.host_model.specs.Restoring.{ending, restored}
-use Rattle.host_model.proofs.Own.{IsOwn, sleepers_own, submitted_own}
-use Rattle.host_model.proofs.Submitted.{next_is, no_more_is}
+use Rattle.proof_messages.specs.host_model.State.{HostState, first_host, node_of}
+use Rattle.proof_messages.specs.host_model.After.{after}
+use Rattle.proof_messages.specs.host_model.Did.{MayAll}
+use Rattle.proof_messages.specs.host_model.Events.{HostEvent, Hears, Queues_no_more, Starts, Takes_nonce, IsOwn}
+use Rattle.proof_messages.specs.host_model.Facts.{HostFacts}
+use Rattle.proof_messages.specs.host_model.May.{May as may_event, known_of}
+use Rattle.proof_messages.specs.host_model.Opening.{opened, restored_all}
+use Rattle.proof_messages.specs.host_model.Restoring.{ending, restored}
+use Rattle.proof_messages.proofs.Own.{sleepers_own, submitted_own}
+use Rattle.proof_messages.proofs.Submitted.{next_is, no_more_is}
 use Rattle.proof_waking.specs.world_model.Events.{OpensFrom}
 use Rattle.proof_waking.specs.proof_alone.State.{HostMachine}
 use Rattle.proof_waking.specs.proof_alone.Steps.{IsAskedBy, Step, Tells, Comes, Misses, Says, Says_nothing, Asks, Refuses, Shows, Restarts, Begins_tick, Numbers, Judges, Does, entries, happens}

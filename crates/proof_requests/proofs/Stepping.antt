@@ -3,7 +3,6 @@ use Rattle.std.proofs.Common.{◌≡◌, ◌⊎◌, ◌≤◌, ℕ, Bool, true, 
 use Rattle.std.specs.Prelude.{Option, Some, None, IsTrue}
 use Rattle.std.specs.List.{AllByRecursion}
 use Rattle.std.proofs.lemmas.Bool.{both_ways}
-use Rattle.zw_base.proofs.Each.{all-append, all-right, all-weaker}
 use Rattle.serial_frame.specs.Frame.{FrameParts}
 use Rattle.serial_frame.specs.Items.{unit_text}
 use Rattle.serial_frame.specs.declared.item.Item.{Item}
@@ -33,30 +32,31 @@ use Rattle.host_requests.specs.declared.task.Purpose.TheVariants.{Attempt, Abort
 use Rattle.host_node.specs.Search.{next_of}
 use Rattle.host_node.specs.Steps.{tick_end}
 use Rattle.host_node.specs.declared.attempt.Moment.TheVariants.{BeforeItsTick}
-use Rattle.host_model.specs.State.{HostState, first_host, node_of}
-use Rattle.host_model.specs.Facts.{HostFacts}
-use Rattle.host_model.specs.May.{IsFree, May as may_event}
-use Rattle.host_model.specs.Sessions.{open_command}
+use Rattle.proof_messages.specs.host_model.State.{HostState, first_host, node_of}
+use Rattle.proof_messages.specs.host_model.Facts.{HostFacts}
+use Rattle.proof_messages.specs.host_model.May.{IsFree, May as may_event}
+use Rattle.proof_messages.specs.host_model.Sessions.{open_command}
 use Rattle.supervision.specs.Host.{open_session}
-use Rattle.host_model.specs.Ends.{attempt_entries}
-use Rattle.host_model.specs.After.{after, is_full, task_purpose}
-use Rattle.host_model.specs.Did.{MayAll, after_all}
-use Rattle.host_model.specs.Events.{HostEvent, Accepts, Cancels, Hears, Requests_do, Line_ticks, Node_ticks, Queues_no_more, Drops_no_more, Submits_abort, Submits_front, Starts, Gives_text, Gives_segment, Begins, Begin_unkept}
-use Rattle.host_model.specs.Outs.{answer_to, answers, outs, request_entries}
-use Rattle.host_model.specs.Pumping.{IsNext, no_more_event}
-use Rattle.host_model.specs.Ticking.{first_ticks, tick_events, ticking_nodes}
-use Rattle.host_model.specs.declared.out.HostOut.{HostOut}
-use Rattle.host_model.specs.declared.out.HostOut.TheVariants.{Write}
-use Rattle.host_model.proofs.Submitted.{SubmittedAre, next_is}
+use Rattle.proof_messages.specs.host_model.Ends.{attempt_entries}
+use Rattle.proof_messages.specs.host_model.After.{after, is_full, task_purpose}
+use Rattle.proof_messages.specs.host_model.Did.{MayAll, after_all}
+use Rattle.proof_messages.specs.host_model.Events.{HostEvent, Accepts, Cancels, Hears, Requests_do, Line_ticks, Node_ticks, Queues_no_more, Drops_no_more, Submits_abort, Submits_front, Starts, Gives_text, Gives_segment, Begins, Begin_unkept}
+use Rattle.proof_messages.specs.host_model.Outs.{answer_to, answers, outs}
+use Rattle.proof_messages.specs.host_model.Pumping.{IsNext, no_more_event}
+use Rattle.proof_messages.specs.host_model.Ticking.{first_ticks, tick_events, ticking_nodes}
+use Rattle.proof_messages.specs.host_model.declared.out.HostOut.{HostOut}
+use Rattle.proof_messages.specs.host_model.declared.out.HostOut.TheVariants.{Write}
+use Rattle.proof_messages.proofs.Submitted.{SubmittedAre, next_is}
 use Rattle.proof_waking.specs.world_model.Events.{shown_values}
 use Rattle.proof_waking.specs.proof_alone.State.{HostMachine, done}
-use Rattle.proof_waking.specs.proof_alone.Steps.{AreFrames, AreTold, AsksNothing as AsksNone, IsAskedBy, IsOfUnit, Step, Tells, Comes, Misses, Says, Says_nothing, Asks, Refuses, Shows, Restarts, Begins_tick, Numbers, Judges, Does, entries, happens}
+use Rattle.proof_waking.specs.proof_alone.Steps.{AreFrames, AreTold, AsksNothing as AsksNone, IsAskedBy, Step, Tells, Comes, Misses, Says, Says_nothing, Asks, Refuses, Shows, Restarts, Begins_tick, Numbers, Judges, Does, entries, happens}
 use Rattle.proof_waking.specs.proof_alone.Phases.{Phase, Resting, Asked, Risen, Ticking, Open, Behind, Sleeping, Submitting, IsBetween, IsJudgedNow, IsNumbered, May, MayCome, Turns}
 use Rattle.proof_waking.specs.proof_alone.Runs.{WalkOver}
 use Rattle.proof_waking.proofs.Timing.{clock_is}
-use Rattle.proof_waking.specs.Judged.{IsOfRequest, KnowsJudged, TieFrames}
-use Rattle.proof_waking.proofs.Followed.{MayFollow, frame_all}
-use Rattle.proof_waking.proofs.Parts.{IsNote, follow_notes}
+use Rattle.proof_waking.specs.Judged.{KnowsJudged, TieFrames}
+use Rattle.proof_waking.proofs.Parts.{IsNote, WritesNothing, follow_notes, unit_told, writes_nothing}
+pub use Rattle.proof_waking.proofs.Judging.{asked_on}
+use Rattle.proof_waking.proofs.Settling.{behind_follows}
 use Rattle.proof_requests.specs.Standing.{prior_of}
 use Rattle.proof_requests.specs.Carrying.{CarriesSo}
 use Rattle.proof_requests.specs.Asking.{AsksNothing, Doing, FollowsFirst, TieAsked, doing_of}
@@ -136,10 +136,6 @@ on_words line past m goes_on known =
     subst (λ (l : List Entry). TieAsked l m.clock m.clock m.came (doing_of m.state)) (sym known.are)
     (tie_said known.before known.words m.clock m.clock m.came (doing_of m.state) (ap is_restart known.read ∙ goes_on) known.tie)
 
-pub asked_on : (line : Line) (h : HostState) (event : HostEvent) → IsAskedBy line h event → is_restart (line ∷ []) ≡ false
-asked_on lines.Restart h event is = absurd is
-asked_on line h event is = refl
-
 pub none_on : (line : Line) → AsksNone line → is_restart (line ∷ []) ≡ false
 none_on lines.Restart is = absurd is
 none_on line is = refl
@@ -218,9 +214,7 @@ refused_goes past m item rest behind told rest_is behind_is same all tie =
     (tie_quiet past told m.clock m.clock m.came d all (same_doing past m.clock m.clock m.came (doing_of m.state) d does tie))
 
 nak_told : (told : List Entry) → AreTold (answer_to (refused_item (BadKind 0))) told → AllByRecursion IsQuiet told
-nak_told told (marks, rest, is, all, none) =
-    subst (AllByRecursion IsQuiet) (sym is)
-    (refl, all-append IsQuiet marks rest (all-weaker IsOfUnit IsQuiet mark_quiet marks all) (subst (AllByRecursion IsQuiet) (sym none) tt))
+nak_told told are = unit_told IsQuiet mark_quiet Nak told refl are
 
 nothing_told : (told : List Entry) → told ≡ [] → AllByRecursion IsQuiet told
 nothing_told told is = subst (AllByRecursion IsQuiet) (sym is) tt
@@ -307,15 +301,8 @@ tick_does first left past m event told event_is is numbered ground (inr (inr (al
     inr (inr (all.1, beside_goes past m event told (node_beside event node) (node_notes m.state event node) is known))
 
 -- behind an item
-request_notes : (h : HostState) (event : HostEvent) → IsOfRequest event → AllByRecursion IsNote (outs h event)
-request_notes h (Requests_do event moment) is = noted_notes (request_entries h event)
-request_notes h event is = absurd is
-
 pub behind_notes : (first : HostEvent) (left : List HostEvent) (past : List Entry) (m : HostMachine) → KnowsJudged (Behind (first ∷ left)) past m → AllByRecursion IsNote (outs m.state first)
-behind_notes first left past m (frames, inl behind) =
-    let follow = frame_all behind.frame.first behind.frame.frame (behind.frame.gone ++ (first ∷ left)) behind.frame.followed in
-    follow_notes (unit_text (Framed behind.frame.frame)) m.state first (all-right (MayFollow (unit_text (Framed behind.frame.frame))) behind.frame.gone (first ∷ left) follow).0
-behind_notes first left past m (frames, inr (requests, settled)) = request_notes m.state first requests.0
+behind_notes first left past m judged = let (unit, may) = behind_follows first left past m judged.1 in follow_notes unit m.state first may
 
 behind_does : (first : HostEvent) (left : List HostEvent) (past : List Entry) (m : HostMachine) (event : HostEvent) (told : List Entry) → event ≡ first → AreTold (outs m.state event) told
     → Ground (Behind (first ∷ left)) past m → KnowsAsked (Behind (first ∷ left)) past m → KnowsAsked (Behind left) (past ++ told) (done m event)
@@ -495,15 +482,10 @@ module _ (brings : PayloadsBring) (past : List Entry) (m : HostMachine) (ground 
   pub submitted_is : (event : HostEvent) → IsNext m.state event → MayAll m.state (event ∷ []) → Submits past m.state event ⊎ IsBeginning event
   submitted_is event next may = submits_so event (next_is IsSubmission submissions m.state event next) next may
 
-beginning_beside : (event : HostEvent) → IsBeginning event → IsBeside event
-beginning_beside (Begins n session command) is = tt
-beginning_beside (Begin_unkept n) is = tt
+beginning_beside : (event : HostEvent) → IsBeginning event → IsBeside event × WritesNothing event
+beginning_beside (Begins n session command) is = (tt, tt)
+beginning_beside (Begin_unkept n) is = (tt, tt)
 beginning_beside event is = absurd is
-
-beginning_notes : (h : HostState) (event : HostEvent) → IsBeginning event → AllByRecursion IsNote (outs h event)
-beginning_notes h (Begins n session command) is = (tt, tt)
-beginning_notes h (Begin_unkept n) is = (tt, tt)
-beginning_notes h event is = absurd is
 
 submit_does : PayloadsBring → (past : List Entry) (m : HostMachine) (event : HostEvent) (told : List Entry) → IsNext m.state event → MayAll m.state (event ∷ []) → AreTold (outs m.state event) told
     → IsNumbered m told → Ground Submitting past m → IsTied past m → IsTied (past ++ told) (done m event)
@@ -513,7 +495,7 @@ submit_does brings past m event told next may is numbered ground tie = by (submi
     by (inl s) =
         written_tie past told m s.purpose event s.does ground.0.1 (free_of m.state event next) s.follows s.carries s.read (time_told Submitting past told m ground numbered)
         (subst (λ (l : List HostOut). AreTold l told) s.puts is) tie
-    by (inr begins) = beside_goes past m event told (beginning_beside event begins) (beginning_notes m.state event begins) is tie
+    by (inr begins) = let beside = beginning_beside event begins in beside_goes past m event told beside.0 (writes_nothing m.state event beside.1) is tie
 
 does : PayloadsBring → (here next : Phase) (past : List Entry) (m : HostMachine) (event : HostEvent) (told : List Entry) → May here m (Does event told) next → Ground here past m → KnowsAsked here past m
     → Goes next past m (Does event told)
@@ -575,7 +557,7 @@ step_goes brings here next past m (Does event told) may ground known = does brin
 to : (next phase : Phase) (past : List Entry) (m : HostMachine) → next ≡ phase → KnowsAsked phase past m → KnowsAsked next past m
 to next phase past m is known = subst (λ (p : Phase). KnowsAsked p past m) (sym is) known
 
-all_nodes : (nodes : List ℕ) → AllByRecursion IsNodeTick (map Node_ticks nodes)
+pub all_nodes : (nodes : List ℕ) → AllByRecursion IsNodeTick (map Node_ticks nodes)
 all_nodes [] = tt
 all_nodes (n ∷ nodes) = (tt, all_nodes nodes)
 

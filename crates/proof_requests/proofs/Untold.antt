@@ -1,15 +1,14 @@
 -- What is entered that tells of no end of a request stands where none is to be told, and leaves none to be told; and so is all that a host puts out, but at the end of a request.
-use Rattle.std.proofs.Common.{◌≡◌, ℕ, Bool, true, false, List, [], ◌∷◌, ◌++◌, refl, sym, ap, ◌∙◌, subst, append-nil, append_assoc, inl}
+use Rattle.std.proofs.Common.{◌≡◌, Bool, false, List, [], ◌∷◌, ◌++◌, refl, sym, ap, ◌∙◌, subst, append-nil, append_assoc, inl}
 use Rattle.std.specs.Prelude.{Option, Some, None}
 use Rattle.std.specs.List.{AllByRecursion}
 use Rattle.zw_base.proofs.Each.{all-append, all-weaker}
-use Rattle.zw_base.specs.declared.property.Setting.{Setting}
 use Rattle.serial_frame.specs.Frame.{FrameParts}
 use Rattle.serial_frame.specs.Items.{unit_text}
+use Rattle.serial_frame.specs.declared.unit.Unit.TheVariants.{Ack, Nak, Can, Framed}
 use Rattle.zw_words.specs.declared.side.Side.TheVariants.{Host, Chip}
 use Rattle.zw_text.specs.declared.entry.Entry.{Entry}
 use Rattle.zw_text.specs.declared.entry.Entry.TheVariants as entry
-use Rattle.zw_text.proofs.Views.{folded-append}
 use Rattle.proof_waking.specs.law_transcript.Lists.{EachAfter}
 use Rattle.proof_waking.specs.law_time.Judged.{directly_step, is_acknowledgement, is_directly_after}
 use Rattle.host_requests.specs.declared.end.How.{How}
@@ -17,18 +16,17 @@ use Rattle.host_requests.specs.declared.task.Task.{Task}
 use Rattle.host_requests.specs.declared.task.Task.TheVariants.{Plain, NoMore, Second, Neighbours, IsFailed}
 use Rattle.host_requests.specs.declared.task.Purpose.{Purpose}
 use Rattle.host_requests.specs.declared.task.Purpose.TheVariants.{Housekeeping, Attempt, Abort}
-use Rattle.host_node.specs.Steps.{attempt_end, falls_asleep, tick_end}
-use Rattle.host_node.specs.declared.attempt.AttemptEnd.{AttemptEnd}
-use Rattle.host_node.specs.declared.attempt.AttemptEnd.TheVariants.{NoneRan, Again, Unanswered}
-use Rattle.host_model.specs.State.{HostState, command_at, node_of}
-use Rattle.host_model.specs.Sessions.{open_command, settings_with}
-use Rattle.host_model.specs.Ends.{PartEnd, Good as part_good, Passed_over, Bad, asleep_entry, attempt_entries, end_entries, out_entry, part_end, part_entries, task_entries}
-use Rattle.host_model.specs.After.{is_full, is_held}
-use Rattle.host_model.specs.Events.{HostEvent, Hears, Requests_do, Interviews, Interview_unkept, Unreads, Is_unkept, Reports_old, Finishes, Offers, Gives, Spends_unread, Notifies, Resends, Hears_value, Has_no_room, Line_ticks, Node_ticks, Drops_no_more, Submits_abort, Submits_front, Starts, Gives_text, Gives_segment, Begins, Begin_unkept}
-use Rattle.host_model.specs.Outs.{copy_out, dropped_if, held_entries, noted, outs, stored_entries}
-use Rattle.host_model.specs.declared.out.HostOut.{HostOut}
-use Rattle.host_model.specs.declared.out.HostOut.TheVariants.{Note, Write}
+use Rattle.host_node.specs.Steps.{falls_asleep}
+use Rattle.proof_messages.specs.host_model.State.{HostState, node_of}
+use Rattle.proof_messages.specs.host_model.Ends.{end_entries, part_end, task_entries}
+use Rattle.proof_messages.specs.host_model.Events.{HostEvent, Hears, Requests_do, Interviews, Interview_unkept, Unreads, Is_unkept, Reports_old, Finishes, Offers, Gives, Spends_unread, Notifies, Resends, Hears_value, Has_no_room, Line_ticks, Node_ticks, Drops_no_more, Begins, Begin_unkept}
+use Rattle.proof_messages.specs.host_model.Outs.{copy_out, noted, outs}
+use Rattle.proof_messages.specs.host_model.declared.out.HostOut.{HostOut}
+use Rattle.proof_messages.specs.host_model.declared.out.HostOut.TheVariants.{Note, Write}
 use Rattle.proof_waking.specs.proof_alone.Steps.{AreTold, IsOfUnit}
+use Rattle.proof_waking.proofs.HostOuts.{AttemptsAre, MayPut, asleep_is, outs_put, part_are}
+pub use Rattle.proof_waking.proofs.Settling.{directly_one}
+use Rattle.proof_waking.proofs.proof_line_Hosting.{HearsNothing, IsFrameOr, puts_frames_or}
 use Rattle.proof_requests.specs.Ends.{IsUntold, OwesNoEnd, TellsEnd, TellsNoEnd}
 use Rattle.proof_requests.specs.Ends.OwesNoEnd.{Apart}
 
@@ -111,9 +109,6 @@ pub marks_told : (past marks : List Entry) → AllByRecursion IsOfUnit marks →
 marks_told past [] all = tt
 marks_told past (e ∷ marks) all = (mark_told past e all.0, marks_told (past ++ e ∷ []) marks all.1)
 
-pub directly_one : (past : List Entry) (e : Entry) → is_directly_after (past ++ e ∷ []) ≡ directly_step (is_directly_after past) e
-directly_one past e = folded-append directly_step false past (e ∷ [])
-
 still_go : (past told : List Entry) → AllByRecursion IsStill told → is_directly_after past ≡ false → EachAfter TellsEnd past told × (is_directly_after (past ++ told) ≡ false)
 still_go past [] all none = (tt, subst (λ (l : List Entry). is_directly_after l ≡ false) (sym (append-nil past)) none)
 still_go past (e ∷ told) all none =
@@ -157,87 +152,64 @@ pub noted_quiet : (told : List Entry) → AllByRecursion IsPlain told → AllByR
 noted_quiet [] all = tt
 noted_quiet (e ∷ told) all = (all.0, noted_quiet told all.1)
 
+-- a frame is no acknowledgement
+framed_quiet : (put : HostOut) → IsFrameOr IsPlain put → OutQuiet put
+framed_quiet (Write (Framed f)) is = refl
+framed_quiet (Write Ack) is = absurd is
+framed_quiet (Write Nak) is = absurd is
+framed_quiet (Write Can) is = absurd is
+framed_quiet (Note e) is = is
+
 -- ---- ends of requests and attempts
 
-asleep_plain : (fell : Bool) (n : ℕ) → AllByRecursion IsPlain (asleep_entry fell n)
-asleep_plain true n = ((tt, tt), tt)
-asleep_plain false n = tt
-
-out_plain : (command : Option ℕ) → AllByRecursion IsPlain (out_entry command)
-out_plain None = tt
-out_plain (Some command) = ((tt, tt), tt)
-
-attempt_plain : (n : ℕ) (end : AttemptEnd) (command : Option ℕ) → AllByRecursion IsPlain (attempt_entries n end command)
-attempt_plain n NoneRan command = tt
-attempt_plain n Again command = tt
-attempt_plain n (Unanswered fell) command = all-append IsPlain (out_entry command) (asleep_entry fell n) (out_plain command) (asleep_plain fell n)
-
-part_plain : (h : HostState) (n : ℕ) (end : PartEnd) → AllByRecursion IsPlain (part_entries h n end)
-part_plain h n part_good = tt
-part_plain h n Passed_over = tt
-part_plain h n Bad = attempt_plain n (attempt_end (node_of h n)) (open_command (node_of h n))
+attempts_plain : AttemptsAre IsPlain
+attempts_plain = record { unanswered = λ command. (tt, tt); asleep = λ n. (tt, tt) }
 
 task_plain : (h : HostState) (task : Task) (how : How) → IsUntold (Housekeeping task) → AllByRecursion IsPlain (task_entries h task how)
 task_plain h (Plain n payload) how untold = absurd untold
 task_plain h (Second n) how untold = absurd untold
 task_plain h (Neighbours n) how untold = absurd untold
 task_plain h (IsFailed n) how untold = absurd untold
-task_plain h (NoMore n) how untold = asleep_plain (falls_asleep (node_of h n)) n
+task_plain h (NoMore n) how untold = asleep_is IsPlain attempts_plain (falls_asleep (node_of h n)) n
 task_plain h task how untold = tt
 
 pub end_plain : (h : HostState) (purpose : Purpose) (how : How) → IsUntold purpose → AllByRecursion IsPlain (end_entries h (record { purpose = purpose; how = how }))
-end_plain h (Attempt n more payload) how untold = part_plain h n (part_end more how)
+end_plain h (Attempt n more payload) how untold = part_are IsPlain attempts_plain h n (part_end more how)
 end_plain h (Housekeeping task) how untold = task_plain h task how untold
 end_plain h Abort how untold = tt
 
 -- ---- events
 
-dropped_plain : (full : Bool) (n : ℕ) → AllByRecursion IsPlain (dropped_if full n)
-dropped_plain true n = ((tt, tt), tt)
-dropped_plain false n = tt
-
-held_plain : (n : ℕ) (held : Bool) → AllByRecursion IsPlain (held_entries n held)
-held_plain n true = ((tt, tt), tt)
-held_plain n false = tt
-
-stored_plain : (n : ℕ) (settings : List Setting) → AllByRecursion IsPlain (stored_entries n settings)
-stored_plain n [] = tt
-stored_plain n (setting ∷ settings) = ((tt, tt), stored_plain n settings)
-
 pub copy_quiet : (copy : Option FrameParts) → AllByRecursion OutQuiet (copy_out copy)
 copy_quiet None = tt
 copy_quiet (Some f) = (refl, tt)
 
+event_puts : (event : HostEvent) → TellsNoEnd event → MayPut IsPlain event
+event_puts (Requests_do event moment) none = absurd none
+event_puts (Interviews n listens classes update) none = absurd none
+event_puts (Interview_unkept n update) none = absurd none
+event_puts Line_ticks none = absurd none
+event_puts (Node_ticks n) none = attempts_plain
+event_puts (Finishes n session id command status wake) none = ((tt, tt), (λ setting. (tt, tt)), (tt, tt))
+event_puts (Unreads n payload) none = (tt, tt)
+event_puts (Is_unkept n) none = (tt, tt)
+event_puts (Reports_old n id) none = (tt, tt)
+event_puts (Offers n) none = (tt, tt)
+event_puts (Gives n drawn) none = (tt, tt)
+event_puts (Spends_unread n payload) none = (tt, tt)
+event_puts (Notifies n) none = (tt, tt)
+event_puts (Resends n payload) none = (tt, tt)
+event_puts (Hears_value n setting) none = (tt, tt)
+event_puts (Has_no_room n property) none = (tt, tt)
+event_puts (Drops_no_more n) none = (tt, tt)
+event_puts (Begins n session command) none = (tt, tt)
+event_puts (Begin_unkept n) none = (tt, tt)
+event_puts event none = tt
+
+hears_nothing : (event : HostEvent) → TellsNoEnd event → HearsNothing event
+hears_nothing (Hears item) none = absurd none
+hears_nothing event none = tt
+
 pub event_quiet_out : (h : HostState) (event : HostEvent) → TellsNoEnd event → AllByRecursion OutQuiet (outs h event)
-event_quiet_out h (Hears item) none = absurd none
-event_quiet_out h (Requests_do event moment) none = absurd none
-event_quiet_out h (Interviews n listens classes update) none = absurd none
-event_quiet_out h (Interview_unkept n update) none = absurd none
-event_quiet_out h Line_ticks none = absurd none
-event_quiet_out h (Unreads n payload) none = ((tt, tt), tt)
-event_quiet_out h (Is_unkept n) none = ((tt, tt), tt)
-event_quiet_out h (Reports_old n id) none = ((tt, tt), tt)
-event_quiet_out h (Finishes n session id command status wake) none = (
-  (tt, tt),
-  noted_quiet (stored_entries n (settings_with status (command_at h.commands command)) ++ held_entries n (is_held h n wake))
-      (all-append IsPlain (stored_entries n (settings_with status (command_at h.commands command))) (held_entries n (is_held h n wake))
-      (stored_plain n (settings_with status (command_at h.commands command))) (held_plain n (is_held h n wake))),
-)
-event_quiet_out h (Offers n) none = noted_quiet (dropped_if (is_full h) n) (dropped_plain (is_full h) n)
-event_quiet_out h (Gives n drawn) none = noted_quiet (dropped_if (is_full h) n) (dropped_plain (is_full h) n)
-event_quiet_out h (Spends_unread n payload) none = ((tt, tt), tt)
-event_quiet_out h (Notifies n) none = ((tt, tt), tt)
-event_quiet_out h (Resends n payload) none = noted_quiet (dropped_if (is_full h) n) (dropped_plain (is_full h) n)
-event_quiet_out h (Hears_value n setting) none = ((tt, tt), tt)
-event_quiet_out h (Has_no_room n property) none = ((tt, tt), tt)
-event_quiet_out h (Node_ticks n) none =
-    noted_quiet (attempt_entries n (tick_end (node_of h n)) (open_command (node_of h n))) (attempt_plain n (tick_end (node_of h n)) (open_command (node_of h n)))
-event_quiet_out h (Drops_no_more n) none = ((tt, tt), tt)
-event_quiet_out h Submits_abort none = (refl, tt)
-event_quiet_out h Submits_front none = (refl, tt)
-event_quiet_out h (Starts n plan more payload) none = (refl, tt)
-event_quiet_out h (Gives_text n payload) none = (refl, tt)
-event_quiet_out h (Gives_segment n more payload) none = (refl, tt)
-event_quiet_out h (Begins n session command) none = ((tt, tt), tt)
-event_quiet_out h (Begin_unkept n) none = ((tt, tt), tt)
-event_quiet_out h event none = tt
+event_quiet_out h event none =
+    all-weaker (IsFrameOr IsPlain) OutQuiet framed_quiet (outs h event) (puts_frames_or IsPlain h event (hears_nothing event none) (outs_put IsPlain h event (event_puts event none)))

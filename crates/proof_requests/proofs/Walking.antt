@@ -39,20 +39,21 @@ use Rattle.host_requests.specs.declared.task.Purpose.TheVariants.{Housekeeping}
 use Rattle.host_requests.specs.declared.under_way.Progress.TheVariants.{Submitted}
 use Rattle.host_requests.specs.declared.under_way.UnderWay.{UnderWay}
 use Rattle.host_node.specs.declared.attempt.Moment.TheVariants.{BeforeItsTick, BetweenTicks}
-use Rattle.host_model.specs.State.{HostState}
-use Rattle.host_model.specs.After.{after, failing_if, gives_up, is_busy, line_ticked}
-use Rattle.host_model.specs.Did.{after_all}
-use Rattle.host_model.specs.Events.{HostEvent, Hears, Line_ticks, Requests_do}
-use Rattle.host_model.specs.Outs.{copy_out, failing_entries, noted, outs, request_entries}
-use Rattle.host_model.specs.Taking.{IsFollowed, told_if}
-use Rattle.host_model.specs.declared.out.HostOut.{HostOut}
-use Rattle.host_model.specs.declared.out.HostOut.TheVariants.{Note, Write}
+use Rattle.proof_messages.specs.host_model.State.{HostState}
+use Rattle.proof_messages.specs.host_model.After.{after, failing_if, gives_up, is_busy, line_ticked}
+use Rattle.proof_messages.specs.host_model.Did.{after_all}
+use Rattle.proof_messages.specs.host_model.Events.{HostEvent, Hears, Line_ticks, Requests_do}
+use Rattle.proof_messages.specs.host_model.Outs.{copy_out, failing_entries, noted, outs, request_entries}
+use Rattle.proof_messages.specs.host_model.Taking.{IsFollowed, told_if}
+use Rattle.proof_messages.specs.host_model.declared.out.HostOut.{HostOut}
+use Rattle.proof_messages.specs.host_model.declared.out.HostOut.TheVariants.{Write}
 use Rattle.proof_waking.specs.proof_walk.Outside.{IsHostNote}
-use Rattle.proof_waking.proofs.HostNotes.{NoteOuts, all_outs_note}
+use Rattle.proof_waking.proofs.HostNotes.{NoteOuts}
 use Rattle.proof_waking.specs.proof_alone.Steps.{AreFrames, AreTold, IsOfOthers, IsOfUnit}
 use Rattle.proof_waking.specs.Judged.{TieFrames, frames_of}
 use Rattle.proof_waking.proofs.Apart.{acknowledged_frames}
-use Rattle.proof_waking.proofs.Parts.{IsNote}
+use Rattle.proof_waking.proofs.Parts.{IsNote, notes_told}
+pub use Rattle.proof_waking.proofs.Parts.{event_notes as event_hosts, noted_notes}
 use Rattle.proof_requests.specs.Standing.{Prior, brought_before, brought_of, prior_of, Standing, first_standing, owes_abort_in, responses_in, silence_in, standing_of, with_answer, with_copy}
 use Rattle.proof_requests.specs.Carrying.{CarriesSo}
 use Rattle.proof_requests.specs.Asking.{FollowsFirst, IsDue, Leaving, AsksNothing, AsksSo, Doing, IsPaused, TieAsked, TieLine, TieUnderWay, WasAsked, doing_after, doing_from, doing_of, frames_among, to_come}
@@ -87,16 +88,7 @@ marks_quiet marks all = all-weaker IsOfUnit IsQuiet mark_quiet marks all
 
 -- where nothing is written what is told is quiet
 quiet_told : (puts : List HostOut) (told : List Entry) → AllByRecursion IsNote puts → NoteOuts puts → AreTold puts told → AllByRecursion IsQuiet told
-quiet_told [] told notes hosts is = subst (AllByRecursion IsQuiet) (sym is) tt
-quiet_told (Write unit ∷ puts) told notes hosts is = absurd notes.0
-quiet_told (Note e ∷ puts) told notes hosts (rest, is, more) = subst (AllByRecursion IsQuiet) (sym is) (note_quiet e hosts.0, quiet_told puts rest notes.1 hosts.1 more)
-
-pub noted_notes : (told : List Entry) → AllByRecursion IsNote (noted told)
-noted_notes [] = tt
-noted_notes (e ∷ told) = (tt, noted_notes told)
-
-pub event_hosts : (h : HostState) (event : HostEvent) → NoteOuts (outs h event)
-event_hosts h event = subst NoteOuts (append-nil (outs h event)) (all_outs_note h (event ∷ []))
+quiet_told puts told notes hosts is = all-weaker IsHostNote IsQuiet note_quiet told (notes_told IsHostNote puts told notes hosts is)
 
 pub event_quiet : (h : HostState) (event : HostEvent) (told : List Entry) → AllByRecursion IsNote (outs h event) → AreTold (outs h event) told → AllByRecursion IsQuiet told
 event_quiet h event told notes is = quiet_told (outs h event) told notes (event_hosts h event) is
@@ -115,9 +107,6 @@ pub at_end : (past : List Entry) (line_now now : ℕ) (came : List LineUnit) (d 
 at_end past line_now now came d tie = subst (λ (l : List Entry). TieAsked l line_now now came d) (sym (append-nil past)) tie
 
 -- ---- an item is judged
-
-none_then : (past told : List Entry) (now : ℕ) (came : List LineUnit) (d : Doing) → told ≡ [] → TieAsked past now now came d → TieAsked (past ++ told) now now came d
-none_then past told now came d is tie = subst (λ (l : List Entry). TieAsked (past ++ l) now now came d) (sym is) (at_end past now now came d tie)
 
 -- a frame
 pub judges_frame : (past : List Entry) (now : ℕ) (h : HostState) (f : FrameParts) (rest : List LineUnit) (behind : List HostEvent) (marks : List Entry) → clock past ≡ now

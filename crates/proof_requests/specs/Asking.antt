@@ -26,7 +26,7 @@ use Rattle.host_requests.specs.declared.task.Purpose.TheVariants.{Housekeeping}
 use Rattle.host_requests.specs.declared.under_way.Progress.{Progress}
 use Rattle.host_requests.specs.declared.under_way.Progress.TheVariants.{Submitted, Sent, Answered}
 use Rattle.host_requests.specs.declared.under_way.UnderWay.{UnderWay}
-use Rattle.host_model.specs.State.{HostState}
+use Rattle.proof_messages.specs.host_model.State.{HostState}
 use Rattle.proof_waking.specs.proof_alone.Steps.{AreFrames}
 use Rattle.proof_requests.specs.Carrying.{CarriesSo}
 use Rattle.proof_requests.specs.Standing.{Prior, Standing, brought_before, brought_by, counted, failing_in, first_ending, responses_in, sent_in, standing_of, wait_in}

@@ -27,10 +27,10 @@ use Rattle.host_requests.specs.declared.task.Task.TheVariants.{Plain, Segment, S
 use Rattle.host_requests.specs.declared.task.Purpose.{Purpose}
 use Rattle.host_requests.specs.declared.task.Purpose.TheVariants.{Housekeeping, Attempt, Abort}
 use Rattle.host_requests.specs.declared.under_way.UnderWay.{UnderWay}
-use Rattle.host_model.specs.State.{HostState}
-use Rattle.host_model.specs.Ends.{done_of}
-use Rattle.host_model.specs.Events.{HostEvent, Hears, Requests_do, Interviews, Interview_unkept, Line_ticks}
-use Rattle.host_model.specs.Taking.{InterviewEvents, told_requests}
+use Rattle.proof_messages.specs.host_model.State.{HostState}
+use Rattle.proof_messages.specs.host_model.Ends.{done_of}
+use Rattle.proof_messages.specs.host_model.Events.{HostEvent, Hears, Requests_do, Interviews, Interview_unkept, Line_ticks}
+use Rattle.proof_messages.specs.host_model.Taking.{InterviewEvents, told_requests}
 use Rattle.proof_waking.specs.proof_alone.Phases.{Behind}
 use Rattle.proof_waking.specs.proof_alone.Runs.{Knowledge}
 use Rattle.proof_requests.specs.Carrying.{CarriesSo, is_errand}
@@ -38,6 +38,12 @@ use Rattle.proof_requests.specs.Standing.{brought_before, prior_of}
 use Rattle.proof_requests.specs.Asking.{FollowsFirst}
 
 -- ---- an end
+
+-- a wait ended, or the line gave it up
+abbrev pub IsLate : How → Type 0
+IsLate Silent = Unit {0}
+IsLate LinkFailed = Unit {0}
+IsLate how = ⊥
 
 -- a request that its response may refuse; and a response that ends the request that it answers
 abbrev pub IsTaken : Purpose → Type 0

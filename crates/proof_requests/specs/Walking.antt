@@ -23,11 +23,11 @@ use Rattle.host_requests.specs.declared.under_way.UnderWay.{UnderWay}
 use Rattle.host_requests.specs.declared.task.Purpose.{Purpose}
 use Rattle.host_requests.specs.declared.task.Purpose.TheVariants.{Attempt, Abort, Housekeeping}
 use Rattle.host_node.specs.declared.attempt.Moment.TheVariants.{BeforeItsTick}
-use Rattle.host_model.specs.State.{HostState, node_of}
-use Rattle.host_model.specs.Events.{HostEvent, Queues, Queues_interview, Offers, Gives, Resends, Queues_no_more, Node_ticks, Requests_do, Submits_abort, Submits_front, Starts, Gives_text, Gives_segment}
-use Rattle.host_model.specs.After.{task_purpose}
-use Rattle.host_model.specs.Did.{after_all}
-use Rattle.host_model.specs.Ticking.{first_ticks}
+use Rattle.proof_messages.specs.host_model.State.{HostState, node_of}
+use Rattle.proof_messages.specs.host_model.Events.{HostEvent, Queues, Queues_interview, Offers, Gives, Resends, Queues_no_more, Node_ticks, Requests_do, Submits_abort, Submits_front, Starts, Gives_text, Gives_segment}
+use Rattle.proof_messages.specs.host_model.After.{task_purpose}
+use Rattle.proof_messages.specs.host_model.Did.{after_all}
+use Rattle.proof_messages.specs.host_model.Ticking.{first_ticks}
 use Rattle.proof_waking.specs.proof_alone.State.{HostMachine}
 use Rattle.proof_waking.specs.proof_alone.Steps.{AreFrames}
 use Rattle.proof_waking.specs.proof_alone.Phases.{Phase, Asked, Risen, Ticking, Open, Behind, Sleeping}

@@ -14,11 +14,9 @@ ghost use Rattle.proof_waking.specs.proof_alone.Listening.{ListensAsTold};
 ghost use Rattle.proof_requests.specs.Walking.{Ground, KnowsAsked, KnowsInterviews};
 
 use host_keep::texts_give_one_thing;
-use host_model::attempts_have_what_they_give;
 use host_node::a_restart_needs_the_records_alone;
-use proof_messages::hosts_leave_nonces;
-use proof_waking::alone::{hosts_keep_their_tables, hosts_tell_time};
-use proof_waking::hosts_judge_as_told;
+use proof_messages::{attempts_have_what_they_give, hosts_leave_nonces};
+use proof_waking::{hosts_judge_as_told, hosts_keep_their_tables, hosts_tell_time};
 
 /// In any run of a host alone, also where it starts again, over a keeper that tells its records and has none at first: the request of the host is as its
 /// transcript tells, at each step and wherever a part begins.

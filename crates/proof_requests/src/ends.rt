@@ -16,8 +16,8 @@ ghost use Rattle.host_requests.specs.declared.end.How.TheVariants.{LinkFailed};
 ghost use Rattle.host_requests.specs.declared.next.Next.TheVariants.{Ends};
 ghost use Rattle.host_requests.specs.declared.under_way.UnderWay.{UnderWay};
 ghost use Rattle.host_node.specs.declared.attempt.Moment.TheVariants.{BeforeItsTick};
-ghost use Rattle.host_model.specs.After.{gives_up};
-ghost use Rattle.host_model.specs.Events.{HostEvent, Line_ticks, Requests_do};
+ghost use Rattle.proof_messages.specs.host_model.After.{gives_up};
+ghost use Rattle.proof_messages.specs.host_model.Events.{HostEvent, Line_ticks, Requests_do};
 ghost use Rattle.proof_waking.specs.world_model.State.{first_machine};
 ghost use Rattle.proof_waking.specs.world_lines.Spoken.{Spoken, transcript_of};
 ghost use Rattle.proof_waking.specs.world_lines.Done.{AreDone};
@@ -29,7 +29,7 @@ ghost use Rattle.proof_requests.specs.Walking.{Ground, KnowsAsked};
 ghost use Rattle.proof_requests.specs.Ends.{EndsHere, KnowsEnds, TellsEnd};
 
 use crate::asking::hosts_ask_as_told;
-use proof_waking::alone::{lines_are_a_hosts, what_is_heard_is_a_hosts};
+use proof_waking::{lines_are_a_hosts, what_is_heard_is_a_hosts};
 
 /// Where the request of a host ends, it ends by the transcript, in that way and there: by a frame of the chip where that was judged, by a wait at its tick,
 /// and by the line where that gives it up. So each entry that tells of an end stands where the transcript has that end; and directly after a frame that ends a

@@ -28,5 +28,8 @@ pub use ends::{
     lines_end_interviews,
 };
 pub use entries::requests_stand_by_entries;
-pub use proof_waking as waking;
-pub use proof_waking::alone;
+pub use proof_messages::hosts_leave_nonces;
+pub use proof_waking::{
+    hosts_judge_as_told, hosts_keep_their_tables, hosts_obey_the_line, hosts_tell_time,
+    lines_are_a_hosts, what_is_heard_is_a_hosts,
+};

@@ -19,12 +19,10 @@ use Rattle.proof_nonces.specs.proof_attempts.proof_requests.proof_alone.Runs.{Kn
 use Rattle.proof_nonces.specs.proof_attempts.proof_requests.proof_alone.Time.{TieClock}
 use Rattle.proof_nonces.proofs.Events.{answers_are, event_notes}
 use Rattle.proof_nonces.proofs.proof_alone_Apart.{missed_are, told_are}
+use Rattle.proof_nonces.proofs.Late.{less}
 use Rattle.proof_rests.specs.Undone.{may_begin, rests_so}
 use Rattle.proof_rests.specs.Known.{WasSo}
 use Rattle.proof_rests.proofs.Entries.{IsAside, IsLater, aside_later, answers_aside, item_aside, line_aside, line_later, note_later, others_aside}
-
-less : (n : ℕ) → n + 1 - 1 ≡ n
-less n = omega arith
 
 module _ (so : List Entry → ℕ → Bool) where
   abbrev AllMay : List Entry → List Entry → Type 0

@@ -12,10 +12,10 @@ use Rattle.host_requests.specs.Events.{RequestsEvent, interviewed_by}
 use Rattle.host_requests.specs.Events.RequestsEvent.{Responds, CallsBack, Updates}
 use Rattle.host_model.specs.State.{HostState}
 use Rattle.host_model.specs.May.{IsInterviewed, May as MayHost, says_listens}
-use Rattle.host_model.specs.Events.{HostEvent, Interviews, Interview_unkept}
+use Rattle.host_model.specs.Events.{HostEvent, Interviews, Interview_unkept, IsOwn}
 use Rattle.host_model.specs.Outs.{outs}
 use Rattle.host_model.specs.Taking.{InterviewEvents, told_requests}
-use Rattle.host_model.proofs.Own.{IsOwn, sleepers_own, submitted_own}
+use Rattle.host_model.proofs.Own.{sleepers_own, submitted_own}
 use Rattle.host_model.proofs.Submitted.{next_is, no_more_is}
 use Rattle.proof_nonces.specs.proof_work.Tasks.{KeepsInterview, ended, interviews}
 use Rattle.proof_nonces.specs.proof_work.law_time.Requests.{are_none}

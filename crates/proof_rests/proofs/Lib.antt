@@ -9,6 +9,7 @@ pub mod Done
 pub use Rattle.proof_nonces.proofs.proof_attempts_Opening as Opening
 pub use Rattle.proof_nonces.proofs.Releasing
 pub use Rattle.proof_nonces.proofs.Sleeping
+pub use Rattle.proof_nonces.proofs.Asleep
 pub use Rattle.proof_nonces.proofs.KeptAwake
 pub use Rattle.proof_nonces.proofs.Lasting
 pub use Rattle.proof_nonces.proofs.Late
@@ -26,5 +27,7 @@ pub use Rattle.proof_nonces.proofs.Queueing
 pub use Rattle.proof_nonces.proofs.Stepping
 pub use Rattle.proof_nonces.proofs.proof_requests_Walking
 pub use Rattle.proof_nonces.proofs.proof_waking_Judging
+pub use Rattle.proof_nonces.proofs.proof_waking_Parts
+pub use Rattle.proof_nonces.proofs.proof_device_HostOuts
 pub use Rattle.proof_nonces.proofs.Times
 pub use Rattle.proof_nonces.proofs.HostNotes

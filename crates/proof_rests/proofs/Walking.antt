@@ -1,9 +1,7 @@
 -- What lines asked for, of one kind, along the steps of a host alone: it has ended, or is among its tasks, or there is an excuse.
 use Rattle.std.proofs.Common.{◌≡◌, ◌⊎◌, ℕ, ◌+◌, Bool, true, false, inl, inr, List, [], ◌∷◌, ◌++◌, length, refl, sym, ap, ◌∙◌, subst, append-nil, append_assoc, arith}
 use Rattle.std.specs.List.{AllByRecursion, flat_map}
-use Rattle.zw_base.proofs.Each.{all-right, all-weaker}
-use Rattle.serial_frame.specs.Items.{unit_text}
-use Rattle.serial_frame.specs.declared.unit.Unit.TheVariants.{Framed}
+use Rattle.zw_base.proofs.Each.{all-weaker}
 use Rattle.zw_text.specs.declared.line.Line.{Line}
 use Rattle.zw_text.specs.declared.line.Line.TheVariants as lines
 use Rattle.zw_text.specs.declared.entry.Refusal.{Refusal}
@@ -14,9 +12,9 @@ use Rattle.serial_link.specs.State.{Side}
 use Rattle.host_requests.specs.State.{RequestsState}
 use Rattle.host_model.specs.State.{HostState}
 use Rattle.host_model.specs.After.{after}
-use Rattle.host_model.specs.Events.{HostEvent, Queues, Queues_interview}
+use Rattle.host_model.specs.Events.{HostEvent, Queues, Queues_interview, IsOwn}
 use Rattle.host_model.specs.Outs.{answers, outs}
-use Rattle.host_model.proofs.Own.{IsOwn, sleepers_own, submitted_own}
+use Rattle.host_model.proofs.Own.{sleepers_own, submitted_own}
 use Rattle.host_model.proofs.Submitted.{next_is, no_more_is}
 use Rattle.proof_nonces.specs.proof_work.Doing.{IsDone}
 use Rattle.proof_nonces.specs.proof_work.Tasks.{ended, tasks_of}
@@ -27,14 +25,15 @@ use Rattle.proof_nonces.proofs.Doing.{own_done}
 use Rattle.proof_nonces.specs.proof_attempts.Since.{IsElse, WalkBoth}
 use Rattle.proof_nonces.specs.proof_attempts.proof_requests.proof_alone.State.{HostMachine, done}
 use Rattle.proof_nonces.specs.proof_attempts.proof_requests.proof_alone.Steps.{Step, Tells, Comes, Misses, Says, Says_nothing, Asks, Refuses, Shows, Restarts, Begins_tick, Numbers, Judges, Does, entries, happens}
-use Rattle.proof_nonces.specs.proof_attempts.proof_requests.proof_alone.Phases.{Phase, Resting, Asked, Risen, Ticking, Open, Behind, Sleeping, Submitting, IsBetween, May, Turns}
-use Rattle.proof_nonces.specs.proof_attempts.proof_requests.proof_waking.Judged.{IsOfRequest, KnowsJudged}
-use Rattle.proof_nonces.proofs.Lasting.{by_else}
+use Rattle.proof_nonces.specs.proof_attempts.proof_requests.proof_alone.Phases.{Phase, Resting, Asked, Risen, Ticking, Open, Behind, Sleeping, Submitting, May, Turns}
+use Rattle.proof_nonces.specs.proof_attempts.proof_requests.proof_waking.Judged.{KnowsJudged}
+use Rattle.proof_nonces.proofs.Lasting.{between_else, by_else}
 use Rattle.proof_nonces.proofs.Queueing.{opened_asks}
 use Rattle.proof_nonces.proofs.Events.{answers_are, event_notes}
 use Rattle.proof_nonces.proofs.proof_alone_Apart.{missed_are, told_are}
 use Rattle.proof_nonces.proofs.Apart.{IsWordless, said_in_vain, said_on, wordless_more}
-use Rattle.proof_nonces.proofs.Followed.{MayFollow, frame_all}
+use Rattle.proof_nonces.proofs.Followed.{MayFollow}
+use Rattle.proof_nonces.proofs.Settling.{behind_follows}
 use Rattle.proof_nonces.proofs.proof_waking_Judging.{asked_on, nothing_on}
 use Rattle.proof_rests.specs.Known.{AreCounted, AreCountedOr, CountedBefore, KnowsCounts, KnowsDoing, Wanted, left_among}
 use Rattle.proof_rests.proofs.Entries.{IsAside, IsLater, aside_later, answers_aside, item_aside, later_wordless, line_aside, line_later, note_later, others_aside}
@@ -52,17 +51,8 @@ follows_unqueued unit (Queues task) follows = absurd follows
 follows_unqueued unit (Queues_interview n) follows = absurd follows
 follows_unqueued unit event follows = tt
 
-request_unqueued : (event : HostEvent) → IsOfRequest event → IsUnqueued event
-request_unqueued (Queues task) of_request = absurd of_request
-request_unqueued (Queues_interview n) of_request = absurd of_request
-request_unqueued event of_request = tt
-
 behind_unqueued : (first : HostEvent) (left : List HostEvent) (past : List Entry) (m : HostMachine) → KnowsJudged (Behind (first ∷ left)) past m → IsUnqueued first
-behind_unqueued first left past m (frames, inl behind) =
-    let unit : List ℕ = unit_text (Framed behind.frame.frame) in
-    let follow = frame_all behind.frame.first behind.frame.frame (behind.frame.gone ++ (first ∷ left)) behind.frame.followed in
-    follows_unqueued unit first (all-right (MayFollow unit) behind.frame.gone (first ∷ left) follow).0
-behind_unqueued first left past m (frames, inr (requests, settled)) = request_unqueued first requests.0
+behind_unqueued first left past m judged = let (unit, may) = behind_follows first left past m judged.1 in follows_unqueued unit first may
 
 does_so : (here next : Phase) (past told : List Entry) (m : HostMachine) (event : HostEvent) → May here m (Does event told) next → KnowsDoing here past m → IsDone event × IsUnqueued event
 does_so (Ticking (first ∷ left)) next past told m event may ground =
@@ -83,10 +73,6 @@ does_so Open next past told m event may ground = absurd may.0
 
 aside_wordless : (e : Entry) → IsAside e → IsWordless e
 aside_wordless e aside = later_wordless e (aside_later e aside)
-
-between_else : (here : Phase) → IsBetween here → IsElse here
-between_else (Asked line) between = absurd between
-between_else here between = tt
 
 -- ---- of one kind
 

@@ -12,7 +12,14 @@
 mod rests;
 mod worked;
 
-pub use proof_nonces as nonces;
-pub use proof_nonces::{attempts, notes, requests};
+pub use proof_nonces::{
+    hosts_ask_as_told, hosts_count_nonces, hosts_fall_asleep_as_told, hosts_hold_as_asked,
+    hosts_hold_as_told, hosts_keep_what_is_said, hosts_know_their_work, hosts_know_what_nodes_list,
+    hosts_know_what_was_told, hosts_note_in_full, hosts_run_series_as_told,
+    hosts_say_what_is_not_kept, hosts_seal_once, hosts_show_open_sessions, hosts_tell_of_ends,
+    hosts_tell_of_sleep, lines_are_a_hosts, lines_count_nonces, lines_fall_asleep_as_told,
+    lines_hold_as_asked, lines_note_in_full, lines_say_what_is_not_kept, lines_seal_once,
+    tasks_end_in_order, what_is_heard_is_a_hosts,
+};
 pub use rests::{hosts_leave_nothing, lines_leave_nothing};
 pub use worked::{rejected_rests, worked_rests};

@@ -16,10 +16,10 @@ ghost use Rattle.proof_nonces.specs.proof_attempts.Since.{AlongRuns};
 ghost use Rattle.proof_rests.specs.Known.{KnowsAll};
 ghost use Rattle.proof_rests.specs.Undone.{LeavesNothing};
 
-use proof_nonces::attempts::hosts_know_their_work;
-use proof_nonces::attempts::requests::alone::{lines_are_a_hosts, what_is_heard_is_a_hosts};
-use proof_nonces::attempts::requests::{hosts_ask_as_told, hosts_tell_of_ends};
-use proof_nonces::work::{ends_of_tasks_are_told, tasks_end_in_order};
+use proof_nonces::{
+    ends_of_tasks_are_told, hosts_ask_as_told, hosts_know_their_work, hosts_tell_of_ends,
+    lines_are_a_hosts, tasks_end_in_order, what_is_heard_is_a_hosts,
+};
 
 /// In any run of a host alone, over a keeper that tells its records and has none at first, the Sets, Gets and interviews that lines asked for are counted: at each line and each tick before which the last request was over,
 /// no abort is owed, and each Set, Get and interview that lines asked for since the host started has ended; of a node for which the keeper has failed since

@@ -17,7 +17,7 @@ use host_model::{
     a_host_begins_with_what_is_kept, a_restart_keeps_what_is_held, events_do_what_their_records_do,
     facts_are_kept, facts_are_kept_by_all,
 };
-use proof_walk::device::{devices_go_on, devices_stay_the_same};
+use proof_walk::{devices_go_on, devices_stay_the_same};
 
 /// At each phase of a line the air has the network of the transcript, and the chip's table that of the chip, whose repeaters are the joined nodes that listen;
 /// between the words of a line and its effect, that of the transcript before the words. So where no line runs both networks are those of the transcript.

@@ -13,10 +13,10 @@ use Rattle.proof_air.specs.law_transcript.Units.{arrived}
 use Rattle.outside_model.specs.State.{OuterState, Outside, outside, each, with_chip}
 use Rattle.outside_model.specs.Chip.{put_out, chip_does}
 use Rattle.outside_model.specs.Results.{device_at}
-use Rattle.outside_model.specs.Events.{OuterEvent, Host_writes, Host_takes, Host_notes, Shows, Joins, Discovers, Links, Loses, Loses_acks, Marks_loss, Marks_change, Clears_pipe, Collides_next, Stalls, Cuts, way_of, outcome, ticked_entry}
+use Rattle.outside_model.specs.Events.{OuterEvent, Host_writes, Host_takes, Host_notes, Shows, Joins, Discovers, Links, Loses, Loses_acks, Marks_loss, Marks_change, Clears_pipe, Collides_next, Stalls, Cuts, way_of, outcome, ticked_entry, IsCleared}
 use Rattle.proof_air.specs.world_model.State.{Machine}
 use Rattle.proof_air.specs.world_model.Events.{Event, Outside_does, entries, May}
-use Rattle.proof_spoken.proofs.Entered.{IsCleared, IsShown, all_cleared, all_shown}
+use Rattle.proof_spoken.proofs.Entered.{IsShown, all_cleared, all_shown}
 use Rattle.proof_air.specs.proof_walk.Outside.{CoversOuter, IsNote, IsOfAir, IsSimple, Knowing, Link, Moves}
 use Rattle.proof_air.proofs.Linking.{of_link}
 use Rattle.proof_air.proofs.Machines.{machine_keeps}

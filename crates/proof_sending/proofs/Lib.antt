@@ -37,3 +37,4 @@ pub use Rattle.proof_line.proofs.Serials
 pub use Rattle.proof_line.proofs.Tellings
 pub use Rattle.proof_line.proofs.ByLine
 pub use Rattle.proof_line.proofs.Standing
+pub use Rattle.proof_spoken.proofs.Hosts

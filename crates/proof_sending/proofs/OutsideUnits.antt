@@ -17,8 +17,8 @@ use Rattle.proof_line.proofs.Lists.{each-anywhere}
 use Rattle.outside_model.specs.State.{OuterState, Outside, outside, each, with_chip}
 use Rattle.outside_model.specs.Chip.{put_out, chip_does}
 use Rattle.outside_model.specs.Results.{device_at}
-use Rattle.outside_model.specs.Events.{OuterEvent, Begins_line, Begins_tick, Host_writes, Host_takes, Host_notes, Host_begins, Chip_takes, Arrives, Gives, Device_ticks, Chip_ticks, Repeats, Wakes_device, Sets_device, Shows, Joins, Discovers, Links, Loses, Loses_acks, Marks_loss, Marks_change, Clears_pipe, Collides_next, Stalls, Cuts, way_of, outcome, ticked_entry, is_own, May, entries}
-use Rattle.proof_spoken.proofs.Entered.{IsMark, IsCleared, IsShown, told_by_marks, all_cleared, all_shown}
+use Rattle.outside_model.specs.Events.{OuterEvent, Begins_line, Begins_tick, Host_writes, Host_takes, Host_notes, Host_begins, Chip_takes, Arrives, Gives, Device_ticks, Chip_ticks, Repeats, Wakes_device, Sets_device, Shows, Joins, Discovers, Links, Loses, Loses_acks, Marks_loss, Marks_change, Clears_pipe, Collides_next, Stalls, Cuts, way_of, outcome, ticked_entry, is_own, May, entries, IsCleared}
+use Rattle.proof_spoken.proofs.Entered.{IsMark, IsShown, told_by_marks, all_cleared, all_shown}
 use Rattle.proof_air.specs.proof_walk.Outside.{Knowing, Moves, Link, IsSimple, IsNote, IsOfAir}
 use Rattle.proof_air.proofs.Alone.{each_alone}
 use Rattle.proof_air.proofs.Linking.{of_link}

@@ -25,12 +25,10 @@ use Rattle.host_model.specs.Sessions.{open_command, settings_with}
 use Rattle.host_model.specs.After.{after, is_full, is_held}
 use Rattle.host_model.specs.Did.{outs_all}
 use Rattle.host_model.specs.May.{May as MayHost}
-use Rattle.host_model.specs.Events.{HostEvent, Accepts, Cancels, Queues, Hears, Requests_do, Finishes, Offers, Gives, Takes_nonce, Resends, Line_ticks, Node_ticks, Submits_abort, Submits_front, Starts, Gives_text, Gives_segment}
-use Rattle.host_model.specs.Outs.{answer_to, answers, dropped_if, held_entries, noted, outs, request_entries, stored_entries}
+use Rattle.host_model.specs.Events.{HostEvent, Accepts, Cancels, Queues, Hears, Requests_do, Finishes, Offers, Gives, Takes_nonce, Resends, Line_ticks, Node_ticks, Submits_abort, Submits_front, Starts, Gives_text, Gives_segment, IsOwn}
+use Rattle.host_model.specs.Outs.{answer_to, answers, dropped_if, held_entries, noted, outs, request_entries, stored_entries, Silent}
 use Rattle.host_model.specs.declared.out.HostOut.{HostOut}
 use Rattle.host_model.specs.declared.out.HostOut.TheVariants.{Write, Note}
-use Rattle.host_model.proofs.Own.{IsOwn}
-use Rattle.host_model.proofs.Silence.{Silent}
 use Rattle.outside_model.specs.State.{OuterState}
 use Rattle.outside_model.specs.Events.{ticked_entry, entries as entries_outside}
 use Rattle.outside_model.specs.Did.{entries_all as entries_all_outside}

@@ -7,8 +7,9 @@ use Rattle.zw_text.specs.declared.entry.Entry.TheVariants.{Said}
 use Rattle.zw_text.specs.Transcript.{line_of}
 use Rattle.proof_air.specs.law_transcript.Lists.{EachAfter}
 use Rattle.proof_air.specs.law_transcript.Payloads.{MayRequest}
+use Rattle.host_model.specs.Events.{IsOwn}
 use Rattle.host_model.specs.Ticking.{tick_events}
-use Rattle.host_model.proofs.Own.{IsOwn, sleepers_own, submitted_own, tick_own}
+use Rattle.host_model.proofs.Own.{sleepers_own, submitted_own, tick_own}
 use Rattle.host_model.proofs.Submitted.{next_is as submitted_is, no_more_is}
 use Rattle.outside_model.specs.Events.{Begins_line}
 use Rattle.proof_air.specs.world_model.State.{Machine}

@@ -16,8 +16,12 @@ mod reasons;
 
 pub use asked::lines_ask_for_what_is_queued;
 pub use lines::lines_send_what_is_due;
-pub use proof_line as line;
-pub use proof_spoken as spoken;
+pub use proof_line::{
+    lines_clear_at_restarts, lines_clear_nowhere_else, lines_clear_the_line,
+    lines_collide_when_asked, lines_keep_links, lines_mark_units, lines_overrun_only_when_full,
+    lines_overrun_when_full, ticks_are_told,
+};
+pub use proof_spoken::{orders_are_carried_as_said, tables_keep_orders};
 pub use reasons::{
     frames_ask_for_their_purpose, hosts_ask_what_is_due, hosts_send_for_reasons,
     what_is_judged_gives_reasons,

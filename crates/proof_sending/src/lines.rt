@@ -10,14 +10,13 @@ ghost use Rattle.proof_air.specs.world_lines.Done.{AreDone};
 ghost use Rattle.proof_air.specs.law_transcript.Payloads.{SendsWhatIsDue};
 
 use host_requests::callback_ids;
-use proof_line::host::{asides_keep_facts, events_keep_facts, laws_follow};
-use proof_line::rooms_go_on;
-use proof_line::world::{lines_keep_and_ask_well, restarts_go_on, the_machine_keeps_facts};
-use proof_spoken::messages::hosts_leave_nonces;
-use proof_spoken::serial::hosts_write_well;
+use proof_line::{
+    asides_keep_facts, events_keep_facts, laws_follow, lines_keep_and_ask_well, restarts_go_on,
+    rooms_go_on, the_machine_keeps_facts,
+};
 use proof_spoken::{
-    interviews_give_what_is_known, interviews_tell_what_nodes_list, orders_are_carried_as_said,
-    tables_keep_orders,
+    hosts_leave_nonces, hosts_write_well, interviews_give_what_is_known,
+    interviews_tell_what_nodes_list, orders_are_carried_as_said, tables_keep_orders,
 };
 
 /// In every run of lines over a keeper that tells its records and has none at first: each payload that the host asks its chip to send is the message of the

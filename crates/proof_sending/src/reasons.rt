@@ -30,9 +30,8 @@ ghost use Rattle.proof_sending.specs.Heard.{HaveReasons, ItemTells};
 ghost use Rattle.proof_sending.specs.Reasons.{Reason, HasReason, IsReasoned, WritesDue};
 
 use host_requests::callback_ids;
-use proof_line::host::events_keep_facts;
-use proof_spoken::messages::hosts_leave_nonces;
-use proof_spoken::tables_keep_orders;
+use proof_line::events_keep_facts;
+use proof_spoken::{hosts_leave_nonces, tables_keep_orders};
 
 /// Of a host that has heard of these reasons, all that it has to send is due: its frame on the line, which may be written again, the tasks that wait, and
 /// the texts that wait to be sealed or to be given. So it is at first and after a restart, and so it stays, whatever happens to a host that keeps to some

@@ -13,8 +13,8 @@ use Rattle.serial_frame.specs.declared.unit.Unit.TheVariants.{Framed}
 use Rattle.serial_frame.specs.declared.item.Item.TheVariants.{Good, Refused}
 use Rattle.serial_frame.specs.declared.item.Refusal.TheVariants.{BadSum}
 use Rattle.serial_frame.proofs.Changed.{frame_changed, xor_back}
-use Rattle.serial_pipes.specs.State.{garbled, garbled_place}
-use Rattle.serial_pipes.specs.declared.marks.Garble.{Garble}
+use Rattle.world_model.specs.serial_pipes.State.{garbled, garbled_place}
+use Rattle.world_model.specs.serial_pipes.declared.marks.Garble.{Garble}
 use Rattle.proof_serial.specs.Way.{wanted_sum, found_sum, changed_item}
 
 -- ---- exclusive or

@@ -17,17 +17,17 @@ use Rattle.chip_functions.specs.declared.notice.Notice.TheVariants.{ApplicationC
 use Rattle.chip_functions.specs.declared.notice.TransmitStatus.{TransmitStatus}
 use Rattle.chip_functions.specs.declared.request.Request.{Request}
 use Rattle.chip_functions.specs.declared.request.Request.TheVariants.{SendData}
-use Rattle.chip_sim.specs.State.{ChipState}
-use Rattle.chip_sim.specs.Waiting.{PortState, is_full, queued, queued_at, queued_outs, queued_outs_at, served, served_at, served_outs, next_at, written, ticked}
-use Rattle.chip_sim.specs.Answers.{notice_frame, takes}
-use Rattle.chip_sim.specs.Requests.{passed, answer_outs, reply_to, performed_outs, requested, requested_outs, asked, heard, judged_frame, judged_outs, given_outs, sent, callback_frame, given_if}
-use Rattle.chip_sim.specs.Events.{ChipEvent, Judged, Ticked, Heard, Done, Informed, Joined, Linked, Forgets, Collides, after, outs, collides, ended, ended_outs, update_of}
-use Rattle.chip_sim.specs.Did.{after_all, outs_all}
-use Rattle.chip_sim.specs.Link.{chip_units}
-use Rattle.chip_sim.specs.declared.out.Sending.{Sending}
-use Rattle.chip_sim.specs.declared.out.ChipOut.{ChipOut}
-use Rattle.chip_sim.specs.declared.out.ChipOut.TheVariants.{Write, OnAir, NoRoute, AskInfo, Full}
-use Rattle.chip_sim.proofs.Steps.{port_performed}
+use Rattle.world_model.specs.chip_sim.State.{ChipState}
+use Rattle.world_model.specs.chip_sim.Waiting.{PortState, is_full, queued, queued_at, queued_outs, queued_outs_at, served, served_at, served_outs, next_at, written, ticked}
+use Rattle.world_model.specs.chip_sim.Answers.{notice_frame, takes}
+use Rattle.world_model.specs.chip_sim.Requests.{passed, answer_outs, reply_to, performed_outs, requested, requested_outs, asked, heard, judged_frame, judged_outs, given_outs, sent, callback_frame, given_if}
+use Rattle.world_model.specs.chip_sim.Events.{ChipEvent, Judged, Ticked, Heard, Done, Informed, Joined, Linked, Forgets, Collides, after, outs, collides, ended, ended_outs, update_of}
+use Rattle.world_model.specs.chip_sim.Did.{after_all, outs_all}
+use Rattle.world_model.specs.chip_sim.Link.{chip_units}
+use Rattle.world_model.specs.chip_sim.declared.out.Sending.{Sending}
+use Rattle.world_model.specs.chip_sim.declared.out.ChipOut.{ChipOut}
+use Rattle.world_model.specs.chip_sim.declared.out.ChipOut.TheVariants.{Write, OnAir, NoRoute, AskInfo, Full}
+use Rattle.world_model.proofs.Steps.{port_performed}
 
 module _ (Is : FrameParts → Type 0) where
   -- ---- what is so

@@ -9,17 +9,17 @@ use Rattle.route_table.specs.Network.{linked}
 use Rattle.chip_functions.specs.Notice.{status_of}
 use Rattle.chip_functions.specs.declared.notice.TransmitStatus.{TransmitStatus}
 use Rattle.chip_functions.specs.declared.notice.TransmitStatus.TheVariants.{Fail, NoRoute as no_route_status}
-use Rattle.chip_sim.specs.Events.{ChipEvent, Done, Heard as chip_hears, Informed, Forgets, Joined, Linked, Collides, after, May}
-use Rattle.chip_sim.specs.Did.{after_all}
-use Rattle.chip_sim.specs.Link.{chip_units}
-use Rattle.chip_sim.specs.declared.out.ChipOut.{ChipOut}
-use Rattle.device_sim.specs.State.{State}
-use Rattle.device_sim.specs.Event.{DeviceEvent}
-use Rattle.mesh_sim.specs.Air.{AirState, is_joined, joining}
-use Rattle.mesh_sim.specs.Fates.{place_of}
-use Rattle.mesh_sim.specs.Steps.{AirStep, mesh_after, mesh_outs}
-use Rattle.mesh_sim.specs.declared.event.AirEvent.{AirEvent}
-use Rattle.mesh_sim.specs.declared.event.AirEvent.TheVariants as air_event
+use Rattle.world_model.specs.chip_sim.Events.{ChipEvent, Done, Heard as chip_hears, Informed, Forgets, Joined, Linked, Collides, after, May}
+use Rattle.world_model.specs.chip_sim.Did.{after_all}
+use Rattle.world_model.specs.chip_sim.Link.{chip_units}
+use Rattle.world_model.specs.chip_sim.declared.out.ChipOut.{ChipOut}
+use Rattle.world_model.specs.device_sim.State.{State}
+use Rattle.world_model.specs.device_sim.Event.{DeviceEvent}
+use Rattle.world_model.specs.mesh_sim.Air.{AirState, is_joined, joining}
+use Rattle.world_model.specs.mesh_sim.Fates.{place_of}
+use Rattle.world_model.specs.mesh_sim.Steps.{AirStep, mesh_after, mesh_outs}
+use Rattle.world_model.specs.mesh_sim.declared.event.AirEvent.{AirEvent}
+use Rattle.world_model.specs.mesh_sim.declared.event.AirEvent.TheVariants as air_event
 use Rattle.air_frames.specs.declared.ages.Refusal.{Refusal as RepeatRefusal}
 use Rattle.zw_text.specs.declared.entry.Entry.TheVariants.{Forget}
 use Rattle.world_model.specs.outside_model.declared.waits.Due.{Due}

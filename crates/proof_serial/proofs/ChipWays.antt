@@ -7,23 +7,23 @@ use Rattle.std.proofs.lemmas.Bool.{ltb-true, leb-true, and_parts}
 use Rattle.std.proofs.lemmas.List.{append-nil}
 use Rattle.zw_base.proofs.Each.{all-append}
 use Rattle.serial_frame.specs.declared.unit.Unit.{Unit as LineUnit}
-use Rattle.serial_pipes.specs.State.{WayState}
-use Rattle.serial_pipes.specs.Events.{Writes}
-use Rattle.serial_pipes.specs.Events as way
+use Rattle.world_model.specs.serial_pipes.State.{WayState}
+use Rattle.world_model.specs.serial_pipes.Events.{Writes}
+use Rattle.world_model.specs.serial_pipes.Events as way
 use Rattle.route_table.specs.Network.{linked}
-use Rattle.chip_sim.specs.State.{ChipState, ChipParts}
-use Rattle.chip_sim.specs.Events.{ChipEvent, Joined, Linked, after, outs, May, OwesCall, FitsProfile}
-use Rattle.chip_sim.specs.Did.{MayAll, after_all, outs_all}
-use Rattle.chip_sim.specs.Link.{chip_units}
-use Rattle.chip_sim.specs.declared.out.Sending.{Sending}
-use Rattle.chip_sim.specs.declared.out.ChipOut.{ChipOut}
-use Rattle.chip_sim.specs.declared.out.ChipOut.TheVariants as chip_out
-use Rattle.chip_sim.proofs.EventLists.{after_all-append, outs_all-append, may_all-append}
-use Rattle.device_kinds.specs.declared.kind.Kind.{Kind}
-use Rattle.device_kinds.specs.declared.kind.Kind.TheVariants.{Relay, Switch, Dimmer, Lock, Sensor, Thermostat, Strip, Configurable}
-use Rattle.device_sim.specs.Kind.{classes_of}
-use Rattle.device_sim.specs.State.{State}
-use Rattle.mesh_sim.specs.Air.{AirState}
+use Rattle.world_model.specs.chip_sim.State.{ChipState, ChipParts}
+use Rattle.world_model.specs.chip_sim.Events.{ChipEvent, Joined, Linked, after, outs, May, OwesCall, FitsProfile}
+use Rattle.world_model.specs.chip_sim.Did.{MayAll, after_all, outs_all}
+use Rattle.world_model.specs.chip_sim.Link.{chip_units}
+use Rattle.world_model.specs.chip_sim.declared.out.Sending.{Sending}
+use Rattle.world_model.specs.chip_sim.declared.out.ChipOut.{ChipOut}
+use Rattle.world_model.specs.chip_sim.declared.out.ChipOut.TheVariants as chip_out
+use Rattle.world_model.proofs.chip_sim_EventLists.{after_all-append, outs_all-append, may_all-append}
+use Rattle.world_model.specs.device_kinds.declared.kind.Kind.{Kind}
+use Rattle.world_model.specs.device_kinds.declared.kind.Kind.TheVariants.{Relay, Switch, Dimmer, Lock, Sensor, Thermostat, Strip, Configurable}
+use Rattle.world_model.specs.device_sim.Kind.{classes_of}
+use Rattle.world_model.specs.device_sim.State.{State}
+use Rattle.world_model.specs.mesh_sim.Air.{AirState}
 use Rattle.world_model.specs.outside_model.State.{OuterState, each, with_chip}
 use Rattle.world_model.specs.outside_model.Chip.{put_out, chip_does}
 use Rattle.world_model.specs.outside_model.Results.{owes_call, told_profile, profile_of}

@@ -5,14 +5,14 @@ use Rattle.std.proofs.lemmas.List.{append-nil}
 use Rattle.serial_frame.specs.Stream.{Rest, Feeds, no_rest}
 use Rattle.serial_frame.specs.declared.unit.Unit.{Unit as LineUnit}
 use Rattle.serial_frame.specs.declared.item.Item.{Item}
-use Rattle.serial_pipes.specs.State.{WayState}
+use Rattle.world_model.specs.serial_pipes.State.{WayState}
 use Rattle.zw_words.specs.declared.side.Side.TheVariants.{Host, Chip}
 use Rattle.zw_text.specs.declared.entry.Entry.TheVariants.{Refused}
-use Rattle.chip_sim.specs.State.{ChipParts}
-use Rattle.host_model.specs.State.{HostState}
-use Rattle.host_model.specs.Events.{HostEvent}
-use Rattle.host_model.specs.Did.{outs_all as host_outs_all}
-use Rattle.host_model.specs.Outs.{answers}
+use Rattle.world_model.specs.chip_sim.State.{ChipParts}
+use Rattle.world_model.specs.host_model.State.{HostState}
+use Rattle.world_model.specs.host_model.Events.{HostEvent}
+use Rattle.world_model.specs.host_model.Did.{outs_all as host_outs_all}
+use Rattle.world_model.specs.host_model.Outs.{answers}
 use Rattle.world_model.specs.outside_model.State.{OuterState}
 use Rattle.world_model.specs.outside_model.Events.{OuterEvent, Chip_takes, Chip_ticks, Clears_pipe, outcome, May as MayOutside}
 use Rattle.world_model.specs.State.{Machine, host_does}

@@ -2,7 +2,7 @@
 use Rattle.std.proofs.Common.{ℕ, List, [], refl}
 use Rattle.std.specs.Prelude.{Option}
 use Rattle.s0_crypto.specs.declared.key_pair.Keys.{Keys}
-use Rattle.device_sim.specs.State.{State}
+use Rattle.world_model.specs.device_sim.State.{State}
 use Rattle.world_model.specs.outside_model.State.{first_outer}
 use Rattle.world_model.specs.State.{first_machine}
 use Rattle.proof_serial.specs.Chip.{HasFrames}

@@ -19,16 +19,16 @@ use Rattle.chip_functions.specs.declared.notice.TransmitStatus.TheVariants.{Fail
 use Rattle.chip_functions.specs.declared.request.Request.{Request}
 use Rattle.chip_functions.specs.declared.request.Request.TheVariants.{GetInitData, GetCapabilities, SendData, GetVersion, SendDataAbort, MemoryGetId, GetNodeProtocolInfo, AddNode, RequestNodeInfo, IsFailedNode, GetRoutingInfo}
 use Rattle.chip_functions.proofs.MaskLemmas.{mask_len}
-use Rattle.chip_sim.specs.State.{ChipState}
-use Rattle.chip_sim.specs.Waiting.{PortState}
-use Rattle.chip_sim.specs.Nodes.{nodes_where, is_marked}
-use Rattle.chip_sim.specs.Answers.{response_frame, notice_frame, init_data, routing_info}
-use Rattle.chip_sim.specs.Requests.{reply_to, abort_frame, callback_frame}
-use Rattle.chip_sim.specs.Events.{ChipEvent, Heard, Informed, after, May, FitsProfile, update_of}
-use Rattle.chip_sim.specs.Did.{MayAll, after_all, outs_all}
-use Rattle.chip_sim.specs.Link.{chip_units}
-use Rattle.chip_sim.specs.declared.out.Sending.{Sending}
-use Rattle.chip_sim.specs.declared.out.ChipOut.{ChipOut}
+use Rattle.world_model.specs.chip_sim.State.{ChipState}
+use Rattle.world_model.specs.chip_sim.Waiting.{PortState}
+use Rattle.world_model.specs.chip_sim.Nodes.{nodes_where, is_marked}
+use Rattle.world_model.specs.chip_sim.Answers.{response_frame, notice_frame, init_data, routing_info}
+use Rattle.world_model.specs.chip_sim.Requests.{reply_to, abort_frame, callback_frame}
+use Rattle.world_model.specs.chip_sim.Events.{ChipEvent, Heard, Informed, after, May, FitsProfile, update_of}
+use Rattle.world_model.specs.chip_sim.Did.{MayAll, after_all, outs_all}
+use Rattle.world_model.specs.chip_sim.Link.{chip_units}
+use Rattle.world_model.specs.chip_sim.declared.out.Sending.{Sending}
+use Rattle.world_model.specs.chip_sim.declared.out.ChipOut.{ChipOut}
 use Rattle.proof_serial.specs.Chip.{IsFrame, HasFrame, HasFrames}
 use Rattle.proof_serial.proofs.ChipFrames.{IsIf, Makes, PortIs, TurnIs, UnitIs, copy_is as copy_so, events_out, events_port, heard_turn, ticked_turn}
 

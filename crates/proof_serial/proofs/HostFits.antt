@@ -15,41 +15,41 @@ use Rattle.serial_link.specs.State.{Side, tick_side, copy_due}
 use Rattle.s0_session.specs.declared.account.Account.{Account}
 use Rattle.s0_session.specs.Nonces.{account_of, live_of, after_give, unused, new_nonce}
 use Rattle.chip_functions.specs.declared.request.TheConstants.{TRANSMIT_OPTIONS}
-use Rattle.host_requests.specs.Frames.{frame_of}
-use Rattle.host_requests.specs.State.{RequestsState, next_id}
-use Rattle.host_requests.specs.Next.{at_sent, at_response, at_callback, at_update, at_tick, after_next, next_from, went_on}
-use Rattle.host_requests.specs.Events.{RequestsEvent, after as after_request, end_at, task_begun}
-use Rattle.host_requests.specs.Events.RequestsEvent.{Pushes, PushesInterview, PushesProbe, BeginsAbort, BeginsPrefix, BeginsAttempt, IsSent, Fails, Responds, CallsBack, Updates, Ticks, Forgets}
-use Rattle.host_requests.specs.declared.next.Next.{Next}
-use Rattle.host_requests.specs.declared.next.Next.TheVariants.{GoesOn, Ends}
-use Rattle.host_requests.specs.declared.end.End.{End}
-use Rattle.host_requests.specs.declared.end.How.{How}
-use Rattle.host_requests.specs.declared.end.How.TheVariants.{LinkFailed}
-use Rattle.host_requests.specs.declared.under_way.UnderWay.{UnderWay}
-use Rattle.host_requests.specs.declared.task.Task.{Task}
-use Rattle.host_requests.specs.declared.task.Task.TheVariants.{Plain, Offer, Segment, NoMore, First, Second, Members, Neighbours, IsFailed, Version, MemoryId, Capabilities}
-use Rattle.host_requests.specs.declared.task.Purpose.{Purpose}
-use Rattle.host_requests.specs.declared.task.Purpose.TheVariants.{Housekeeping, Attempt, Abort}
-use Rattle.host_node.specs.State.{NodeState, unknown}
-use Rattle.host_node.specs.Steps.{attempt_end, tick_end}
-use Rattle.host_node.specs.Events.{NodeEvent, after as after_node}
-use Rattle.host_node.specs.Events.NodeEvent.{Accepts as node_accepts, Begins as node_begins, Blocks as node_blocks, Cancels as node_cancels, Drops_no_more as node_drops_no_more, Gives_segment as node_gives_segment, Gives_text as node_gives_text, Holds as node_holds, Interviews as node_interviews, Joins as node_joins, Notifies as node_notifies, Puts as node_puts, Queues_no_more as node_queues_no_more, Reports as node_reports, Starts as node_starts, Takes_nonce as node_takes_nonce, Ticks as node_ticks, Succeeds as node_succeeds, Ends_attempt as node_ends_attempt, Ends_no_more as node_ends_no_more}
-use Rattle.host_node.specs.declared.attempt.Moment.{Moment}
-use Rattle.host_node.specs.declared.attempt.Moment.TheVariants.{BeforeItsTick}
-use Rattle.host_node.specs.declared.attempt.Plan.{Plan}
-use Rattle.host_node.specs.declared.attempt.AttemptEnd.{AttemptEnd}
-use Rattle.host_node.specs.declared.attempt.AttemptEnd.TheVariants.{NoneRan, Again, Unanswered}
-use Rattle.host_node.specs.TableState.{nodes_after, node_of as node_among}
-use Rattle.host_keep.specs.Status.{status_byte}
-use Rattle.host_model.specs.State.{HostState, node_of, with_node, command_at}
-use Rattle.host_model.specs.Sessions.{open_command, open_segment, settings_with}
+use Rattle.world_model.specs.host_requests.Frames.{frame_of}
+use Rattle.world_model.specs.host_requests.State.{RequestsState, next_id}
+use Rattle.world_model.specs.host_requests.Next.{at_sent, at_response, at_callback, at_update, at_tick, after_next, next_from, went_on}
+use Rattle.world_model.specs.host_requests.Events.{RequestsEvent, after as after_request, end_at, task_begun}
+use Rattle.world_model.specs.host_requests.Events.RequestsEvent.{Pushes, PushesInterview, PushesProbe, BeginsAbort, BeginsPrefix, BeginsAttempt, IsSent, Fails, Responds, CallsBack, Updates, Ticks, Forgets}
+use Rattle.world_model.specs.host_requests.declared.next.Next.{Next}
+use Rattle.world_model.specs.host_requests.declared.next.Next.TheVariants.{GoesOn, Ends}
+use Rattle.world_model.specs.host_requests.declared.end.End.{End}
+use Rattle.world_model.specs.host_requests.declared.end.How.{How}
+use Rattle.world_model.specs.host_requests.declared.end.How.TheVariants.{LinkFailed}
+use Rattle.world_model.specs.host_requests.declared.under_way.UnderWay.{UnderWay}
+use Rattle.world_model.specs.host_requests.declared.task.Task.{Task}
+use Rattle.world_model.specs.host_requests.declared.task.Task.TheVariants.{Plain, Offer, Segment, NoMore, First, Second, Members, Neighbours, IsFailed, Version, MemoryId, Capabilities}
+use Rattle.world_model.specs.host_requests.declared.task.Purpose.{Purpose}
+use Rattle.world_model.specs.host_requests.declared.task.Purpose.TheVariants.{Housekeeping, Attempt, Abort}
+use Rattle.world_model.specs.host_node.State.{NodeState, unknown}
+use Rattle.world_model.specs.host_node.Steps.{attempt_end, tick_end}
+use Rattle.world_model.specs.host_node.Events.{NodeEvent, after as after_node}
+use Rattle.world_model.specs.host_node.Events.NodeEvent.{Accepts as node_accepts, Begins as node_begins, Blocks as node_blocks, Cancels as node_cancels, Drops_no_more as node_drops_no_more, Gives_segment as node_gives_segment, Gives_text as node_gives_text, Holds as node_holds, Interviews as node_interviews, Joins as node_joins, Notifies as node_notifies, Puts as node_puts, Queues_no_more as node_queues_no_more, Reports as node_reports, Starts as node_starts, Takes_nonce as node_takes_nonce, Ticks as node_ticks, Succeeds as node_succeeds, Ends_attempt as node_ends_attempt, Ends_no_more as node_ends_no_more}
+use Rattle.world_model.specs.host_node.declared.attempt.Moment.{Moment}
+use Rattle.world_model.specs.host_node.declared.attempt.Moment.TheVariants.{BeforeItsTick}
+use Rattle.world_model.specs.host_node.declared.attempt.Plan.{Plan}
+use Rattle.world_model.specs.host_node.declared.attempt.AttemptEnd.{AttemptEnd}
+use Rattle.world_model.specs.host_node.declared.attempt.AttemptEnd.TheVariants.{NoneRan, Again, Unanswered}
+use Rattle.world_model.specs.host_node.TableState.{nodes_after, node_of as node_among}
+use Rattle.world_model.specs.host_keep.Status.{status_byte}
+use Rattle.world_model.specs.host_model.State.{HostState, node_of, with_node, command_at}
+use Rattle.world_model.specs.host_model.Sessions.{open_command, open_segment, settings_with}
 use Rattle.supervision.specs.Host.{open_session}
-use Rattle.host_model.specs.Ends.{unanswered, attempt_ended, PartEnd, Good as well, Passed_over, Bad, part_end, after_part, after_task, after_end, after_end_if, attempt_entries}
-use Rattle.host_model.specs.After.{after, node_does, requests_do, request_does, submits, submits_part, task_purpose, is_full, is_held, queues_if_room, finishing, holding, giving, spending, offering, gives_up, line_ticked, failing_if, node_for}
-use Rattle.host_model.specs.Outs.{outs, answer_to, copy_out, noted, request_entries, failing_entries, dropped_if, stored_entries, held_entries}
-use Rattle.host_model.specs.May.{May, IsStart}
-use Rattle.host_model.specs.Facts.{HostFacts}
-use Rattle.host_model.specs.Events.{HostEvent, Accepts, Cancels, Joins, Queues, Queues_interview, Queues_probe, Hears, Requests_do, Interviews, Interview_unkept, Unreads, Is_unkept, Reports_old, Works, Finishes, Offers, Gives, Spends, Spends_unread, Takes_nonce, Notifies, Resends, Hears_value, Has_no_room, Line_ticks, Node_ticks, Queues_no_more, Drops_no_more, Submits_abort, Submits_front, Starts, Gives_text, Gives_segment, Begins, Begin_unkept}
+use Rattle.world_model.specs.host_model.Ends.{unanswered, attempt_ended, PartEnd, Good as well, Passed_over, Bad, part_end, after_part, after_task, after_end, after_end_if, attempt_entries}
+use Rattle.world_model.specs.host_model.After.{after, node_does, requests_do, request_does, submits, submits_part, task_purpose, is_full, is_held, queues_if_room, finishing, holding, giving, spending, offering, gives_up, line_ticked, failing_if, node_for}
+use Rattle.world_model.specs.host_model.Outs.{outs, answer_to, copy_out, noted, request_entries, failing_entries, dropped_if, stored_entries, held_entries}
+use Rattle.world_model.specs.host_model.May.{May, IsStart}
+use Rattle.world_model.specs.host_model.Facts.{HostFacts}
+use Rattle.world_model.specs.host_model.Events.{HostEvent, Accepts, Cancels, Joins, Queues, Queues_interview, Queues_probe, Hears, Requests_do, Interviews, Interview_unkept, Unreads, Is_unkept, Reports_old, Works, Finishes, Offers, Gives, Spends, Spends_unread, Takes_nonce, Notifies, Resends, Hears_value, Has_no_room, Line_ticks, Node_ticks, Queues_no_more, Drops_no_more, Submits_abort, Submits_front, Starts, Gives_text, Gives_segment, Begins, Begin_unkept}
 use Rattle.proof_serial.specs.Chip.{IsFrame, HasFrame}
 use Rattle.proof_serial.specs.Line.{host_units}
 use Rattle.proof_serial.specs.Host.{FitsTask, FitsIn, HasShortText, HasShortNonce, HostFits, FitsRequest, FitsEvent}

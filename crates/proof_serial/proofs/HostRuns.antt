@@ -6,29 +6,29 @@ use Rattle.zw_base.proofs.Each.{all-append}
 use Rattle.s0_crypto.specs.declared.key_pair.Keys.{Keys}
 use Rattle.s0_session.specs.Nonces.{unused, restored_account}
 use Rattle.serial_frame.specs.Items.{IsUnit}
-use Rattle.host_node.specs.State.{NodeState}
-use Rattle.host_node.specs.Steps.{after_restart}
-use Rattle.host_node.specs.Events.NodeEvent.{Joins, Interviews, Begins as node_begins, Cancels as node_cancels, Reports as node_reports, Restores_seen, Restarts as node_restarts}
-use Rattle.host_node.specs.TableState.{unknown_from, unknown_nodes, nodes_after}
+use Rattle.world_model.specs.host_node.State.{NodeState}
+use Rattle.world_model.specs.host_node.Steps.{after_restart}
+use Rattle.world_model.specs.host_node.Events.NodeEvent.{Joins, Interviews, Begins as node_begins, Cancels as node_cancels, Reports as node_reports, Restores_seen, Restarts as node_restarts}
+use Rattle.world_model.specs.host_node.TableState.{unknown_from, unknown_nodes, nodes_after}
 use Rattle.supervision.specs.Session.{wire_id}
 use Rattle.supervision.specs.Host.{command_at as command_of_session}
-use Rattle.host_keep.specs.Legal.{AreTextsOf, AreLegal}
-use Rattle.host_keep.specs.Status.{status_byte}
-use Rattle.host_keep.specs.Rows.{IsRecord}
-use Rattle.host_keep.specs.declared.final_status.FinalStatus.{FinalStatus}
-use Rattle.host_keep.specs.declared.record.Record.{Record}
-use Rattle.host_keep.specs.declared.record.Record.TheVariants.{Accepted, Joined, Classes, Begun, Final, Cancelled, Given, Spent, Seen}
-use Rattle.host_model.specs.Restoring.{restored, ending}
-use Rattle.host_model.specs.Opening.{restored_all, restarting, opened}
-use Rattle.host_model.specs.State.{HostState, node_of, first_host, first_nodes, first_classes}
-use Rattle.host_model.specs.After.{after, node_does, finishing, node_for}
-use Rattle.host_model.specs.Outs.{outs}
-use Rattle.host_model.specs.May.{May as MayHost}
-use Rattle.host_model.specs.Did.{MayAll as MayAllHost, after_all, outs_all}
-use Rattle.host_model.specs.Events.{HostEvent}
-use Rattle.host_model.specs.Facts.{HostFacts}
-use Rattle.host_model.specs.declared.out.HostOut.{HostOut}
-use Rattle.host_model.specs.declared.out.HostOut.TheVariants.{Write, Note}
+use Rattle.world_model.specs.host_keep.Legal.{AreTextsOf, AreLegal}
+use Rattle.world_model.specs.host_keep.Status.{status_byte}
+use Rattle.world_model.specs.host_keep.Rows.{IsRecord}
+use Rattle.world_model.specs.host_keep.declared.final_status.FinalStatus.{FinalStatus}
+use Rattle.world_model.specs.host_keep.declared.record.Record.{Record}
+use Rattle.world_model.specs.host_keep.declared.record.Record.TheVariants.{Accepted, Joined, Classes, Begun, Final, Cancelled, Given, Spent, Seen}
+use Rattle.world_model.specs.host_model.Restoring.{restored, ending}
+use Rattle.world_model.specs.host_model.Opening.{restored_all, restarting, opened}
+use Rattle.world_model.specs.host_model.State.{HostState, node_of, first_host, first_nodes, first_classes}
+use Rattle.world_model.specs.host_model.After.{after, node_does, finishing, node_for}
+use Rattle.world_model.specs.host_model.Outs.{outs}
+use Rattle.world_model.specs.host_model.May.{May as MayHost}
+use Rattle.world_model.specs.host_model.Did.{MayAll as MayAllHost, after_all, outs_all}
+use Rattle.world_model.specs.host_model.Events.{HostEvent}
+use Rattle.world_model.specs.host_model.Facts.{HostFacts}
+use Rattle.world_model.specs.host_model.declared.out.HostOut.{HostOut}
+use Rattle.world_model.specs.host_model.declared.out.HostOut.TheVariants.{Write, Note}
 use Rattle.world_model.specs.State.{Machine}
 use Rattle.world_model.specs.Events.{Event, Outside_does, Host_does, Host_takes, Decoder_ticks, Refuses, Shows_values, Restarts, OpensFrom, happens, May}
 use Rattle.world_model.specs.Did.{MayAll}

@@ -13,4 +13,4 @@ pub mod First
 pub mod Texts
 pub mod HostFits
 pub mod HostRuns
-pub use Rattle.host_model.proofs.EventLists
+pub use Rattle.world_model.proofs.host_model_EventLists as EventLists

@@ -8,21 +8,21 @@ use Rattle.serial_frame.specs.declared.item.Item.{Item}
 use Rattle.zw_words.specs.declared.side.Side.{Side}
 use Rattle.zw_words.specs.declared.side.Side.TheVariants.{Host, Chip}
 use Rattle.zw_text.specs.declared.entry.Entry.{Entry}
-use Rattle.serial_pipes.specs.State.{WayState}
-use Rattle.serial_pipes.specs.Events.{Takes}
-use Rattle.serial_pipes.specs.Events as way
-use Rattle.serial_pipes.specs.declared.marks.Garble.{Garble}
+use Rattle.world_model.specs.serial_pipes.State.{WayState}
+use Rattle.world_model.specs.serial_pipes.Events.{Takes}
+use Rattle.world_model.specs.serial_pipes.Events as way
+use Rattle.world_model.specs.serial_pipes.declared.marks.Garble.{Garble}
 use Rattle.route_table.specs.declared.route.Route.{Route}
-use Rattle.chip_sim.specs.State.{ChipState, ChipParts}
-use Rattle.chip_sim.specs.Events.{ChipEvent, Ticked}
-use Rattle.chip_sim.specs.Did.{outs_all, judged_all}
-use Rattle.chip_sim.specs.Link.{chip_units}
-use Rattle.host_model.specs.declared.out.HostOut.{HostOut}
-use Rattle.host_model.specs.declared.out.HostOut.TheVariants.{Write, Note}
-use Rattle.device_sim.specs.Event.{Ticks, Wakes, Sets}
+use Rattle.world_model.specs.chip_sim.State.{ChipState, ChipParts}
+use Rattle.world_model.specs.chip_sim.Events.{ChipEvent, Ticked}
+use Rattle.world_model.specs.chip_sim.Did.{outs_all, judged_all}
+use Rattle.world_model.specs.chip_sim.Link.{chip_units}
+use Rattle.world_model.specs.host_model.declared.out.HostOut.{HostOut}
+use Rattle.world_model.specs.host_model.declared.out.HostOut.TheVariants.{Write, Note}
+use Rattle.world_model.specs.device_sim.Event.{Ticks, Wakes, Sets}
 use Rattle.air_frames.specs.Ages.{refusal_of}
-use Rattle.mesh_sim.specs.Fates.{place_of}
-use Rattle.mesh_sim.specs.Steps as mesh
+use Rattle.world_model.specs.mesh_sim.Fates.{place_of}
+use Rattle.world_model.specs.mesh_sim.Steps as mesh
 use Rattle.world_model.specs.outside_model.Results.{device_at}
 use Rattle.world_model.specs.outside_model.Nodes.{listens_at}
 use Rattle.world_model.specs.outside_model.State.{OuterState, Outside}
@@ -36,7 +36,7 @@ use Rattle.proof_serial.specs.Line.{Carried, ChipDid, Change, Grows, Becomes, ou
 use Rattle.proof_serial.proofs.Ways.{carries_all, carries_left, carries_none}
 use Rattle.proof_serial.proofs.Frames.{events_have, events_fit}
 use Rattle.proof_serial.proofs.ChipWays.{IsStill, still_does, does_each, does_both, does_one, written_all-append}
-use Rattle.device_sim.specs.State.{State}
+use Rattle.world_model.specs.device_sim.State.{State}
 use Rattle.proof_serial.proofs.ChipMoves.{Moves, Rule, still_moves, moves_both, moves_from, moves_here, gives_moves, steps_moves, repeats_moves, at_moves, hand_moves, joins_moves, discovers_moves, collides_moves}
 
 -- ---- entries

@@ -4,13 +4,13 @@ use Rattle.std.specs.Prelude.{nat_lt, ◌==◌, if◌then◌else◌}
 use Rattle.supervision.specs.Host.{told_of}
 use Rattle.supervision.specs.declared.host_node.Told.{Told}
 use Rattle.supervision.specs.declared.host_node.Told.TheVariants.{Final, Working, Old}
-use Rattle.host_node.specs.State.{NodeState, is_open, is_up, is_idle, is_running, has_waiting}
-use Rattle.host_node.specs.Steps.{after_occasion, new_series, without_attempt, after_sign, with_wait, wait_ticks, after_sleep, asleep, after_attempts, next_due, series_over, after_attempt_end, after_told, after_again, after_again_tick, with_again, after_attempt_tick, after_hold_tick, as_recorded, tried_again}
-use Rattle.host_node.specs.Events.{NodeEvent, after}
-use Rattle.host_node.specs.Events.NodeEvent.{Joins, Interviews, Puts, Takes_back, Accepts, Cancels, Begins, Blocks, Starts, Gives_segment, Gives_text, Succeeds, Takes_nonce, Restores_seen, Ends_attempt, Reports, Holds, Notifies, Sleeps, Queues_no_more, Drops_no_more, Ends_no_more, Ticks, Restarts}
-use Rattle.host_node.specs.declared.attempt.Moment.{Moment}
-use Rattle.host_node.specs.declared.attempt.Moment.TheVariants.{BetweenTicks}
-use Rattle.host_node.specs.declared.attempt.Plan.TheVariants.{Whole, Segments, Sealed}
+use Rattle.world_model.specs.host_node.State.{NodeState, is_open, is_up, is_idle, is_running, has_waiting}
+use Rattle.world_model.specs.host_node.Steps.{after_occasion, new_series, without_attempt, after_sign, with_wait, wait_ticks, after_sleep, asleep, after_attempts, next_due, series_over, after_attempt_end, after_told, after_again, after_again_tick, with_again, after_attempt_tick, after_hold_tick, as_recorded, tried_again}
+use Rattle.world_model.specs.host_node.Events.{NodeEvent, after}
+use Rattle.world_model.specs.host_node.Events.NodeEvent.{Joins, Interviews, Puts, Takes_back, Accepts, Cancels, Begins, Blocks, Starts, Gives_segment, Gives_text, Succeeds, Takes_nonce, Restores_seen, Ends_attempt, Reports, Holds, Notifies, Sleeps, Queues_no_more, Drops_no_more, Ends_no_more, Ticks, Restarts}
+use Rattle.world_model.specs.host_node.declared.attempt.Moment.{Moment}
+use Rattle.world_model.specs.host_node.declared.attempt.Moment.TheVariants.{BetweenTicks}
+use Rattle.world_model.specs.host_node.declared.attempt.Plan.TheVariants.{Whole, Segments, Sealed}
 use Rattle.proof_serial.specs.Host.{HasShortText}
 
 -- an event that brings a text brings a short one

@@ -9,15 +9,15 @@ use Rattle.serial_frame.specs.declared.unit.Unit.TheVariants.{Ack, Nak, Can, Fra
 use Rattle.serial_frame.specs.declared.item.Item.{Item}
 use Rattle.serial_frame.specs.declared.item.Item.TheVariants.{Good, Refused}
 use Rattle.serial_frame.specs.declared.item.Refusal.TheVariants.{BadSum}
-use Rattle.serial_pipes.specs.State.{WayState, fits, garbled}
-use Rattle.serial_pipes.specs.Events.{after, Writes}
-use Rattle.serial_pipes.specs.declared.marks.Garble.{Garble}
+use Rattle.world_model.specs.serial_pipes.State.{WayState, fits, garbled}
+use Rattle.world_model.specs.serial_pipes.Events.{after, Writes}
+use Rattle.world_model.specs.serial_pipes.declared.marks.Garble.{Garble}
 use Rattle.zw_words.specs.declared.side.Side.TheVariants.{Host, Chip}
-use Rattle.chip_sim.specs.State.{ChipState}
-use Rattle.chip_sim.specs.Events.{ChipEvent}
-use Rattle.chip_sim.specs.Did.{MayAll as MayAllChip, after_all, outs_all}
-use Rattle.chip_sim.specs.Link.{chip_units}
-use Rattle.chip_sim.proofs.EventLists.{after_all-append, outs_all-append, may_all-append}
+use Rattle.world_model.specs.chip_sim.State.{ChipState}
+use Rattle.world_model.specs.chip_sim.Events.{ChipEvent}
+use Rattle.world_model.specs.chip_sim.Did.{MayAll as MayAllChip, after_all, outs_all}
+use Rattle.world_model.specs.chip_sim.Link.{chip_units}
+use Rattle.world_model.proofs.chip_sim_EventLists.{after_all-append, outs_all-append, may_all-append}
 use Rattle.proof_course.specs.Parts.{IsPart}
 use Rattle.world_model.specs.outside_model.Events.{Chip_takes, Clears_pipe}
 use Rattle.world_model.specs.State.{Machine}

@@ -9,11 +9,11 @@ use Rattle.serial_frame.specs.declared.unit.Unit.{Unit as LineUnit}
 use Rattle.serial_frame.specs.declared.unit.Unit.TheVariants.{Ack, Nak, Can, Framed}
 use Rattle.serial_frame.specs.declared.item.Item.{Item}
 use Rattle.serial_frame.specs.declared.item.Item.TheVariants.{Good}
-use Rattle.serial_pipes.specs.State.{WayState, garbled, joined, fits, change_for}
-use Rattle.serial_pipes.specs.Events.{after, passing, Writes, Clears}
-use Rattle.serial_pipes.specs.declared.pipe.TheConstants.{CAPACITY}
-use Rattle.serial_pipes.specs.declared.marks.Garble.{Garble}
-use Rattle.serial_pipes.specs.declared.marks.Mark.TheVariants.{Lost}
+use Rattle.world_model.specs.serial_pipes.State.{WayState, garbled, joined, fits, change_for}
+use Rattle.world_model.specs.serial_pipes.Events.{after, passing, Writes, Clears}
+use Rattle.world_model.specs.serial_pipes.declared.pipe.TheConstants.{CAPACITY}
+use Rattle.world_model.specs.serial_pipes.declared.marks.Garble.{Garble}
+use Rattle.world_model.specs.serial_pipes.declared.marks.Mark.TheVariants.{Lost}
 use Rattle.proof_serial.specs.Way.{Carries, items_of, unit_item, changed_item, written_all, items_all}
 use Rattle.proof_serial.proofs.EndedItems.{feeds_more, feeds_left, LeftOf}
 use Rattle.proof_serial.proofs.ChangedUnits.{changed_text, garbled_long}

@@ -6,10 +6,10 @@ use Rattle.serial_frame.specs.Items.{IsUnit}
 use Rattle.serial_frame.specs.declared.unit.Unit.TheVariants.{Framed}
 use Rattle.serial_link.specs.declared.turn.Turn.{Turn}
 use Rattle.serial_link.specs.declared.turn.Turn.TheVariants.{Idle, Copied, Paused}
-use Rattle.chip_sim.specs.Waiting.{PortState}
-use Rattle.chip_sim.specs.Events.{ChipEvent}
-use Rattle.chip_sim.specs.Did.{MayAll, after_all, outs_all}
-use Rattle.chip_sim.specs.Link.{chip_units}
+use Rattle.world_model.specs.chip_sim.Waiting.{PortState}
+use Rattle.world_model.specs.chip_sim.Events.{ChipEvent}
+use Rattle.world_model.specs.chip_sim.Did.{MayAll, after_all, outs_all}
+use Rattle.world_model.specs.chip_sim.Link.{chip_units}
 use Rattle.world_model.specs.outside_model.State.{OuterState}
 use Rattle.proof_serial.specs.Way.{written_all}
 

@@ -2,13 +2,13 @@
 use Rattle.std.specs.Prelude.{ℕ, ◌≤◌, List, [], ◌∷◌, length, Option, Some, None, IsSome}
 use Rattle.std.specs.List.{AllByRecursion}
 use Rattle.s0_session.specs.declared.account.Account.{Account}
-use Rattle.host_requests.specs.Events.{RequestsEvent}
-use Rattle.host_requests.specs.Events.RequestsEvent.{Pushes}
-use Rattle.host_requests.specs.declared.task.Task.{Task}
-use Rattle.host_requests.specs.declared.task.Task.TheVariants.{Plain, Offer, Segment}
-use Rattle.host_node.specs.State.{NodeState}
-use Rattle.host_model.specs.State.{HostState}
-use Rattle.host_model.specs.Events.{HostEvent, Queues, Requests_do, Takes_nonce}
+use Rattle.world_model.specs.host_requests.Events.{RequestsEvent}
+use Rattle.world_model.specs.host_requests.Events.RequestsEvent.{Pushes}
+use Rattle.world_model.specs.host_requests.declared.task.Task.{Task}
+use Rattle.world_model.specs.host_requests.declared.task.Task.TheVariants.{Plain, Offer, Segment}
+use Rattle.world_model.specs.host_node.State.{NodeState}
+use Rattle.world_model.specs.host_model.State.{HostState}
+use Rattle.world_model.specs.host_model.Events.{HostEvent, Queues, Requests_do, Takes_nonce}
 use Rattle.world_model.specs.State.{Machine}
 use Rattle.world_model.specs.Events.{Event, Host_does, Host_takes, Restarts, happens}
 use Rattle.proof_serial.specs.Chip.{HasFrame}

@@ -3,5 +3,5 @@ pub mod Chip
 pub mod Line
 pub mod Units
 pub mod Host
-pub use Rattle.host_model.specs as host_model
-pub use Rattle.device_kinds.specs as device_kinds
+pub use Rattle.world_model.specs.host_model as host_model
+pub use Rattle.world_model.specs.device_kinds as device_kinds

@@ -9,13 +9,13 @@ use Rattle.serial_frame.specs.declared.item.Item.{Item}
 use Rattle.zw_words.specs.declared.side.Side.{Side}
 use Rattle.zw_words.specs.declared.side.Side.TheVariants.{Host, Chip}
 use Rattle.zw_text.specs.declared.line.Line.{Line}
-use Rattle.serial_pipes.specs.State.{WayState}
-use Rattle.chip_sim.specs.Events.{ChipEvent}
-use Rattle.chip_sim.specs.Did.{MayAll as MayAllChip, after_all, outs_all}
-use Rattle.chip_sim.specs.Link.{chip_units}
-use Rattle.host_model.specs.Did.{outs_all as host_outs_all}
-use Rattle.host_model.specs.declared.out.HostOut.{HostOut}
-use Rattle.host_model.specs.declared.out.HostOut.TheVariants.{Write, Note}
+use Rattle.world_model.specs.serial_pipes.State.{WayState}
+use Rattle.world_model.specs.chip_sim.Events.{ChipEvent}
+use Rattle.world_model.specs.chip_sim.Did.{MayAll as MayAllChip, after_all, outs_all}
+use Rattle.world_model.specs.chip_sim.Link.{chip_units}
+use Rattle.world_model.specs.host_model.Did.{outs_all as host_outs_all}
+use Rattle.world_model.specs.host_model.declared.out.HostOut.{HostOut}
+use Rattle.world_model.specs.host_model.declared.out.HostOut.TheVariants.{Write, Note}
 use Rattle.world_model.specs.outside_model.Events.{OuterEvent, Chip_takes, Chip_ticks, Clears_pipe}
 use Rattle.world_model.specs.State.{Machine}
 use Rattle.world_model.specs.Events.{Event, Outside_does, Host_does, Host_takes, Decoder_ticks, Restarts, happens}

@@ -13,7 +13,7 @@ use Rattle.proof_course.specs.Parts.{IsPart}
 use Rattle.world_model.specs.State.{Machine}
 use Rattle.world_model.specs.Events.{Event}
 use Rattle.world_model.specs.Did.{happens_all}
-use Rattle.chip_sim.specs.Events.{ChipEvent}
+use Rattle.world_model.specs.chip_sim.Events.{ChipEvent}
 use Rattle.proof_serial.specs.Line.{host_writes_all, chip_writes, chip_judges, host_judges, ChipDid, Carried}
 
 -- a refusal that a changed frame has: its checksum is wrong

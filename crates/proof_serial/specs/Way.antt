@@ -8,9 +8,9 @@ use Rattle.serial_frame.specs.declared.unit.Unit.TheVariants.{Ack, Nak, Can, Fra
 use Rattle.serial_frame.specs.declared.item.Item.{Item}
 use Rattle.serial_frame.specs.declared.item.Item.TheVariants.{Good, Refused}
 use Rattle.serial_frame.specs.declared.item.Refusal.TheVariants.{BadSum}
-use Rattle.serial_pipes.specs.State.{WayState, MarksState, garbled, fits}
-use Rattle.serial_pipes.specs.Events.{after, Writes}
-use Rattle.serial_pipes.specs.declared.marks.Garble.{Garble}
+use Rattle.world_model.specs.serial_pipes.State.{WayState, MarksState, garbled, fits}
+use Rattle.world_model.specs.serial_pipes.Events.{after, Writes}
+use Rattle.world_model.specs.serial_pipes.declared.marks.Garble.{Garble}
 
 -- ---- what is on its way
 

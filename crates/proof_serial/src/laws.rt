@@ -3,18 +3,18 @@
 ghost use Rattle.std.specs.Prelude.{ℕ, Option, List, []};
 ghost use Rattle.std.specs.List.{AllByRecursion};
 ghost use Rattle.serial_frame.specs.Items.{IsUnit};
-ghost use Rattle.host_keep.specs.Rows.{IsRecord};
-ghost use Rattle.host_keep.specs.declared.record.Record.{Record};
-ghost use Rattle.host_model.specs.Opening.{opened};
-ghost use Rattle.host_model.specs.State.{HostState, first_host};
-ghost use Rattle.host_model.specs.Events.{HostEvent};
-ghost use Rattle.host_model.specs.May.{May as MayHost};
-ghost use Rattle.host_model.specs.After.{after};
-ghost use Rattle.host_model.specs.Outs.{outs};
-ghost use Rattle.host_model.specs.Facts.{HostFacts};
+ghost use Rattle.world_model.specs.host_keep.Rows.{IsRecord};
+ghost use Rattle.world_model.specs.host_keep.declared.record.Record.{Record};
+ghost use Rattle.world_model.specs.host_model.Opening.{opened};
+ghost use Rattle.world_model.specs.host_model.State.{HostState, first_host};
+ghost use Rattle.world_model.specs.host_model.Events.{HostEvent};
+ghost use Rattle.world_model.specs.host_model.May.{May as MayHost};
+ghost use Rattle.world_model.specs.host_model.After.{after};
+ghost use Rattle.world_model.specs.host_model.Outs.{outs};
+ghost use Rattle.world_model.specs.host_model.Facts.{HostFacts};
 ghost use Rattle.s0_crypto.specs.declared.key_pair.Keys.{Keys};
 ghost use Rattle.serial_frame.specs.declared.item.Item.{Item};
-ghost use Rattle.device_sim.specs.State.{State};
+ghost use Rattle.world_model.specs.device_sim.State.{State};
 ghost use Rattle.zw_text.specs.declared.line.Line.{Line};
 ghost use Rattle.world_model.specs.State.{Machine, first_machine};
 ghost use Rattle.world_model.specs.Events.{Event, May};
@@ -26,7 +26,7 @@ ghost use Rattle.proof_serial.specs.Host.{HostFits, FitsEvent, AllAskWell};
 ghost use Rattle.proof_serial.specs.Line.{host_units, Carried, IsWhole, AreAtRest, IsAtRest, WritesWell, AllWriteWell, LineAfter, Stays, AreLines};
 ghost use Rattle.proof_serial.specs.Units.{JudgesUnits, JudgesFrames};
 
-use host_model::{a_restart_keeps_what_is_held, attempts_have_what_they_give, facts_are_kept};
+use world_model::{a_restart_keeps_what_is_held, attempts_have_what_they_give, facts_are_kept};
 
 /// What is on the serial line is whole units, in both directions: it is at first; each event that may happen keeps it, with what it adds,
 /// judges or loses said exactly (`LineAfter`), where who ticks, starts again or loses bytes has nothing unfinished; after a restart nothing

@@ -9,8 +9,8 @@ use Rattle.zw_base.specs.declared.order.Order.{Order}
 use Rattle.proof_world.specs.host_model.Asking.{carriage_for}
 use Rattle.host_orders.specs.declared.carriage.Carriage.{Carriage}
 use Rattle.proof_world.specs.host_model.State.{HostState}
-use Rattle.proof_world.specs.host_model.Events.{HostEvent, Accepts}
-use Rattle.proof_world.specs.host_model.Outs.{answers}
+use Rattle.proof_world.specs.host_model.Events.{HostEvent, Accepts, IsOwn}
+use Rattle.proof_world.specs.host_model.Outs.{answers, Silent}
 use Rattle.proof_once.specs.outside_model.Events.{Begins_line}
 use Rattle.proof_once.specs.world_model.State.{Machine}
 use Rattle.proof_once.specs.world_model.Events.{Event, Outside_does, Host_does}
@@ -19,8 +19,6 @@ use Rattle.proof_once.specs.world_model.Settling.{Settles}
 use Rattle.proof_once.specs.world_model.Lines.{IsEffect, IsLineBegin}
 use Rattle.proof_once.specs.world_model.Prefixes.{SettlesPrefix, LinePart}
 use Rattle.proof_once.proofs.Pieces.{Law, Pieces, of_settling, of_settling_prefix, of_line_part}
-use Rattle.proof_world.proofs.Own.{IsOwn}
-use Rattle.proof_world.proofs.Silence.{Silent}
 use Rattle.proof_once.proofs.Along.{IsAskedBy, IsOfPart, IsOfEffect, along, pieces_along, effect_along, anywhere}
 use Rattle.proof_world.specs.world_lines.Spoken.{Spoken}
 use Rattle.proof_spoken.specs.Spoken.{IsSpoken}

@@ -9,3 +9,4 @@ pub use Rattle.proof_once.specs.proof_device as proof_device
 pub use Rattle.proof_once.specs as proof_once
 pub use Rattle.proof_world.specs.proof_serial as proof_serial
 pub use Rattle.proof_once.specs.proof_messages as proof_messages
+pub use Rattle.proof_world.specs as proof_world

@@ -17,11 +17,10 @@ ghost use Rattle.proof_world.specs.world_lines.Done.{AreDone};
 ghost use Rattle.proof_spoken.specs.Interviews.{HearLists};
 
 use crate::interviews_give_what_is_known;
-use proof_world::device::{devices_go_on, devices_stay_the_same};
-use proof_world::serial::{hosts_write_well, units_are_judged_whole};
 use proof_world::{
-    lines_ask_well, lines_keep_and_ask_well, restarts_go_on, runs_keep_and_ask_well,
-    the_machine_keeps_facts,
+    devices_go_on, devices_stay_the_same, hosts_write_well, lines_ask_well,
+    lines_keep_and_ask_well, restarts_go_on, runs_keep_and_ask_well, the_machine_keeps_facts,
+    units_are_judged_whole,
 };
 
 /// In every run of lines, the last of which an allocation failure may have cut short, over a keeper that tells its records and has none at

@@ -17,10 +17,14 @@ mod interviews;
 mod said;
 
 pub use interviews::{interviews_tell_what_nodes_list, lines_tell_what_nodes_list};
-pub use proof_once as once;
-pub use proof_once::{device, messages};
-pub use proof_world as world;
-pub use proof_world::serial;
+pub use proof_once::{
+    changes_are_shown, courses_tie_their_ends, devices_change_in_sessions, devices_go_on,
+    devices_stay_the_same, endings_are_shown, headlines_follow, hosts_leave_nonces,
+};
+pub use proof_world::{
+    hosts_write_well, lines_keep_and_ask_well, restarts_go_on, runs_take_once,
+    the_machine_keeps_facts, units_are_judged_whole,
+};
 pub use said::{
     answers_stand_after_their_lines, interviews_give_what_is_known, orders_are_carried_as_said,
     runs_have_their_tables, tables_are_what_was_said, tables_keep_orders,

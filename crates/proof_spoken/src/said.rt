@@ -27,7 +27,7 @@ ghost use Rattle.proof_spoken.specs.Said.{AllKnow, AreSaid, KnowsAgain, KnowsLis
 
 use host_keep::texts_give_one_thing;
 use host_node::a_restart_needs_the_records_alone;
-use proof_once::host::asides_keep_facts;
+use proof_once::asides_keep_facts;
 use proof_world::the_machine_keeps_facts;
 
 /// A command that was taken stays in the table as it was taken, whatever the host does, and over restarts.

@@ -26,6 +26,6 @@ pub use flights_in_order::frames_fly_in_order;
 pub use host_steps::hosts_make_requests;
 pub use links::hosts_obey_the_line;
 pub use outside_steps::outsides_make_requests;
-pub use proof_device as device;
+pub use proof_device::{devices_go_on, devices_stay_the_same};
 pub use request_steps::{requests_keep_facts, two_at_most};
 pub use world_steps::{at_most_two_are_on_the_air, lines_make_requests};

@@ -24,12 +24,12 @@ use Rattle.law_host.specs.law_transcript.Lists.{Has}
 use Rattle.law_host.specs.law_transcript.Stores.{heard_value, node_at}
 use Rattle.law_host.specs.law_transcript.Nodes.{device_of, host_list, is_joined, known_classes, listing_of, always}
 use Rattle.law_host.proofs.Having.{all_of, has_shown, shown_has}
-use Rattle.host_model.specs.State.{HostState, Command, command_at, node_of}
-use Rattle.host_model.specs.After.{node_for, node_with}
-use Rattle.host_model.specs.Asking.{Waits, carriage_for, refusal_for}
-use Rattle.host_model.specs.Facts.{IsCommandOf}
-use Rattle.host_model.specs.May.{known_of as known_of_host}
-use Rattle.host_model.proofs.RestoredFacts.{from_among}
+use Rattle.proof_air.specs.host_model.State.{HostState, Command, command_at, node_of}
+use Rattle.proof_air.specs.host_model.After.{node_for, node_with}
+use Rattle.proof_air.specs.host_model.Asking.{Waits, carriage_for, refusal_for}
+use Rattle.proof_air.specs.host_model.Facts.{IsCommandOf}
+use Rattle.proof_air.specs.host_model.May.{known_of as known_of_host}
+use Rattle.proof_air.proofs.RestoredFacts.{from_among}
 use Rattle.value_store.specs.Values.{count_with, stored_of}
 use Rattle.proof_air.specs.proof_host.Facts.{AreShown, Facts}
 use Rattle.proof_air.specs.proof_host.Laws.{accepted_for, number_for, numbers_for}

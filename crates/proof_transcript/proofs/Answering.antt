@@ -16,8 +16,8 @@ use Rattle.air_frames.specs.declared.ages.Refusal.{Refusal as RepeatRefusal}
 use Rattle.air_frames.specs.declared.ages.Refusal.TheVariants.{NeverSent, Forgotten, Stale}
 use Rattle.device_sim.specs.State.{State}
 use Rattle.device_sim.specs.Event.{DeviceEvent, Wakes, Sets}
-use Rattle.mesh_sim.specs.Fates.{place_of}
-use Rattle.mesh_sim.specs.Steps as mesh
+use Rattle.proof_air.specs.mesh_sim.Fates.{place_of}
+use Rattle.proof_air.specs.mesh_sim.Steps as mesh
 use Rattle.host_orders.specs.declared.refused.Refused.{Refused as HostRefusal}
 use Rattle.host_orders.specs.declared.refused.Refused.TheVariants as host
 use Rattle.host_orders.specs.Refusals.{Known, classes_of, refusal_or, first_some, is_bad_word, unless, unsupported}
@@ -38,18 +38,18 @@ use Rattle.law_host.specs.law_transcript.Answers.{AsksNothing, Follows, IsAnswer
 use Rattle.law_host.specs.law_transcript.Nodes.{device_of, is_joined, listing_of, always}
 use Rattle.law_host.specs.law_transcript.Repeats.{repeat_entry}
 use Rattle.proof_air.proofs.Lists.{each-weaker}
-use Rattle.host_model.specs.State.{HostState, node_of}
-use Rattle.host_model.specs.After.{node_for}
-use Rattle.host_model.specs.Events.{HostEvent, Accepts, Cancels, Joins as joins_host, Queues, Queues_interview, Queues_probe}
-use Rattle.host_model.specs.May.{known_of as known_of_host}
-use Rattle.host_model.specs.Asking.{carriage_for, join_refusal, places_refusal, refusal_for}
+use Rattle.proof_air.specs.host_model.State.{HostState, node_of}
+use Rattle.proof_air.specs.host_model.After.{node_for}
+use Rattle.proof_air.specs.host_model.Events.{HostEvent, Accepts, Cancels, Joins as joins_host, Queues, Queues_interview, Queues_probe}
+use Rattle.proof_air.specs.host_model.May.{known_of as known_of_host}
+use Rattle.proof_air.specs.host_model.Asking.{carriage_for, join_refusal, places_refusal, refusal_for}
 use Rattle.host_requests.specs.declared.task.Task.{Task}
 use Rattle.host_requests.specs.declared.task.Task.TheVariants as task
 use Rattle.proof_air.specs.outside_model.State.{Outcome}
 use Rattle.proof_air.specs.outside_model.Devices.{MayAct, MayActByHand, acts, acts_at, acts_by_hand, shown_entries}
 use Rattle.proof_air.specs.outside_model.Results.{device_at}
-use Rattle.proof_air.specs.outside_model.Events.{OuterEvent, Repeats, Wakes_device, Sets_device, Shows, Joins, Discovers, Links, Loses, Loses_acks, Marks_loss, Marks_change, Clears_pipe, Collides_next, Stalls, Cuts, MayRepeat, cleared_entries, refusal_entries, repeats, stamp, way_of, outcome, devices_after, May as MayOutside}
-use Rattle.proof_spoken.proofs.Entered.{IsMark, IsCleared, all_cleared}
+use Rattle.proof_air.specs.outside_model.Events.{OuterEvent, Repeats, Wakes_device, Sets_device, Shows, Joins, Discovers, Links, Loses, Loses_acks, Marks_loss, Marks_change, Clears_pipe, Collides_next, Stalls, Cuts, MayRepeat, cleared_entries, refusal_entries, repeats, stamp, way_of, outcome, devices_after, May as MayOutside, IsCleared}
+use Rattle.proof_spoken.proofs.Entered.{IsMark, all_cleared}
 use Rattle.proof_air.specs.world_model.State.{Machine}
 use Rattle.proof_air.specs.world_model.Events.{Event, Outside_does, Host_does, Refuses, Shows_values, Restarts, shown_values, happens, entries, May}
 use Rattle.proof_air.specs.world_model.Refusals.{HasBad, IsRefusedBy, IsRefusedOrUnkept, IsUncancelled, IsUnopened, shown}

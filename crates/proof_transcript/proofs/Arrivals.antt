@@ -14,15 +14,15 @@ use Rattle.air_frames.specs.declared.ages.Refusal.TheVariants.{NeverSent, Forgot
 use Rattle.air_frames.specs.Ages.{refusal_of}
 use Rattle.air_frames.specs.Flown.{Flown}
 use Rattle.air_frames.specs.Frames.{next_of, remembered}
-use Rattle.mesh_sim.specs.declared.event.AirEvent.{AirEvent}
-use Rattle.mesh_sim.specs.declared.event.AirEvent.TheVariants as air_event
-use Rattle.mesh_sim.specs.declared.fate.Fate.{Fate}
-use Rattle.mesh_sim.specs.declared.fate.Fate.TheVariants as fate
-use Rattle.mesh_sim.specs.Air.{AirState, departing, is_joined}
-use Rattle.mesh_sim.specs.Fates.{is_awake, awake_at, place_of, listener_of, dead_hop_of, fate_by, fate_of}
-use Rattle.mesh_sim.specs.Routes.{backwards}
-use Rattle.mesh_sim.specs.Steps.{done_of, status_of, landed, acknowledged, changed, sent_event, answered, answers, answered_if, answers_if, air_hearing, heard_at, outs_at, arriving_as, arrival_outs_as, arriving, arrival_outs, heard_again, outs_again, repeating_by, repeating, repeat_outs_by, repeat_outs, mesh_after, mesh_outs, MayHappen, MayArriveIf}
-use Rattle.mesh_sim.specs.Steps as mesh
+use Rattle.proof_air.specs.mesh_sim.declared.event.AirEvent.{AirEvent}
+use Rattle.proof_air.specs.mesh_sim.declared.event.AirEvent.TheVariants as air_event
+use Rattle.proof_air.specs.mesh_sim.declared.fate.Fate.{Fate}
+use Rattle.proof_air.specs.mesh_sim.declared.fate.Fate.TheVariants as fate
+use Rattle.proof_air.specs.mesh_sim.Air.{AirState, departing, is_joined}
+use Rattle.proof_air.specs.mesh_sim.Fates.{is_awake, awake_at, place_of, listener_of, dead_hop_of, fate_by, fate_of}
+use Rattle.proof_air.specs.mesh_sim.Routes.{backwards}
+use Rattle.proof_air.specs.mesh_sim.Steps.{done_of, status_of, landed, acknowledged, changed, sent_event, answered, answers, answered_if, answers_if, air_hearing, heard_at, outs_at, arriving_as, arrival_outs_as, arriving, arrival_outs, heard_again, outs_again, repeating_by, repeating, repeat_outs_by, repeat_outs, mesh_after, mesh_outs, MayHappen, MayArriveIf}
+use Rattle.proof_air.specs.mesh_sim.Steps as mesh
 use Rattle.proof_air.specs.outside_model.State.{OuterState, Outside, Outcome, each}
 use Rattle.proof_air.specs.outside_model.Air.{change_entries, change_at, sent_entries, deals}
 use Rattle.proof_air.specs.outside_model.Results.{device_at}

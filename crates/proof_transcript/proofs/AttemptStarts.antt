@@ -23,10 +23,10 @@ use Rattle.host_node.specs.declared.attempt.Plan.{Plan}
 use Rattle.host_node.specs.Search.{least_above, next_of}
 use Rattle.host_node.specs.TableState.{node_of as node_among}
 use Rattle.host_node.proofs.Searches.{what_is_least}
-use Rattle.host_model.specs.State.{HostState}
-use Rattle.host_model.specs.Facts.{HostFacts}
-use Rattle.host_model.specs.May.{IsStart}
-use Rattle.host_model.specs.Events.{HostEvent, Begins, Cancels, Starts}
+use Rattle.proof_air.specs.host_model.State.{HostState}
+use Rattle.proof_air.specs.host_model.Facts.{HostFacts}
+use Rattle.proof_air.specs.host_model.May.{IsStart}
+use Rattle.proof_air.specs.host_model.Events.{HostEvent, Begins, Cancels, Starts}
 use Rattle.proof_air.specs.proof_host.Entries.{IsAside, entries_at}
 use Rattle.proof_air.specs.proof_host.Facts.{Facts}
 use Rattle.proof_air.proofs.Lists.{each-append}

@@ -5,8 +5,8 @@ use Rattle.zw_base.proofs.Each.{all-append, all-left}
 use Rattle.zw_text.specs.declared.line.Line.{Line}
 use Rattle.zw_text.specs.declared.line.Line.TheVariants.{Command, Tick, Cut, Stall, Drop, Garble, Collide, Send, Get, Join, Interview, Lose, LoseAck, Repeat, Wake, Cancel, Link, Unlink, Discover, Neighbours, Failed, Probe, Local, Show, Store, Restart}
 use Rattle.host_orders.specs.declared.refused.Refused.{Refused}
-use Rattle.host_model.specs.Events.{HostEvent}
-use Rattle.host_model.specs.Ticking.{tick_events}
+use Rattle.proof_air.specs.host_model.Events.{HostEvent}
+use Rattle.proof_air.specs.host_model.Ticking.{tick_events}
 use Rattle.proof_air.specs.outside_model.State.{is_stalled}
 use Rattle.proof_air.specs.outside_model.Events.{OuterEvent, Begins_tick, Arrives}
 use Rattle.proof_air.specs.outside_model.Schedules.{TakesBy as ChipTakesBy, Arrivals, Givings, DeviceTicks}

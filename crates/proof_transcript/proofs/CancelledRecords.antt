@@ -12,15 +12,14 @@ use Rattle.host_keep.specs.declared.record.Record.TheVariants as record_of
 use Rattle.host_keep.specs.declared.final_status.FinalStatus.{FinalStatus}
 use Rattle.host_keep.specs.declared.final_status.FinalStatus.TheVariants as final
 use Rattle.law_host.specs.law_transcript.Records.{cancelled_at}
-use Rattle.host_model.specs.State.{HostState, node_of}
-use Rattle.host_model.specs.Events.{HostEvent, Accepts, Cancels, Interviews, Interview_unkept, Unreads, Is_unkept, Reports_old, Finishes, Spends_unread, Takes_nonce, Notifies, Hears_value, Has_no_room, Begins, Begin_unkept}
-use Rattle.host_model.specs.Records.{records_at}
-use Rattle.host_model.specs.After.{after}
-use Rattle.host_model.specs.Did.{records_all}
-use Rattle.host_model.specs.Outs.{outs, ended_of}
-use Rattle.host_model.specs.declared.out.HostOut.{HostOut}
-use Rattle.host_model.specs.declared.out.HostOut.TheVariants.{Write, Note}
-use Rattle.host_model.proofs.Silence.{Silent}
+use Rattle.proof_air.specs.host_model.State.{HostState, node_of}
+use Rattle.proof_air.specs.host_model.Events.{HostEvent, Accepts, Cancels, Interviews, Interview_unkept, Unreads, Is_unkept, Reports_old, Finishes, Spends_unread, Takes_nonce, Notifies, Hears_value, Has_no_room, Begins, Begin_unkept}
+use Rattle.proof_air.specs.host_model.Records.{records_at}
+use Rattle.proof_air.specs.host_model.After.{after}
+use Rattle.proof_air.specs.host_model.Did.{records_all}
+use Rattle.proof_air.specs.host_model.Outs.{outs, ended_of, Silent}
+use Rattle.proof_air.specs.host_model.declared.out.HostOut.{HostOut}
+use Rattle.proof_air.specs.host_model.declared.out.HostOut.TheVariants.{Write, Note}
 use Rattle.proof_air.specs.proof_host.Entries.{IsAside, notes_of, entries_at}
 use Rattle.proof_spoken.proofs.HostOuts.{OutsAre, OwnIs, SharedAre, outs_are}
 use Rattle.proof_air.specs.world_model.State.{Machine, host_does, host_entries, routed}

@@ -14,7 +14,7 @@ use Rattle.serial_pipes.specs.Events.{Takes}
 use Rattle.serial_pipes.specs.Events as way
 use Rattle.route_table.specs.declared.route.Route.{Route}
 use Rattle.device_sim.specs.State.{State}
-use Rattle.mesh_sim.specs.Air.{is_joined}
+use Rattle.proof_air.specs.mesh_sim.Air.{is_joined}
 use Rattle.zw_words.specs.declared.side.Side.TheVariants.{Host as by_host, Chip as by_chip}
 use Rattle.zw_text.specs.declared.entry.Entry.{Entry}
 use Rattle.zw_text.specs.declared.entry.Entry.TheVariants as entry
@@ -23,12 +23,12 @@ use Rattle.law_host.specs.law_transcript.Nodes.{controller}
 use Rattle.law_host.specs.law_transcript.Units.{Carried}
 use Rattle.law_host.specs.law_transcript.Carrying.{ArePicked, MaySend, asked, sent_out}
 use Rattle.proof_air.proofs.Lists.{each-append}
-use Rattle.host_model.specs.State.{HostState}
-use Rattle.host_model.specs.Events.{HostEvent}
-use Rattle.host_model.specs.Did.{outs_all}
-use Rattle.host_model.specs.Outs.{answers}
-use Rattle.host_model.specs.declared.out.HostOut.{HostOut}
-use Rattle.host_model.specs.declared.out.HostOut.TheVariants.{Write, Note}
+use Rattle.proof_air.specs.host_model.State.{HostState}
+use Rattle.proof_air.specs.host_model.Events.{HostEvent}
+use Rattle.proof_air.specs.host_model.Did.{outs_all}
+use Rattle.proof_air.specs.host_model.Outs.{answers}
+use Rattle.proof_air.specs.host_model.declared.out.HostOut.{HostOut}
+use Rattle.proof_air.specs.host_model.declared.out.HostOut.TheVariants.{Write, Note}
 use Rattle.proof_air.specs.outside_model.State.{OuterState, Outside}
 use Rattle.proof_air.specs.outside_model.Events.{OuterEvent, Host_writes, Host_takes as host_takes, Host_notes, Host_begins, Chip_takes, Clears_pipe, is_own, outcome, stamp, ticked_entry, happens as happens_outside, entries as entries_outside}
 use Rattle.proof_air.specs.outside_model.Did.{happens_all as happens_all_outside, entries_all as entries_all_outside}

@@ -3,9 +3,9 @@ use Rattle.std.proofs.Common.{◌≡◌, ℕ, zero, suc, Bool, true, false, List
 use Rattle.std.specs.List.{AllByRecursion}
 use Rattle.zw_text.specs.declared.line.Line.{Line}
 use Rattle.zw_text.specs.declared.line.Line.TheVariants as line
-use Rattle.host_model.specs.Events.{HostEvent, Node_ticks}
-use Rattle.host_model.specs.Ticking.{first_ticks, tick_events, ticking_nodes}
-use Rattle.host_model.specs.Did.{after_all}
+use Rattle.proof_air.specs.host_model.Events.{HostEvent, Node_ticks}
+use Rattle.proof_air.specs.host_model.Ticking.{first_ticks, tick_events, ticking_nodes}
+use Rattle.proof_air.specs.host_model.Did.{after_all}
 use Rattle.proof_air.specs.outside_model.Events.{OuterEvent}
 use Rattle.proof_air.specs.outside_model.State.{is_stalled}
 use Rattle.proof_air.specs.world_model.State.{Machine}

@@ -5,8 +5,8 @@ use Rattle.zw_text.specs.declared.entry.Ended.TheVariants as ended
 use Rattle.zw_text.specs.declared.entry.Entry.{Entry}
 use Rattle.zw_text.specs.declared.entry.Entry.TheVariants.{Begin, Out}
 use Rattle.host_keep.specs.declared.final_status.FinalStatus.TheVariants as final
-use Rattle.host_model.specs.State.{HostState}
-use Rattle.host_model.specs.Events.{HostEvent, Accepts, Cancels, Finishes, Begins}
+use Rattle.proof_air.specs.host_model.State.{HostState}
+use Rattle.proof_air.specs.host_model.Events.{HostEvent, Accepts, Cancels, Finishes, Begins}
 use Rattle.proof_air.specs.proof_host.Entries.{IsAside, entries_at}
 use Rattle.proof_spoken.proofs.HostOuts.{OwnIs, SharedAre}
 use Rattle.proof_spoken.proofs.RoutineNotes.{entries_are}

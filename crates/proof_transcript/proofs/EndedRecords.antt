@@ -12,15 +12,15 @@ use Rattle.law_host.specs.law_transcript.Records.{final_of}
 use Rattle.host_keep.specs.Kept.{Kept, KeptNode, Session, is_among, node_of as kept_of_node}
 use Rattle.host_keep.specs.declared.final_status.FinalStatus.{FinalStatus}
 use Rattle.host_keep.specs.declared.final_status.FinalStatus.TheVariants as final
-use Rattle.host_model.specs.State.{HostState, Command, node_of}
-use Rattle.host_model.specs.Facts.{HostFacts, IsCommandOf}
-use Rattle.host_model.specs.Holding.{Holds, Rise, as_kept, commands_of, ended_in, outcome_by, outcome_kept}
-use Rattle.host_model.proofs.Rising.{not_below, not_later, rise-left}
-use Rattle.host_model.proofs.Begun.{ended_so}
+use Rattle.proof_air.specs.host_model.State.{HostState, Command, node_of}
+use Rattle.proof_air.specs.host_model.Facts.{HostFacts, IsCommandOf}
+use Rattle.proof_air.specs.host_model.Holding.{Holds, Rise, as_kept, commands_of, ended_in, outcome_by, outcome_kept}
+use Rattle.proof_air.proofs.Rising.{not_below, not_later, rise-left}
+use Rattle.proof_air.proofs.Begun.{ended_so}
 use Rattle.proof_air.specs.proof_host.Facts.{AreShown}
 use Rattle.proof_air.specs.proof_host.Tables.{outcome_in, outcome_by as outcome_of_one, recorded}
-use Rattle.host_model.proofs.Ended.{not_begun, either_among as or_later}
-use Rattle.host_model.proofs.OpenSessions.{same_if as if_true}
+use Rattle.proof_air.proofs.Ended.{not_begun, either_among as or_later}
+use Rattle.proof_air.proofs.OpenSessions.{same_if as if_true}
 
 -- ---- sessions whose commands rise
 

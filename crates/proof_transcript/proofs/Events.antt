@@ -12,15 +12,15 @@ use Rattle.chip_sim.specs.Events.{Ticked}
 use Rattle.device_sim.specs.Event.{Ticks, Wakes, Sets}
 use Rattle.air_frames.specs.Flown.{Flown}
 use Rattle.air_frames.specs.Frames.{peer_of, next_of}
-use Rattle.mesh_sim.specs.Air.{AirState, beginning}
-use Rattle.mesh_sim.specs.Fates.{place_of}
-use Rattle.mesh_sim.specs.Steps.{landed}
-use Rattle.host_model.specs.State.{HostState}
-use Rattle.host_model.specs.Events.{HostEvent}
-use Rattle.host_model.specs.Did.{outs_all}
-use Rattle.host_model.specs.declared.out.HostOut.{HostOut}
-use Rattle.host_model.specs.declared.out.HostOut.TheVariants.{Write, Note}
-use Rattle.host_model.specs.Outs.{answers}
+use Rattle.proof_air.specs.mesh_sim.Air.{AirState, beginning}
+use Rattle.proof_air.specs.mesh_sim.Fates.{place_of}
+use Rattle.proof_air.specs.mesh_sim.Steps.{landed}
+use Rattle.proof_air.specs.host_model.State.{HostState}
+use Rattle.proof_air.specs.host_model.Events.{HostEvent}
+use Rattle.proof_air.specs.host_model.Did.{outs_all}
+use Rattle.proof_air.specs.host_model.declared.out.HostOut.{HostOut}
+use Rattle.proof_air.specs.host_model.declared.out.HostOut.TheVariants.{Write, Note}
+use Rattle.proof_air.specs.host_model.Outs.{answers}
 use Rattle.proof_air.specs.outside_model.State.{OuterState, Outside, Outcome}
 use Rattle.proof_air.specs.outside_model.Chip.{chip_does}
 use Rattle.proof_air.specs.outside_model.Results.{device_at}

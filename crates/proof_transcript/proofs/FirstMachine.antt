@@ -9,7 +9,7 @@ use Rattle.value_store.specs.Values.{key_cmp, no_value}
 use Rattle.value_store.specs.declared.stored.Stored.{Stored}
 use Rattle.host_node.specs.Steps.{after_interview, after_join}
 use Rattle.host_node.specs.TableState.{node_of, unknown_from, unknown_nodes, with_node}
-use Rattle.host_model.specs.State.{first_classes, first_host, first_nodes}
+use Rattle.proof_air.specs.host_model.State.{first_classes, first_host, first_nodes}
 use Rattle.proof_air.specs.outside_model.State.{first_outer}
 use Rattle.law_host.specs.law_transcript.Nodes.{is_joined}
 use Rattle.proof_air.specs.world_model.State.{first_machine}

@@ -13,9 +13,9 @@ use Rattle.air_frames.specs.declared.frame.Heading.TheVariants.{Outward, Homewar
 use Rattle.air_frames.specs.Ages.{refusal_of}
 use Rattle.air_frames.specs.Flown.{Flown}
 use Rattle.air_frames.specs.Frames.{putting, landing}
-use Rattle.mesh_sim.specs.Air.{AirState, no_route, departing}
-use Rattle.mesh_sim.specs.Steps.{landed}
-use Rattle.mesh_sim.specs.Steps as mesh
+use Rattle.proof_air.specs.mesh_sim.Air.{AirState, no_route, departing}
+use Rattle.proof_air.specs.mesh_sim.Steps.{landed}
+use Rattle.proof_air.specs.mesh_sim.Steps as mesh
 use Rattle.proof_air.specs.outside_model.State.{OuterState, Outside, Outcome}
 use Rattle.proof_air.specs.outside_model.Chip.{shown_via}
 use Rattle.proof_air.specs.outside_model.Events.{OuterEvent, Begins_line, Begins_tick, Host_notes, Arrives, Repeats, Loses, is_own, outcome, stamp, has_entered, steps, repeats, happens as happens_outside, entries as entries_outside, May as MayOutside}

@@ -16,11 +16,11 @@ use Rattle.chip_functions.specs.declared.notice.Notice.TheVariants.{ApplicationC
 use Rattle.chip_functions.specs.declared.notice.Update.{Update}
 use Rattle.chip_functions.specs.declared.notice.Update.TheVariants.{Received, RequestFailed}
 use Rattle.host_requests.specs.Events.{RequestsEvent}
-use Rattle.host_model.specs.Taking.{told_if, InterviewEvents, ResponseEvents, NoticeEvents, FrameEvents, IsFollowed, AreJudged}
-use Rattle.host_model.specs.State.{HostState}
-use Rattle.host_model.specs.Events.{HostEvent, Begins, Hears}
-use Rattle.host_model.specs.After.{after}
-use Rattle.host_model.specs.Did.{after_all}
+use Rattle.proof_air.specs.host_model.Taking.{told_if, InterviewEvents, ResponseEvents, NoticeEvents, FrameEvents, IsFollowed, AreJudged}
+use Rattle.proof_air.specs.host_model.State.{HostState}
+use Rattle.proof_air.specs.host_model.Events.{HostEvent, Begins, Hears}
+use Rattle.proof_air.specs.host_model.After.{after}
+use Rattle.proof_air.specs.host_model.Did.{after_all}
 use Rattle.proof_spoken.proofs.Always.{one, none, either}
 use Rattle.proof_spoken.proofs.Heard.{IsOfPayload, payload_of}
 use Rattle.proof_transcript.proofs.Common.{IsNoBeginning}

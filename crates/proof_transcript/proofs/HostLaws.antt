@@ -5,13 +5,13 @@ use Rattle.zw_base.proofs.Each.{all-append, all-right, all-weaker}
 use Rattle.zw_text.specs.declared.entry.Ended.TheVariants.{Cancelled}
 use Rattle.zw_text.specs.declared.entry.Entry.{Entry}
 use Rattle.zw_text.specs.declared.entry.Entry.TheVariants.{Accepted, Out, Refused}
-use Rattle.host_model.specs.State.{HostState}
-use Rattle.host_model.specs.Events.{HostEvent, Accepts, Cancels}
-use Rattle.host_model.specs.After.{after}
-use Rattle.host_model.specs.Did.{outs_all}
-use Rattle.host_model.specs.Outs.{outs, answers}
-use Rattle.host_model.specs.declared.out.HostOut.{HostOut}
-use Rattle.host_model.specs.declared.out.HostOut.TheVariants.{Write, Note}
+use Rattle.proof_air.specs.host_model.State.{HostState}
+use Rattle.proof_air.specs.host_model.Events.{HostEvent, Accepts, Cancels}
+use Rattle.proof_air.specs.host_model.After.{after}
+use Rattle.proof_air.specs.host_model.Did.{outs_all}
+use Rattle.proof_air.specs.host_model.Outs.{outs, answers}
+use Rattle.proof_air.specs.host_model.declared.out.HostOut.{HostOut}
+use Rattle.proof_air.specs.host_model.declared.out.HostOut.TheVariants.{Write, Note}
 use Rattle.proof_air.specs.outside_model.State.{Outside, OuterState}
 use Rattle.proof_air.specs.outside_model.Events.{Host_begins, Host_notes, Host_writes, entries as entries_outside, happens as happens_outside, outcome, stamp, ticked_entry}
 use Rattle.proof_air.specs.outside_model.Did.{entries_all as entries_all_outside, happens_all as happens_all_outside}

@@ -1,10 +1,10 @@
 -- What a host puts out speaks neither of a frame on the air nor of a line or the time.
 use Rattle.std.proofs.Common.{List}
-use Rattle.host_model.specs.State.{HostState}
-use Rattle.host_model.specs.Events.{HostEvent, Accepts}
-use Rattle.host_model.specs.Did.{outs_all}
-use Rattle.host_model.specs.declared.out.HostOut.{HostOut}
-use Rattle.host_model.specs.Outs.{answers}
+use Rattle.proof_air.specs.host_model.State.{HostState}
+use Rattle.proof_air.specs.host_model.Events.{HostEvent, Accepts}
+use Rattle.proof_air.specs.host_model.Did.{outs_all}
+use Rattle.proof_air.specs.host_model.declared.out.HostOut.{HostOut}
+use Rattle.proof_air.specs.host_model.Outs.{answers}
 use Rattle.proof_spoken.proofs.HostOuts.{OutsAre, OwnIs, SharedAre, all_outs_are, answers_are}
 use Rattle.proof_transcript.proofs.Plain.{IsPlain, Plains}
 

@@ -8,10 +8,10 @@ use Rattle.host_node.specs.Events.{after as after_node}
 use Rattle.host_node.specs.Events.NodeEvent.{Accepts as node_accepts, Interviews as node_interviews, Puts as node_puts}
 use Rattle.host_node.specs.TableState.{node_of, with_node}
 use Rattle.host_orders.specs.Settings.{properties_of, settings}
-use Rattle.host_model.specs.State.{HostState}
-use Rattle.host_model.specs.After.{accepting, after, node_does}
-use Rattle.host_model.specs.Events.{HostEvent, Accepts, Joins, Interviews, Hears_value}
-use Rattle.host_model.proofs.Values.{heard-confirming, stored-reserving}
+use Rattle.proof_air.specs.host_model.State.{HostState}
+use Rattle.proof_air.specs.host_model.After.{accepting, after, node_does}
+use Rattle.proof_air.specs.host_model.Events.{HostEvent, Accepts, Joins, Interviews, Hears_value}
+use Rattle.proof_air.proofs.host_model_Values.{heard-confirming, stored-reserving}
 use Rattle.proof_spoken.proofs.Keeping.{Keeping, each_kept, node_same, part_here, part_set, part_there}
 use Rattle.proof_transcript.proofs.Noted.{HearsOnly}
 pub use Rattle.proof_spoken.proofs.Keeping.{LeavesRecords}

@@ -20,12 +20,12 @@ use Rattle.chip_functions.specs.declared.notice.Update.TheVariants.{Received, Re
 use Rattle.host_heard.specs.Telling.{heard_at}
 use Rattle.host_requests.specs.Events.{RequestsEvent, interviewed_by}
 use Rattle.host_requests.specs.Events.RequestsEvent.{Fails as request_fails, IsSent as request_is_sent}
-use Rattle.host_model.specs.State.{HostState}
-use Rattle.host_model.specs.Events.{HostEvent, Joins, Hears, Interviews, Interview_unkept}
-use Rattle.host_model.specs.After.{after, is_busy, gives_up}
-use Rattle.host_model.specs.May.{says_listens}
-use Rattle.host_model.specs.Did.{after_all}
-use Rattle.host_model.specs.Taking.{InterviewEvents, ResponseEvents, NoticeEvents, FrameEvents, told_if, IsFollowed, IsJudged, AreJudged}
+use Rattle.proof_air.specs.host_model.State.{HostState}
+use Rattle.proof_air.specs.host_model.Events.{HostEvent, Joins, Hears, Interviews, Interview_unkept}
+use Rattle.proof_air.specs.host_model.After.{after, is_busy, gives_up}
+use Rattle.proof_air.specs.host_model.May.{says_listens}
+use Rattle.proof_air.specs.host_model.Did.{after_all}
+use Rattle.proof_air.specs.host_model.Taking.{InterviewEvents, ResponseEvents, NoticeEvents, FrameEvents, told_if, IsFollowed, IsJudged, AreJudged}
 use Rattle.proof_spoken.proofs.Always.{one, none, either}
 use Rattle.proof_spoken.proofs.Heard.{IsOfPayload, payload_of}
 use Rattle.proof_transcript.proofs.Hosts.{IsNoJoin}

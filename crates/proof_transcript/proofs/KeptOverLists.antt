@@ -3,8 +3,8 @@ use Rattle.std.proofs.Common.{◌≡◌, ℕ, ◌+◌, List, [], ◌∷◌, ◌+
 use Rattle.route_table.specs.declared.route.Route.{Route}
 use Rattle.std.specs.Prelude.{Option, Some}
 use Rattle.air_frames.specs.declared.frame.Heading.TheVariants.{Outward, Homeward}
-use Rattle.mesh_sim.specs.Air.{AirState, departing}
-use Rattle.mesh_sim.specs.Steps.{sent_event}
+use Rattle.proof_air.specs.mesh_sim.Air.{AirState, departing}
+use Rattle.proof_air.specs.mesh_sim.Steps.{sent_event}
 use Rattle.proof_air.specs.outside_model.State.{OuterState, Outcome}
 use Rattle.proof_air.specs.outside_model.Chip.{shown_via}
 use Rattle.proof_air.specs.outside_model.Air.{sent_entries}

@@ -22,9 +22,9 @@ use Rattle.value_store.specs.Values.{Values, IsReserved, count_with, is_among, n
 use Rattle.value_store.proofs.Keys.{same_property_laws}
 use Rattle.host_keep.specs.Kept.{Taken, properties_for}
 use Rattle.host_orders.specs.Settings.{properties_of, settings}
-use Rattle.host_model.specs.State.{HostState, Command, command_at}
-use Rattle.host_model.specs.Facts.{IsSound}
-use Rattle.host_model.proofs.Values.{one_property}
+use Rattle.proof_air.specs.host_model.State.{HostState, Command, command_at}
+use Rattle.proof_air.specs.host_model.Facts.{IsSound}
+use Rattle.proof_air.proofs.host_model_Values.{one_property}
 use Rattle.proof_air.specs.proof_host.Facts.{Facts}
 use Rattle.proof_air.specs.proof_host.Laws.{accepted_for, numbers_for}
 use Rattle.proof_air.specs.proof_host.Tables.{nodes_by, taken_at, taken_by}
@@ -32,8 +32,8 @@ use Rattle.proof_spoken.specs.proof_once.ByTable.{IsTable}
 use Rattle.proof_spoken.specs.proof_once.Tied.{settings_taken}
 use Rattle.proof_transcript.proofs.StoredPlaces.{IsSet, KeepsNoMore, append_among}
 use Rattle.supervision.proofs.OnceLemmas.{All-slice_get as at_place}
-use Rattle.host_model.proofs.Counts.{count-alike as alike}
-use Rattle.host_model.proofs.Legal.{among-stored as among_stored}
+use Rattle.proof_air.proofs.Counts.{count-alike as alike}
+use Rattle.proof_air.proofs.Legal.{among-stored as among_stored}
 
 -- ---- counting
 

@@ -19,7 +19,7 @@ use Rattle.value_store.specs.ValueText.{values_text}
 use Rattle.value_store.specs.Values.{held_of, stored_of}
 use Rattle.value_store.specs.declared.stored.Held.{Held}
 use Rattle.host_keep.specs.Kept.{Taken, value_among, value_by}
-use Rattle.host_model.specs.State.{HostState}
+use Rattle.proof_air.specs.host_model.State.{HostState}
 use Rattle.proof_air.specs.proof_host.Facts.{AreShown}
 use Rattle.proof_air.specs.proof_host.Laws.{HostLaws, numbers_for}
 use Rattle.proof_air.specs.proof_host.Stores.{StoresLaw, given_by}
@@ -28,7 +28,8 @@ use Rattle.proof_air.proofs.Confirmed.{last_agree}
 use Rattle.proof_air.specs.world_model.State.{Machine}
 use Rattle.proof_air.specs.world_model.Did.{AllAlong}
 use Rattle.proof_air.specs.world_model.Events.{shown_values}
-use Rattle.proof_air.specs.world_model.Table.{node_entries, table_entries, value_entry}
+use Rattle.proof_air.specs.host_model.Listing.{value_entry}
+use Rattle.proof_air.specs.world_model.Table.{node_entries, table_entries}
 use Rattle.proof_spoken.specs.proof_once.ByTable.{IsTable}
 use Rattle.proof_spoken.specs.proof_once.Tied.{settings_taken}
 use Rattle.proof_air.specs.world_lines.Spoken.{Spoken, after, after_all, entries_of, transcript_of}

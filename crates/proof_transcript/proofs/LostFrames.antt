@@ -11,7 +11,7 @@ use Rattle.zw_text.specs.Transcript.{line_last, line_of}
 use Rattle.law_host.specs.law_transcript.Fates.{marks_asked, MayBeMarked}
 use Rattle.law_host.specs.law_transcript.Lists.{EachAfter, Has}
 use Rattle.law_host.specs.law_transcript.Restarts.{is_repeat, repeats as answers_repeat}
-use Rattle.mesh_sim.specs.Steps as mesh
+use Rattle.proof_air.specs.mesh_sim.Steps as mesh
 use Rattle.proof_air.specs.outside_model.Events.{Begins_tick, Arrives, Loses, Repeats, outcome, steps, May as MayOutside}
 use Rattle.proof_air.specs.world_model.State.{Machine}
 use Rattle.proof_air.specs.world_model.Events.{Event, Outside_does, happens, entries, May}

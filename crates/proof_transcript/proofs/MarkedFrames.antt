@@ -15,8 +15,8 @@ use Rattle.air_frames.specs.declared.frame.Heading.{Heading}
 use Rattle.air_frames.specs.declared.frame.Heading.TheVariants.{Outward, Homeward}
 use Rattle.air_frames.specs.Flown.{Flown}
 use Rattle.air_frames.specs.Frames.{FramesState, no_frames, next_of, putting, landing}
-use Rattle.mesh_sim.specs.Air.{AirState, no_route, departing}
-use Rattle.mesh_sim.specs.Steps.{landed}
+use Rattle.proof_air.specs.mesh_sim.Air.{AirState, no_route, departing}
+use Rattle.proof_air.specs.mesh_sim.Steps.{landed}
 use Rattle.proof_air.specs.outside_model.State.{OuterState, first_outer}
 use Rattle.proof_air.specs.outside_model.Chip.{shown_via}
 use Rattle.proof_transcript.proofs.Plain.{IsNoAir, IsPlain, plain_no_air}

@@ -9,11 +9,11 @@ use Rattle.host_orders.specs.declared.refused.Refused.{Refused}
 use Rattle.host_orders.specs.Refusals.{classes_of}
 use Rattle.host_orders.specs.Errands.{send_refusal, send_text, get_refusal, get_text}
 use Rattle.host_requests.specs.declared.task.Task.TheVariants as task
-use Rattle.host_model.specs.State.{node_of}
-use Rattle.host_model.specs.Events.{HostEvent, Joins, Queues, Queues_interview, Queues_probe}
-use Rattle.host_model.specs.May.{known_of}
-use Rattle.host_model.specs.Asking.{places_refusal, interview_refusal}
-use Rattle.host_model.specs.Ticking.{tick_events}
+use Rattle.proof_air.specs.host_model.State.{node_of}
+use Rattle.proof_air.specs.host_model.Events.{HostEvent, Joins, Queues, Queues_interview, Queues_probe, IsOwn}
+use Rattle.proof_air.specs.host_model.May.{known_of}
+use Rattle.proof_air.specs.host_model.Asking.{places_refusal, interview_refusal}
+use Rattle.proof_air.specs.host_model.Ticking.{tick_events}
 use Rattle.proof_air.specs.outside_model.State.{is_stalled}
 use Rattle.proof_air.specs.outside_model.Events.{OuterEvent, Begins_tick}
 use Rattle.proof_air.specs.outside_model.Schedules.{TakesBy as ChipTakesBy, Arrivals, Givings, DeviceTicks, IsRepeat, IsWake, IsSet}
@@ -23,7 +23,7 @@ use Rattle.proof_air.specs.world_model.Did.{happens_all, MayAll, Schedule, Then}
 use Rattle.proof_air.specs.world_model.Settling.{Outside, IsPump, IsChipPart, IsHostPart, IsMove, IfMoved, Passes, Settles, TakesBy}
 use Rattle.proof_air.specs.world_model.Ticking.{IsDelivery, IsGiving, IsDeviceTick, IsChipTick, IsOutsideTick, IsHostTick, IsTick, Ticks}
 use Rattle.proof_air.specs.world_model.Lines.{IsRefusal, IsDone, Asks, IsDiscovery, IsEffect}
-use Rattle.host_model.proofs.Own.{IsOwn, pump_own, tick_own}
+use Rattle.proof_air.proofs.Own.{pump_own, tick_own}
 use Rattle.proof_air.proofs.Pieces.{Of, Law, of_then}
 use Rattle.proof_transcript.proofs.Outer.{IsMildOuter}
 use Rattle.proof_transcript.proofs.Hosts.{IsNoJoin, LeavesRecords}

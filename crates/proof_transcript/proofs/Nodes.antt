@@ -8,7 +8,7 @@ use Rattle.std.specs.FinMap.{nat_cmp-IsAntisymmetric}
 use Rattle.std.proofs.lemmas.Cmp.{nat_cmp_total}
 use Rattle.std.proofs.lemmas.Bool.{cases_eq, eq-eqb, eqb-true}
 use Rattle.device_sim.specs.State.{State}
-use Rattle.mesh_sim.specs.Fates.{place_of}
+use Rattle.proof_air.specs.mesh_sim.Fates.{place_of}
 use Rattle.zw_text.specs.Line.{IsNode}
 use Rattle.zw_text.specs.declared.entry.Entry.{Entry}
 use Rattle.zw_text.specs.Transcript.{joined}
@@ -16,7 +16,7 @@ use Rattle.law_host.specs.law_transcript.Lists.{Has}
 use Rattle.law_host.specs.law_transcript.Nodes.{device_of, is_joined}
 use Rattle.law_host.specs.law_transcript.Table.{device_lines, in_order}
 use Rattle.law_host.proofs.Having.{all_has}
-use Rattle.host_model.specs.State.{HostState, node_of}
+use Rattle.proof_air.specs.host_model.State.{HostState, node_of}
 use Rattle.proof_air.specs.outside_model.Devices.{device_entries}
 use Rattle.proof_air.specs.outside_model.Results.{device_at}
 use Rattle.proof_air.specs.world_model.Table.{joined_nodes}

@@ -1,8 +1,8 @@
 -- What a host notes says no line and refuses none, and reports a value only where it hears one.
 use Rattle.std.proofs.Common.{◌≡◌, Bool, true, false}
-use Rattle.host_model.specs.State.{HostState}
-use Rattle.host_model.specs.Outs.{outs}
-use Rattle.host_model.specs.Events.{HostEvent, Accepts, Hears_value}
+use Rattle.proof_air.specs.host_model.State.{HostState}
+use Rattle.proof_air.specs.host_model.Outs.{outs}
+use Rattle.proof_air.specs.host_model.Events.{HostEvent, Accepts, Hears_value}
 use Rattle.proof_air.specs.proof_host.Entries.{notes_of}
 use Rattle.proof_spoken.proofs.HostOuts.{OwnIs, SharedAre, outs_are}
 use Rattle.proof_spoken.proofs.RoutineNotes.{notes_are}

@@ -11,8 +11,8 @@ use Rattle.zw_text.specs.declared.line.Line.{Line}
 use Rattle.law_host.specs.law_transcript.Lists.{EachAfter, shown_after}
 use Rattle.law_host.specs.law_transcript.Records.{accepted_order, order_at, orders_accepted}
 use Rattle.host_keep.specs.Kept.{Taken}
-use Rattle.host_model.specs.State.{Command}
-use Rattle.host_model.specs.Holding.{taken_as}
+use Rattle.proof_air.specs.host_model.State.{Command}
+use Rattle.proof_air.specs.host_model.Holding.{taken_as}
 use Rattle.proof_air.specs.proof_host.Laws.{MayAccept}
 use Rattle.proof_air.specs.proof_host.Tables.{taken_at, taken_by}
 use Rattle.proof_spoken.specs.Said.{AreSaid, MayAnswer}

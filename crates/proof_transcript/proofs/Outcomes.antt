@@ -15,9 +15,9 @@ use Rattle.chip_sim.specs.declared.out.ChipOut.TheVariants as chip_out
 use Rattle.device_sim.specs.State.{State}
 use Rattle.device_sim.specs.Event.{DeviceEvent, device_replies}
 use Rattle.air_frames.specs.declared.frame.Heading.TheVariants.{Homeward}
-use Rattle.mesh_sim.specs.Air.{AirState, departing, is_joined}
-use Rattle.mesh_sim.specs.Routes.{backwards}
-use Rattle.mesh_sim.specs.Steps.{sent_event, answered, answers, answered_if, answers_if}
+use Rattle.proof_air.specs.mesh_sim.Air.{AirState, departing, is_joined}
+use Rattle.proof_air.specs.mesh_sim.Routes.{backwards}
+use Rattle.proof_air.specs.mesh_sim.Steps.{sent_event, answered, answers, answered_if, answers_if}
 use Rattle.proof_air.specs.outside_model.declared.waits.Due.{Due}
 use Rattle.proof_air.specs.outside_model.State.{OuterState, Outcome, tells, and_then, each, with_chip}
 use Rattle.proof_air.specs.outside_model.Chip.{put_out, chip_does}

@@ -21,17 +21,17 @@ use Rattle.device_sim.specs.State.{State}
 use Rattle.device_sim.specs.Event.{DeviceEvent, device_replies}
 use Rattle.air_frames.specs.declared.ages.Refusal.{Refusal as RepeatRefusal}
 use Rattle.air_frames.specs.declared.ages.Refusal.TheVariants as repeat
-use Rattle.mesh_sim.specs.Air.{is_joined}
-use Rattle.mesh_sim.specs.Steps.{AirStep, answers_if, mesh_after, mesh_outs}
-use Rattle.mesh_sim.specs.Routes.{backwards}
-use Rattle.mesh_sim.specs.declared.event.AirEvent.{AirEvent}
-use Rattle.mesh_sim.specs.declared.event.AirEvent.TheVariants as air_event
+use Rattle.proof_air.specs.mesh_sim.Air.{is_joined}
+use Rattle.proof_air.specs.mesh_sim.Steps.{AirStep, answers_if, mesh_after, mesh_outs}
+use Rattle.proof_air.specs.mesh_sim.Routes.{backwards}
+use Rattle.proof_air.specs.mesh_sim.declared.event.AirEvent.{AirEvent}
+use Rattle.proof_air.specs.mesh_sim.declared.event.AirEvent.TheVariants as air_event
 use Rattle.proof_air.specs.outside_model.State.{OuterState, Outside, Outcome, each, with_chip}
 use Rattle.proof_air.specs.outside_model.Chip.{put_out, chip_does}
 use Rattle.proof_air.specs.outside_model.Air.{change_entries, sent_entries, deals}
 use Rattle.proof_air.specs.outside_model.Devices.{changes_entries, new_changes, sends, acts_at, acts_by_hand, shown_entries}
-use Rattle.proof_air.specs.outside_model.Events.{OuterEvent, Begins_line, Begins_tick, Host_writes, Host_takes, Host_notes, Host_begins, Chip_takes, Arrives, Gives as gives_due, Device_ticks, Chip_ticks, Repeats, Wakes_device, Sets_device, Shows, Clears_pipe, is_own, cleared_entries, mesh_of, steps, repeats, outcome, stamp, has_entered, ticked_entry, happens, entries}
-use Rattle.proof_spoken.proofs.Entered.{IsMark, told_by_marks, IsCleared, all_cleared, IsShown, all_shown, IsChange, change_entered, changes_entered}
+use Rattle.proof_air.specs.outside_model.Events.{OuterEvent, Begins_line, Begins_tick, Host_writes, Host_takes, Host_notes, Host_begins, Chip_takes, Arrives, Gives as gives_due, Device_ticks, Chip_ticks, Repeats, Wakes_device, Sets_device, Shows, Clears_pipe, is_own, cleared_entries, mesh_of, steps, repeats, outcome, stamp, has_entered, ticked_entry, happens, entries, IsCleared}
+use Rattle.proof_spoken.proofs.Entered.{IsMark, told_by_marks, all_cleared, IsShown, all_shown, IsChange, change_entered, changes_entered}
 use Rattle.proof_spoken.proofs.Results.{Gives, ends_go, gives_go, to_chip_goes}
 use Rattle.proof_air.proofs.Times.{outcome_time}
 

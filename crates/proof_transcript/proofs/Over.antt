@@ -7,11 +7,11 @@ use Rattle.value_store.specs.Values.{stored_of}
 use Rattle.host_keep.specs.Kept.{Kept, kept_of, node_of as kept_of_node}
 use Rattle.host_keep.specs.Legal.{AreLegal, Give}
 use Rattle.host_keep.specs.declared.record.Record.{Record}
-use Rattle.host_model.specs.State.{HostState}
-use Rattle.host_model.specs.Events.{Joins}
-use Rattle.host_model.specs.Facts.{HostFacts}
-use Rattle.host_model.specs.Holding.{HoldsAlone}
-use Rattle.host_model.specs.Opening.{opened}
+use Rattle.proof_air.specs.host_model.State.{HostState}
+use Rattle.proof_air.specs.host_model.Events.{Joins}
+use Rattle.proof_air.specs.host_model.Facts.{HostFacts}
+use Rattle.proof_air.specs.host_model.Holding.{HoldsAlone}
+use Rattle.proof_air.specs.host_model.Opening.{opened}
 use Rattle.proof_air.specs.proof_host.Facts.{Facts}
 use Rattle.proof_air.specs.world_model.State.{Machine}
 use Rattle.proof_air.specs.world_model.Events.{Event, Host_does, Restarts, OpensFrom, happens, entries, May}

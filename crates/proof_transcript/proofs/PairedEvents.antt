@@ -1,7 +1,7 @@
 -- Events in which each session that begins is followed by the start of its attempt.
 use Rattle.std.proofs.Common.{◌≡◌, ℕ, List, [], ◌∷◌, ◌++◌, map}
 use Rattle.std.specs.List.{AllByRecursion}
-use Rattle.host_model.specs.Events.{HostEvent, Begins, Starts}
+use Rattle.proof_air.specs.host_model.Events.{HostEvent, Begins, Starts}
 use Rattle.proof_air.specs.outside_model.Events.{OuterEvent}
 use Rattle.proof_air.specs.world_model.Events.{Event, Outside_does, Host_does}
 use Rattle.proof_transcript.proofs.Common.{IsNoBeginning}

@@ -4,14 +4,14 @@ use Rattle.s0_crypto.specs.declared.key_pair.Keys.{Keys}
 use Rattle.host_keep.specs.Kept.{kept_of}
 use Rattle.host_keep.specs.Legal.{AreLegal}
 use Rattle.host_keep.specs.declared.record.Record.{Record}
-use Rattle.host_model.specs.State.{HostState}
-use Rattle.host_model.specs.Events.{HostEvent}
-use Rattle.host_model.specs.After.{after}
-use Rattle.host_model.specs.May.{May as MayHost}
-use Rattle.host_model.specs.Did.{MayAll as MayAllHost, after_all, records_all, texts_of}
-use Rattle.host_model.specs.Facts.{HostFacts}
-use Rattle.host_model.specs.Holding.{HoldsAlone}
-use Rattle.host_model.specs.Opening.{opened}
+use Rattle.proof_air.specs.host_model.State.{HostState}
+use Rattle.proof_air.specs.host_model.Events.{HostEvent}
+use Rattle.proof_air.specs.host_model.After.{after}
+use Rattle.proof_air.specs.host_model.May.{May as MayHost}
+use Rattle.proof_air.specs.host_model.Did.{MayAll as MayAllHost, after_all, records_all, texts_of}
+use Rattle.proof_air.specs.host_model.Facts.{HostFacts}
+use Rattle.proof_air.specs.host_model.Holding.{HoldsAlone}
+use Rattle.proof_air.specs.host_model.Opening.{opened}
 use Rattle.proof_air.specs.world_model.State.{Machine, with_texts}
 use Rattle.proof_air.specs.world_model.Events.{Event, Outside_does, Host_does, Host_takes, Decoder_ticks, Refuses, Shows_values, Restarts, OpensFrom, happens, May}
 use Rattle.proof_air.specs.world_model.Did.{MayAll, happens_all}

@@ -7,8 +7,8 @@ use Rattle.law_host.specs.law_transcript.Commands.{is_waiting}
 use Rattle.law_host.specs.law_transcript.Nodes.{first_node, is_interviewed, is_joined}
 use Rattle.law_host.specs.law_transcript.Records.{Shows, ShowsNode, cancelled_at, final_of}
 use Rattle.host_keep.specs.Kept.{Interview, Kept, Taken, classes_said, node_of as kept_of_node}
-use Rattle.host_model.specs.State.{HostState, node_of}
-use Rattle.host_model.specs.Holding.{Holds}
+use Rattle.proof_air.specs.host_model.State.{HostState, node_of}
+use Rattle.proof_air.specs.host_model.Holding.{Holds}
 use Rattle.proof_air.specs.proof_host.Facts.{AreShown, Facts}
 use Rattle.proof_air.specs.proof_host.Laws.{HostLaws}
 use Rattle.proof_spoken.specs.proof_once.ByTable.{IsTable}

@@ -11,19 +11,19 @@ use Rattle.law_host.specs.law_transcript.Lists.{EachAfter}
 use Rattle.law_host.specs.law_transcript.Records.{cancelled_at}
 use Rattle.host_keep.specs.Legal.{AreTextsOf}
 use Rattle.host_keep.specs.declared.record.Record.{Record}
-use Rattle.host_model.specs.State.{HostState}
-use Rattle.host_model.specs.Events.{HostEvent}
-use Rattle.host_model.specs.Outs.{outs, answers}
-use Rattle.host_model.specs.Records.{records_at}
-use Rattle.host_model.specs.declared.out.HostOut.{HostOut}
-use Rattle.host_model.specs.Did.{MayAll as MayAllHost, records_all, texts_of}
-use Rattle.host_model.proofs.EventLists.{all_in_range}
+use Rattle.proof_air.specs.host_model.State.{HostState}
+use Rattle.proof_air.specs.host_model.Events.{HostEvent}
+use Rattle.proof_air.specs.host_model.Outs.{outs, answers}
+use Rattle.proof_air.specs.host_model.Records.{records_at}
+use Rattle.proof_air.specs.host_model.declared.out.HostOut.{HostOut}
+use Rattle.proof_air.specs.host_model.Did.{MayAll as MayAllHost, records_all, texts_of}
+use Rattle.proof_air.proofs.host_model_EventLists.{all_in_range}
 use Rattle.proof_air.specs.outside_model.State.{Outside}
 use Rattle.proof_air.specs.outside_model.Events.{Host_notes, entries as entries_outside, outcome}
 use Rattle.proof_air.specs.outside_model.Did.{entries_all as entries_all_outside}
 use Rattle.proof_air.specs.world_model.State.{Machine, host_does, host_entries, routed, with_texts}
 use Rattle.proof_air.specs.world_model.Events.{Event, Outside_does, Host_does, Host_takes, Decoder_ticks, Refuses, Shows_values, Restarts, fed, shown_values, happens, entries, May}
-use Rattle.host_model.proofs.Silence.{judged_silent}
+use Rattle.proof_air.proofs.Silence.{judged_silent}
 use Rattle.proof_air.specs.world_lines.Spoken.{Spoken, after_all, transcript_of}
 use Rattle.proof_air.specs.world_lines.Done.{AreDone}
 use Rattle.proof_air.specs.world_lines.Whole.{AreWhole}

@@ -8,8 +8,8 @@ use Rattle.zw_text.specs.declared.entry.Entry.TheVariants as entry
 use Rattle.zw_text.specs.Transcript.{line_after, line_last, line_of}
 use Rattle.zw_text.proofs.Views.{folded-append}
 use Rattle.law_host.specs.law_transcript.Lists.{EachAfter}
-use Rattle.mesh_sim.specs.Air.{AirState}
-use Rattle.mesh_sim.specs.Steps as mesh
+use Rattle.proof_air.specs.mesh_sim.Air.{AirState}
+use Rattle.proof_air.specs.mesh_sim.Steps as mesh
 use Rattle.air_frames.specs.Ages.{refusal_of}
 use Rattle.proof_air.specs.outside_model.State.{OuterState, Outside, Outcome}
 use Rattle.proof_air.specs.outside_model.Events.{Repeats, stamp, has_entered, outcome, repeats}

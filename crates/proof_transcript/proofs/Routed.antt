@@ -8,8 +8,8 @@ use Rattle.zw_text.specs.Transcript.{reported, reported_at}
 use Rattle.zw_text.proofs.Views.{shown-append}
 use Rattle.zw_words.specs.declared.side.Side.TheVariants.{Host as by_host}
 use Rattle.serial_frame.specs.declared.unit.Unit.{Unit as LineUnit}
-use Rattle.host_model.specs.declared.out.HostOut.{HostOut}
-use Rattle.host_model.specs.declared.out.HostOut.TheVariants.{Write, Note}
+use Rattle.proof_air.specs.host_model.declared.out.HostOut.{HostOut}
+use Rattle.proof_air.specs.host_model.declared.out.HostOut.TheVariants.{Write, Note}
 use Rattle.proof_air.specs.proof_host.Entries.{notes_of}
 use Rattle.proof_air.specs.outside_model.State.{Outside, OuterState}
 use Rattle.proof_air.specs.outside_model.Events.{Host_writes, Host_notes, Host_begins, entries as entries_outside, happens as happens_outside, outcome, stamp, ticked_entry}

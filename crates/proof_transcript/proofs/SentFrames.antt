@@ -39,15 +39,15 @@ use Rattle.chip_sim.specs.declared.out.ChipOut.{ChipOut}
 use Rattle.chip_sim.specs.declared.out.ChipOut.TheVariants.{Write, OnAir, NoRoute, AskInfo, Full}
 use Rattle.device_sim.specs.State.{State}
 use Rattle.device_sim.specs.Event.{DeviceEvent, Hears, Ticks, Wakes, Sets, device_after, device_replies}
-use Rattle.mesh_sim.specs.declared.event.AirEvent.{AirEvent}
-use Rattle.mesh_sim.specs.declared.event.AirEvent.TheVariants as air_event
-use Rattle.mesh_sim.specs.declared.fate.Fate.{Fate}
-use Rattle.mesh_sim.specs.declared.fate.Fate.TheVariants as fate
-use Rattle.mesh_sim.specs.Air.{AirState, departing, is_joined}
-use Rattle.mesh_sim.specs.Fates.{Mesh, fate_of, listener_of, place_of}
-use Rattle.mesh_sim.specs.Routes.{backwards}
-use Rattle.mesh_sim.specs.Steps.{AirStep, acknowledged, answers, answers_if, arrival_outs, arrival_outs_as, changed, done_of, landed, mesh_after, mesh_outs, outs_again, outs_at, repeat_outs, repeat_outs_by, status_of}
-use Rattle.mesh_sim.specs.Steps as mesh
+use Rattle.proof_air.specs.mesh_sim.declared.event.AirEvent.{AirEvent}
+use Rattle.proof_air.specs.mesh_sim.declared.event.AirEvent.TheVariants as air_event
+use Rattle.proof_air.specs.mesh_sim.declared.fate.Fate.{Fate}
+use Rattle.proof_air.specs.mesh_sim.declared.fate.Fate.TheVariants as fate
+use Rattle.proof_air.specs.mesh_sim.Air.{AirState, departing, is_joined}
+use Rattle.proof_air.specs.mesh_sim.Fates.{Mesh, fate_of, listener_of, place_of}
+use Rattle.proof_air.specs.mesh_sim.Routes.{backwards}
+use Rattle.proof_air.specs.mesh_sim.Steps.{AirStep, acknowledged, answers, answers_if, arrival_outs, arrival_outs_as, changed, done_of, landed, mesh_after, mesh_outs, outs_again, outs_at, repeat_outs, repeat_outs_by, status_of}
+use Rattle.proof_air.specs.mesh_sim.Steps as mesh
 use Rattle.zw_words.specs.declared.side.Side.TheVariants.{Host as by_host, Chip as by_chip}
 use Rattle.zw_text.specs.declared.entry.Entry.{Entry}
 use Rattle.zw_text.specs.declared.entry.Entry.TheVariants as entry
@@ -60,8 +60,8 @@ use Rattle.proof_air.specs.outside_model.Chip.{chip_does, put_out}
 use Rattle.proof_air.specs.outside_model.Results.{device_at}
 use Rattle.proof_air.specs.outside_model.Air.{change_at, deals, sent_entries}
 use Rattle.proof_air.specs.outside_model.Devices.{acts, acts_at, acts_by_hand, changes_entries, new_changes}
-use Rattle.proof_air.specs.outside_model.Events.{OuterEvent, Host_writes, Host_takes, Host_notes, Host_begins, Chip_takes, Arrives, Gives, Device_ticks, Chip_ticks, Repeats, Wakes_device, Sets_device, Shows, Marks_loss, Marks_change, Clears_pipe, is_own, mesh_of, outcome, repeats, steps}
-use Rattle.proof_spoken.proofs.Entered.{IsChange, IsCleared, IsShown, all_cleared, all_shown, change_entered, changes_entered}
+use Rattle.proof_air.specs.outside_model.Events.{OuterEvent, Host_writes, Host_takes, Host_notes, Host_begins, Chip_takes, Arrives, Gives, Device_ticks, Chip_ticks, Repeats, Wakes_device, Sets_device, Shows, Marks_loss, Marks_change, Clears_pipe, is_own, mesh_of, outcome, repeats, steps, IsCleared}
+use Rattle.proof_spoken.proofs.Entered.{IsChange, IsShown, all_cleared, all_shown, change_entered, changes_entered}
 use Rattle.proof_spoken.proofs.Results.{Gives as GivesOn, IsGiven, ends_go, gives_go, to_chip_goes}
 use Rattle.proof_air.proofs.Bodies.{body_is}
 use Rattle.proof_air.proofs.Judging.{JudgesNone, NoFrame, StartsSo, none_flies}

@@ -13,13 +13,13 @@ use Rattle.host_node.specs.declared.series.Series.TheVariants.{Idle, Due, Runnin
 use Rattle.host_node.specs.Search.{least_above, next_of}
 use Rattle.host_node.specs.TableState.{node_of as node_among, with_node as with_node_among}
 use Rattle.host_node.proofs.Searches.{least_is_found, no_least_is_found, what_is_least, where_is_none}
-use Rattle.host_model.specs.State.{HostState, node_of}
-use Rattle.host_model.specs.After.{after, is_full}
-use Rattle.host_model.specs.Did.{after_all}
-use Rattle.host_model.specs.May.{IsFree, IsServed}
-use Rattle.host_model.specs.Events.{HostEvent, Begins, Queues_no_more, Drops_no_more, Starts}
-use Rattle.host_model.specs.Pumping.{GivesNext, IsNext, IsNextOf, IsNextOfNodes, IsPumped, IsServedBy, LetsSleep, Pumps, Submits}
-use Rattle.host_model.proofs.Pumps.{next_works}
+use Rattle.proof_air.specs.host_model.State.{HostState, node_of}
+use Rattle.proof_air.specs.host_model.After.{after, is_full}
+use Rattle.proof_air.specs.host_model.Did.{after_all}
+use Rattle.proof_air.specs.host_model.May.{IsFree, IsServed}
+use Rattle.proof_air.specs.host_model.Events.{HostEvent, Begins, Queues_no_more, Drops_no_more, Starts}
+use Rattle.proof_air.specs.host_model.Pumping.{GivesNext, IsNext, IsNextOf, IsNextOfNodes, IsPumped, IsServedBy, LetsSleep, Pumps, Submits}
+use Rattle.proof_air.proofs.Pumps.{next_works}
 use Rattle.proof_air.specs.world_model.Events.{Event, Host_does}
 use Rattle.proof_transcript.proofs.PairedEvents.{Paired, PairedBy, StartsNext}
 

@@ -4,7 +4,7 @@ use Rattle.std.specs.Prelude.{Option, Some, None}
 use Rattle.std.specs.List.{AllByRecursion}
 use Rattle.zw_base.specs.declared.property.Setting.{Setting}
 use Rattle.device_sim.specs.State.{State}
-use Rattle.mesh_sim.specs.Fates.{place_of}
+use Rattle.proof_air.specs.mesh_sim.Fates.{place_of}
 use Rattle.zw_text.specs.declared.line.Line.{Line}
 use Rattle.zw_text.specs.declared.line.Line.TheVariants as lines
 use Rattle.zw_text.specs.declared.entry.Entry.{Entry}
@@ -16,12 +16,12 @@ use Rattle.law_host.specs.law_wire.Shown.{IsToShow, asked_to_show, to_show, to_s
 use Rattle.law_host.specs.HostLegal.{IsShown, ShowsValues, values_now}
 use Rattle.proof_air.specs.outside_model.Devices.{device_entries, kept_entries, shown_entries}
 use Rattle.proof_air.specs.outside_model.Results.{device_at}
-use Rattle.proof_air.specs.outside_model.Events.{Shows, stamp, outcome, devices_after}
+use Rattle.proof_air.specs.outside_model.Events.{Shows, stamp, outcome, devices_after, IsCleared}
 use Rattle.proof_air.specs.world_model.State.{Machine}
 use Rattle.proof_air.specs.world_model.Events.{Event, Outside_does, Shows_values, shown_values, happens, entries, May}
 use Rattle.proof_air.specs.world_model.Lines.{IsEffect}
 use Rattle.proof_spoken.specs.proof_device.Showing.{AreApart}
-use Rattle.proof_spoken.proofs.Entered.{IsMark, IsCleared}
+use Rattle.proof_spoken.proofs.Entered.{IsMark}
 use Rattle.proof_air.proofs.Lists.{each-weaker}
 use Rattle.proof_air.specs.proof_walk.Outside.{IsOfAir, IsHostNote}
 use Rattle.proof_air.specs.proof_walk.ByLine.{CoversLine, ShowsNothing, Asked, begun, Opened, TiedByLine}

@@ -34,15 +34,15 @@ use Rattle.host_keep.specs.declared.final_status.FinalStatus.TheVariants as fina
 use Rattle.host_keep.specs.Kept.{Kept, Taken, properties_for}
 use Rattle.host_orders.specs.declared.carriage.Carriage.{Carriage}
 use Rattle.host_orders.specs.Settings.{properties_of, settings}
-use Rattle.host_model.specs.State.{HostState, Command, command_at}
-use Rattle.host_model.specs.Sessions.{open_command, settings_with}
-use Rattle.host_model.specs.Ends.{PartEnd, Good, Passed_over, Bad, part_end, after_part, after_task, after_end, after_end_if, attempt_ended}
-use Rattle.host_model.specs.After.{after, confirming, failing_if, gives_up, giving, hearing, is_full, is_held, finishing, line_ticked, offering, requests_do}
-use Rattle.host_model.specs.Events.{HostEvent, Accepts, Finishes, Gives, Hears_value, Line_ticks, Node_ticks, Offers, Requests_do, Resends}
-use Rattle.host_model.specs.Facts.{HostFacts, IsCommandOf}
-use Rattle.host_model.specs.May.{May}
-use Rattle.host_model.specs.Holding.{HoldsAlone, taken_as}
-use Rattle.host_model.proofs.Values.{get-one, heard-confirming, reserved-reserving, stored-one, stored-reserving}
+use Rattle.proof_air.specs.host_model.State.{HostState, Command, command_at}
+use Rattle.proof_air.specs.host_model.Sessions.{open_command, settings_with}
+use Rattle.proof_air.specs.host_model.Ends.{PartEnd, Good, Passed_over, Bad, part_end, after_part, after_task, after_end, after_end_if, attempt_ended}
+use Rattle.proof_air.specs.host_model.After.{after, confirming, failing_if, gives_up, giving, hearing, is_full, is_held, finishing, line_ticked, offering, requests_do}
+use Rattle.proof_air.specs.host_model.Events.{HostEvent, Accepts, Finishes, Gives, Hears_value, Line_ticks, Node_ticks, Offers, Requests_do, Resends}
+use Rattle.proof_air.specs.host_model.Facts.{HostFacts, IsCommandOf}
+use Rattle.proof_air.specs.host_model.May.{May}
+use Rattle.proof_air.specs.host_model.Holding.{HoldsAlone, taken_as}
+use Rattle.proof_air.proofs.host_model_Values.{get-one, heard-confirming, reserved-reserving, stored-one, stored-reserving}
 use Rattle.proof_air.specs.proof_host.Tables.{taken_at, taken_by}
 use Rattle.proof_spoken.specs.proof_once.Tied.{KeepsOrders}
 use Rattle.proof_spoken.proofs.Orders.{push_is}

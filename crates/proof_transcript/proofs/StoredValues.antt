@@ -11,8 +11,8 @@ use Rattle.law_host.specs.law_transcript.Commands.{settings_for}
 use Rattle.law_host.specs.law_transcript.Lists.{Has}
 use Rattle.law_host.specs.law_transcript.Stores.{StoresConfirmed, node_at, store_at, stores_asked, stores_asked_at, stores_of}
 use Rattle.law_host.proofs.Having.{all_has, has_shown, shown_has}
-use Rattle.host_model.specs.State.{Command, HostState, command_at}
-use Rattle.host_model.specs.Outs.{stored_entries}
+use Rattle.proof_air.specs.host_model.State.{Command, HostState, command_at}
+use Rattle.proof_air.specs.host_model.Outs.{stored_entries}
 use Rattle.proof_air.specs.proof_host.Facts.{AreShown}
 use Rattle.proof_air.specs.proof_host.Laws.{accepted_for, number_for, numbers_for}
 use Rattle.proof_air.specs.proof_host.Stores.{StoresLaw, stores_at, stores_by}

@@ -12,9 +12,9 @@ use Rattle.zw_text.specs.Transcript.{line_last}
 use Rattle.law_host.specs.law_transcript.Answers.{MayCancel}
 use Rattle.law_host.specs.law_transcript.Commands.{is_waiting}
 use Rattle.law_host.specs.law_transcript.Lists.{EachAfter}
-use Rattle.host_model.specs.State.{HostState}
-use Rattle.host_model.specs.Events.{HostEvent, Begins, Cancels}
-use Rattle.host_model.specs.Outs.{answers}
+use Rattle.proof_air.specs.host_model.State.{HostState}
+use Rattle.proof_air.specs.host_model.Events.{HostEvent, Begins, Cancels, IsOwn}
+use Rattle.proof_air.specs.host_model.Outs.{answers, Silent}
 use Rattle.proof_air.specs.proof_host.Entries.{IsAside, entries_at}
 use Rattle.proof_air.specs.proof_host.Laws.{MayEnd}
 use Rattle.proof_air.proofs.Lists.{each-append, each-anywhere}
@@ -26,10 +26,9 @@ use Rattle.proof_air.specs.world_model.Settling.{Settles}
 use Rattle.proof_air.specs.world_model.Lines.{IsEffect, IsLineBegin}
 use Rattle.proof_air.specs.world_model.Prefixes.{IsLineBefore, SettlesPrefix, LinePart}
 use Rattle.proof_air.proofs.EventLists.{entries_all-append}
-use Rattle.host_model.proofs.Own.{IsOwn}
 use Rattle.proof_air.proofs.Pieces.{Law, Pieces, of_settling, of_settling_prefix, of_line_part}
 use Rattle.proof_air.proofs.Along.{IsAskedBy, IsOfPart, IsOfEffect, along, pieces_along, effect_along, anywhere}
-use Rattle.host_model.proofs.Silence.{Silent, judged_silent}
+use Rattle.proof_air.proofs.Silence.{judged_silent}
 use Rattle.proof_air.specs.world_lines.Spoken.{Spoken, after, entries_of, transcript_of}
 use Rattle.proof_air.specs.world_lines.Done.{AreDone, IsDone}
 use Rattle.proof_transcript.proofs.Common.{IsCommon, IsNoTaking, aside_common, event_common}

@@ -15,15 +15,15 @@ use Rattle.law_host.specs.law_transcript.Stores.{last_value}
 use Rattle.value_store.specs.Values.{stored_of}
 use Rattle.value_store.specs.declared.stored.Stored.{Stored}
 use Rattle.value_store.proofs.Keys.{same_property_laws}
-use Rattle.host_model.proofs.Values.{stored-one}
+use Rattle.proof_air.proofs.host_model_Values.{stored-one}
 use Rattle.serial_frame.specs.Stream.{Rest}
 use Rattle.serial_frame.specs.declared.item.Item.{Item}
-use Rattle.host_model.specs.State.{HostState}
-use Rattle.host_model.specs.Events.{HostEvent, Accepts, Cancels, Hears_value}
-use Rattle.host_model.specs.After.{after}
-use Rattle.host_model.specs.Outs.{outs, answers}
-use Rattle.host_model.specs.Did.{after_all, outs_all}
-use Rattle.host_model.specs.declared.out.HostOut.{HostOut}
+use Rattle.proof_air.specs.host_model.State.{HostState}
+use Rattle.proof_air.specs.host_model.Events.{HostEvent, Accepts, Cancels, Hears_value}
+use Rattle.proof_air.specs.host_model.After.{after}
+use Rattle.proof_air.specs.host_model.Outs.{outs, answers}
+use Rattle.proof_air.specs.host_model.Did.{after_all, outs_all}
+use Rattle.proof_air.specs.host_model.declared.out.HostOut.{HostOut}
 use Rattle.proof_air.specs.proof_host.Entries.{note_of, notes_of}
 use Rattle.proof_air.specs.outside_model.State.{Outside}
 use Rattle.proof_air.specs.outside_model.Events.{OuterEvent, Begins_tick, Repeats, Wakes_device, Sets_device, Shows, outcome}

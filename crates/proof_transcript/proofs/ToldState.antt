@@ -18,8 +18,8 @@ use Rattle.law_host.specs.law_transcript.Nodes.{is_joined}
 use Rattle.law_host.specs.law_transcript.Restarts.{begins_refused, is_restart, ticks_asked, ticks_of}
 use Rattle.law_host.specs.law_transcript.Stores.{last_value}
 use Rattle.host_node.specs.TableState.{node_of, with_node}
-use Rattle.host_model.specs.State.{HostState}
-use Rattle.host_model.specs.Events.{Joins as joins_host}
+use Rattle.proof_air.specs.host_model.State.{HostState}
+use Rattle.proof_air.specs.host_model.Events.{Joins as joins_host}
 use Rattle.host_node.specs.Steps.{after_join}
 use Rattle.value_store.specs.Values.{Values}
 use Rattle.host_node.specs.State.{NodeState}

@@ -19,9 +19,9 @@ use Rattle.proof_air.proofs.Lists.{each-append, each-weaker}
 use Rattle.air_frames.specs.declared.frame.Heading.TheVariants.{Outward, Homeward}
 use Rattle.air_frames.specs.Flown.{Flown}
 use Rattle.air_frames.specs.Frames.{no_frames, putting, landing}
-use Rattle.mesh_sim.specs.Air.{AirState, no_route, departing}
-use Rattle.mesh_sim.specs.Steps.{landed}
-use Rattle.mesh_sim.specs.Steps as mesh
+use Rattle.proof_air.specs.mesh_sim.Air.{AirState, no_route, departing}
+use Rattle.proof_air.specs.mesh_sim.Steps.{landed}
+use Rattle.proof_air.specs.mesh_sim.Steps as mesh
 use Rattle.proof_air.specs.outside_model.State.{OuterState, Outcome, first_outer}
 use Rattle.proof_air.specs.outside_model.Chip.{shown_via}
 use Rattle.proof_air.specs.outside_model.Events.{OuterEvent, Begins_tick, Arrives, Loses, Repeats, stamp, has_entered, outcome, steps, May as MayOutside}

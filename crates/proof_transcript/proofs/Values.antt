@@ -29,9 +29,9 @@ use Rattle.value_store.specs.declared.stored.Stored.{Stored}
 use Rattle.value_store.proofs.Keys.{key_exact, key_total, property_exact}
 use Rattle.host_keep.specs.Kept.{or_else, value_among}
 use Rattle.host_orders.specs.Settings.{properties_of}
-use Rattle.host_model.proofs.Values.{one_property}
+use Rattle.proof_air.proofs.host_model_Values.{one_property}
 use Rattle.value_store.proofs.Reserved.{tie}
-use Rattle.proof_air.specs.world_model.Table.{value_entry}
+use Rattle.proof_air.specs.host_model.Listing.{value_entry}
 use Rattle.proof_transcript.proofs.Ordered.{Agree, Sorted, in_order_has, in_order_sorted, same_shown}
 use Rattle.proof_air.proofs.Values.{same_number as same_cmp}
 

@@ -4,7 +4,7 @@ use Rattle.std.specs.List.{AllByRecursion, list_any}
 use Rattle.zw_base.specs.declared.order.Order.{Order}
 use Rattle.air_frames.specs.Ages.{refusal_of as repeat_refusal}
 use Rattle.device_sim.specs.State.{State}
-use Rattle.mesh_sim.specs.Fates.{place_of}
+use Rattle.proof_air.specs.mesh_sim.Fates.{place_of}
 use Rattle.host_orders.specs.Refusals.{refusal_of}
 use Rattle.zw_text.specs.declared.line.Line.{Line}
 use Rattle.zw_text.specs.declared.line.Line.TheVariants as lines
@@ -15,12 +15,12 @@ use Rattle.law_host.specs.law_transcript.Answers.{IsNoBadRecord, MayAnswer, befo
 use Rattle.law_host.specs.law_transcript.Commands.{is_waiting}
 use Rattle.law_host.specs.law_transcript.Nodes.{device_of, listing_of, always}
 use Rattle.law_host.specs.law_transcript.Repeats.{frame_of, refused_repeat}
-use Rattle.host_model.specs.State.{HostState, node_of}
-use Rattle.host_model.specs.After.{node_for}
+use Rattle.proof_air.specs.host_model.State.{HostState, node_of}
+use Rattle.proof_air.specs.host_model.After.{node_for}
 use Rattle.host_requests.specs.declared.task.Task.TheVariants as task
-use Rattle.host_model.specs.Events.{Queues}
-use Rattle.host_model.specs.May.{known_of as known_of_host}
-use Rattle.host_model.specs.Asking.{places_refusal, refusal_for, Waits}
+use Rattle.proof_air.specs.host_model.Events.{Queues}
+use Rattle.proof_air.specs.host_model.May.{known_of as known_of_host}
+use Rattle.proof_air.specs.host_model.Asking.{places_refusal, refusal_for, Waits}
 use Rattle.proof_air.specs.outside_model.Events.{Discovers}
 use Rattle.proof_air.specs.outside_model.Results.{device_at}
 use Rattle.proof_air.specs.world_model.State.{Machine}

@@ -9,7 +9,7 @@ use Rattle.law_host.specs.law_transcript.Nodes.{is_joined}
 use Rattle.law_host.specs.law_transcript.Restarts.{ticks_asked}
 use Rattle.law_host.specs.law_transcript.Stores.{heard_value}
 use Rattle.value_store.specs.Values.{stored_of}
-use Rattle.host_model.specs.State.{node_of}
+use Rattle.proof_air.specs.host_model.State.{node_of}
 use Rattle.proof_air.specs.world_model.State.{Machine}
 
 -- the clock counts the ticks that lines asked for; the joined nodes are node 2 and those of `join` lines that were not refused; what was heard of a

@@ -11,13 +11,14 @@ ghost use Rattle.proof_air.specs.world_lines.Whole.{AreWhole};
 
 use crate::{lines_number_frames, what_is_told};
 use host_keep::texts_give_one_thing;
-use host_model::{a_host_begins_with_what_is_kept, a_restart_keeps_what_is_held, facts_are_kept};
-use proof_air::host::laws_follow;
-use proof_air::lines_refuse_what_is_old;
-use proof_spoken::world::{lines_keep_and_ask_well, restarts_go_on, the_machine_keeps_facts};
+use proof_air::{
+    a_host_begins_with_what_is_kept, a_restart_keeps_what_is_held, facts_are_kept, laws_follow,
+    lines_refuse_what_is_old,
+};
 use proof_spoken::{
-    answers_stand_after_their_lines, interviews_give_what_is_known, lines_tell_what_nodes_list,
-    tables_are_what_was_said, tables_keep_orders,
+    answers_stand_after_their_lines, interviews_give_what_is_known, lines_keep_and_ask_well,
+    lines_tell_what_nodes_list, restarts_go_on, tables_are_what_was_said, tables_keep_orders,
+    the_machine_keeps_facts,
 };
 
 /// Over lines that are said one after another, over a keeper that tells its records and has none at first, each line has the one answer that the

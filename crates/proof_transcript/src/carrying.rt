@@ -10,8 +10,7 @@ ghost use Rattle.proof_air.specs.world_lines.Done.{AreDone};
 
 use chip_sim::rules_of_events;
 use proof_air::history_goes_on;
-use proof_spoken::serial::{hosts_write_well, units_are_judged_whole};
-use proof_spoken::world::lines_keep_and_ask_well;
+use proof_spoken::{hosts_write_well, lines_keep_and_ask_well, units_are_judged_whole};
 
 /// Over lines that are said one after another, the last of which an allocation failure may have cut short, over a keeper that tells its records and has none at
 /// first: each frame of the controller on the air carries what a SendData asks to be sent that came to the chip before, whole and with its right checksum, one

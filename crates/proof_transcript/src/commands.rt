@@ -13,13 +13,11 @@ ghost use Rattle.proof_air.specs.world_lines.Spoken.{Spoken, transcript_of};
 ghost use Rattle.proof_air.specs.world_lines.Done.{AreDone, events_of};
 ghost use Rattle.proof_spoken.specs.Restarts.{AllStartWell};
 
-use host_model::attempts_have_what_they_give;
 use host_requests::callback_ids;
-use proof_air::host::{asides_keep_facts, laws_follow};
-use proof_spoken::world::the_machine_keeps_facts;
+use proof_air::{asides_keep_facts, attempts_have_what_they_give, laws_follow};
 use proof_spoken::{
     answers_stand_after_their_lines, interviews_give_what_is_known, lines_tell_what_nodes_list,
-    tables_are_what_was_said,
+    tables_are_what_was_said, the_machine_keeps_facts,
 };
 
 /// A command is taken back only directly after a line that asks for it, and while it waits: over any lines, the last of which an allocation

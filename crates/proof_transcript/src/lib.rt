@@ -29,8 +29,12 @@ pub use frames::{
     all_frames_land_in_the_end, lines_lose_marked_frames, lines_number_frames,
     ticks_decide_each_frame,
 };
-pub use proof_air::host;
-pub use proof_spoken as spoken;
+pub use proof_air::laws_follow;
+pub use proof_spoken::{
+    answers_stand_after_their_lines, interviews_give_what_is_known, lines_tell_what_nodes_list,
+    orders_are_carried_as_said, restarts_go_on, runs_take_once, tables_are_what_was_said,
+    tables_keep_orders, the_machine_keeps_facts,
+};
 pub use records::records_are_what_is_shown;
 pub use shows::lines_show_what_is_kept;
 pub use table::{tables_are_what_is_shown, what_is_told};

@@ -11,11 +11,10 @@ ghost use Rattle.proof_transcript.specs.Records.{HasRecords};
 
 use crate::what_is_told;
 use host_keep::a_text_is_of_one_record;
-use proof_air::host::laws_follow;
-use proof_spoken::world::{lines_keep_and_ask_well, restarts_go_on, the_machine_keeps_facts};
+use proof_air::laws_follow;
 use proof_spoken::{
-    answers_stand_after_their_lines, interviews_give_what_is_known, lines_tell_what_nodes_list,
-    tables_are_what_was_said,
+    answers_stand_after_their_lines, interviews_give_what_is_known, lines_keep_and_ask_well,
+    lines_tell_what_nodes_list, restarts_go_on, tables_are_what_was_said, the_machine_keeps_facts,
 };
 
 /// Over lines that were run whole, over a keeper that tells its records and has none at first: its records are legal, and give exactly the orders that were

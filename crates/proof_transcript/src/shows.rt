@@ -15,12 +15,10 @@ ghost use Rattle.proof_air.specs.world_lines.Whole.{AreWhole};
 ghost use Rattle.proof_spoken.specs.proof_device.Showing.{AreApart};
 
 use crate::what_is_told;
-use proof_air::host::laws_follow;
-use proof_spoken::device::changes_are_shown;
-use proof_spoken::world::the_machine_keeps_facts;
+use proof_air::laws_follow;
 use proof_spoken::{
-    answers_stand_after_their_lines, interviews_give_what_is_known, lines_tell_what_nodes_list,
-    runs_have_their_tables,
+    answers_stand_after_their_lines, changes_are_shown, interviews_give_what_is_known,
+    lines_tell_what_nodes_list, runs_have_their_tables, the_machine_keeps_facts,
 };
 
 /// Over lines that are said one after another, the last of which an allocation failure may have cut short, over a keeper that tells its records and has none at

@@ -15,13 +15,11 @@ ghost use Rattle.proof_transcript.specs.Told.{IsTold};
 ghost use Rattle.proof_air.specs.world_lines.Whole.{AreWhole};
 
 use host_keep::texts_give_one_thing;
-use host_model::a_restart_keeps_what_is_held;
 use host_node::a_restart_needs_the_records_alone;
-use proof_air::host::laws_follow;
-use proof_spoken::world::{lines_keep_and_ask_well, restarts_go_on, the_machine_keeps_facts};
+use proof_air::{a_restart_keeps_what_is_held, laws_follow};
 use proof_spoken::{
-    answers_stand_after_their_lines, interviews_give_what_is_known, lines_tell_what_nodes_list,
-    runs_have_their_tables,
+    answers_stand_after_their_lines, interviews_give_what_is_known, lines_keep_and_ask_well,
+    lines_tell_what_nodes_list, restarts_go_on, runs_have_their_tables, the_machine_keeps_facts,
 };
 
 /// Over lines that were run whole, over a keeper that tells its records and has none at first: the clock counts the ticks that lines asked

@@ -183,10 +183,10 @@ may_follow unit n = record {
 -- ---- frames
 
 -- what is brought by what is read
-abbrev brought_of : Result Notice BodyFault → List Carried
+abbrev pub brought_of : Result Notice BodyFault → List Carried
 brought_of read = flat_map bringing_of (read_well read)
 
-text_brings : (func : ℕ) (body : List ℕ) (sum : ℕ) → bringing_in (framed (0 ∷ func ∷ body) sum) ≡ brought_of (notice_of func body)
+pub text_brings : (func : ℕ) (body : List ℕ) (sum : ℕ) → bringing_in (framed (0 ∷ func ∷ body) sum) ≡ brought_of (notice_of func body)
 text_brings func body sum = ap (λ (b : List ℕ). brought_of (notice_of func b)) (body_is body func sum)
 
 -- the payload of an ApplicationCommandHandler is of its node
@@ -228,7 +228,7 @@ frame_all h f events is = kind_all h f.kind f.func f.body (checksum (kind_code f
 
 -- ---- a payload that tells a Wake Up Notification and nothing else
 
-abbrev wakes_by : List Carried → Bool
+abbrev pub wakes_by : List Carried → Bool
 wakes_by brought = list_any (λ carried. tells_waking (heard_at carried.payload)) brought
 
 abbrev Wakes : List HostEvent → Type 0

@@ -2,7 +2,7 @@
 use Rattle.std.proofs.Common.{◌≡◌, ℕ, Bool, true, false, inl, inr, List, [], ◌∷◌, ◌++◌, refl, sym, ap, ◌∙◌, subst, append-nil, append_assoc}
 use Rattle.std.specs.List.{AllByRecursion}
 use Rattle.std.proofs.lemmas.Bool.{and_right, both_ways}
-use Rattle.zw_base.proofs.Each.{all-append, all-weaker}
+use Rattle.zw_base.proofs.Each.{all-weaker}
 use Rattle.serial_frame.specs.Items.{unit_text}
 use Rattle.serial_frame.specs.Frame.{FrameParts}
 use Rattle.serial_frame.specs.declared.item.Item.{Item}
@@ -26,21 +26,21 @@ use Rattle.proof_alone.specs.law_time.Waking.{may_wake}
 use Rattle.host_requests.specs.Events.{RequestsEvent}
 use Rattle.host_requests.specs.Events.RequestsEvent.{Fails as request_fails, IsSent as request_is_sent}
 use Rattle.proof_alone.specs.host_model.State.{HostState}
-use Rattle.proof_alone.specs.host_model.Events.{HostEvent, Accepts, Cancels, Hears}
+use Rattle.proof_alone.specs.host_model.Events.{HostEvent, Accepts, Cancels, Hears, IsOwn}
 use Rattle.proof_alone.specs.host_model.After.{after, gives_up, is_busy}
 use Rattle.proof_alone.specs.host_model.Outs.{answer_to, answers, outs}
 use Rattle.proof_alone.specs.host_model.Taking.{IsFollowed, told_if}
 use Rattle.proof_alone.specs.host_model.Ticking.{tick_events}
-use Rattle.proof_alone.proofs.Own.{IsOwn, sleepers_own, submitted_own, tick_own}
+use Rattle.proof_alone.proofs.Own.{sleepers_own, submitted_own, tick_own}
 use Rattle.proof_alone.proofs.Submitted.{next_is as submitted_is, no_more_is}
 use Rattle.proof_alone.specs.world_model.Events.{shown_values}
 use Rattle.proof_alone.specs.State.{HostMachine, done}
 use Rattle.proof_alone.specs.Steps.{AreTold, AsksNothing, DidNotCome, IsAskedBy, IsOfOthers, IsOfUnit, Step, Tells, Comes, Misses, Says, Says_nothing, Asks, Refuses, Shows, Restarts, Begins_tick, Numbers, Judges, Does, entries, happens}
-use Rattle.proof_alone.specs.Phases.{Phase, Resting, Asked, Risen, Ticking, Open, Behind, Sleeping, Submitting, IsBetween, IsJudgedNow, IsNumbered, May, Turns}
+use Rattle.proof_alone.specs.Phases.{Phase, Resting, Asked, Risen, Ticking, Open, Behind, Sleeping, Submitting, IsBetween, IsJudgedNow, IsNumbered, May, Turns, GoesBy}
 use Rattle.proof_alone.specs.Runs.{Walk}
-use Rattle.proof_waking.specs.Judged.{AfterWords, IsBehindFrame, IsOfRequest, KnowsJudged, Settled, TieFrames, TieJudged, frames_of}
+use Rattle.proof_waking.specs.Judged.{AfterWords, IsBehindFrame, IsOfRequest, KnowsJudged, Settled, TieFrames, TieJudged, frames_of, IsElse}
 use Rattle.proof_waking.proofs.Apart.{IsApart, acknowledged_frames, anew_frames, apart_frames, apart_judged, come_frames, missed_frames, refused_frames, said_frames}
-use Rattle.proof_waking.proofs.Parts.{IsNoWaking, IsStill, mark_still, own_told, request_told}
+use Rattle.proof_waking.proofs.Parts.{IsNoWaking, IsStill, mark_still, own_told, request_told, unit_told}
 use Rattle.proof_waking.proofs.Settling.{all_apart, behind_frames, behind_stands, event_behind, mark_stands, may_stand, owes_settled, settled_more, still_stand, unfollowed}
 
 abbrev Stands : List Entry → List Entry → Type 0
@@ -255,7 +255,7 @@ other_goes past m item rest behind told same all requests rests =
     let got = still_goes past told rest all (tied past rest (record { done = tie.done; come = come ∙ ap (λ (l : List (List ℕ)). tie.done ++ l) same; count = tie.count }) rests.settled) in
     (got.0, (got.1.frames, inr (requests, got.1.settled)))
 
-heard_if : (b : Bool) (event : RequestsEvent) (events : List HostEvent) → events ≡ told_if b event → AllByRecursion IsOfRequest events
+pub heard_if : (b : Bool) (event : RequestsEvent) (events : List HostEvent) → events ≡ told_if b event → AllByRecursion IsOfRequest events
 heard_if true event events is = subst (AllByRecursion IsOfRequest) (sym is) (tt, tt)
 heard_if false event events is = subst (AllByRecursion IsOfRequest) (sym is) tt
 
@@ -264,12 +264,10 @@ none_told told is = subst (AllByRecursion IsStill) (sym is) tt
 
 -- a NAK is no acknowledgement
 nak_told : (told : List Entry) → AreTold (answer_to (refused_item (BadKind 0))) told → AllByRecursion IsStill told
-nak_told told (marks, rest, is, all, none) =
-    subst (AllByRecursion IsStill) (sym is)
-    ((refl, tt), all-append IsStill marks rest (all-weaker IsOfUnit IsStill mark_still marks all) (none_told rest none))
+nak_told told are = unit_told IsStill mark_still Nak told (refl, tt) are
 
 -- what became of the acknowledgement
-unit_mark : (e : Entry) → IsOfUnit e → is_mark e ≡ true
+pub unit_mark : (e : Entry) → IsOfUnit e → is_mark e ≡ true
 unit_mark (entry.Dropped Host) mark = refl
 unit_mark (entry.Garbled Host unit) mark = refl
 unit_mark (entry.Overrun Host) mark = refl
@@ -281,7 +279,7 @@ unit_after (entry.Garbled Host unit) mark = refl
 unit_after (entry.Overrun Host) mark = refl
 unit_after e mark = absurd mark
 
-units_after : (marks : List Entry) → AllByRecursion IsOfUnit marks → folded after_step true marks ≡ true
+pub units_after : (marks : List Entry) → AllByRecursion IsOfUnit marks → folded after_step true marks ≡ true
 units_after [] all = refl
 units_after (e ∷ marks) all = ap (λ (b : Bool). folded after_step b marks) (unit_after e all.0) ∙ units_after marks all.1
 
@@ -443,3 +441,16 @@ judged_walk = record { step = step_goes; turn = turn_goes }
 
 pub first_judged : (m : HostMachine) → m.came ≡ [] → KnowsJudged Resting [] m
 first_judged m none = tied [] m.came (record { done = []; come = ap frames_of (sym none); count = refl }) (unfollowed [] refl)
+
+-- ---- phases but the one where a line is asked
+
+pub between_else : (here : Phase) → IsBetween here → IsElse here
+between_else (Asked line) between = absurd between
+between_else here between = tt
+
+pub by_else : (here next : Phase) (h : HostState) (event : HostEvent) → GoesBy here h event next → IsElse here × IsElse next
+by_else (Ticking (first ∷ left)) next h event goes = (tt, subst IsElse (sym goes.1) tt)
+by_else (Behind (first ∷ left)) next h event goes = (tt, subst IsElse (sym goes.1) tt)
+by_else Sleeping next h event (node, wants, is, next_is) = (tt, subst IsElse (sym next_is) tt)
+by_else Submitting next h event goes = (tt, subst IsElse (sym goes.1) tt)
+by_else here next h event goes = absurd goes

@@ -29,3 +29,7 @@ pub use Rattle.proof_alone.proofs.CourseSteps
 pub use Rattle.proof_alone.proofs.ArrivedFrames
 pub use Rattle.proof_alone.proofs.Arrivals
 pub use Rattle.proof_alone.proofs.Lists
+pub use Rattle.proof_alone.proofs.proof_line_Hosting
+pub use Rattle.host_model.proofs.Own
+pub use Rattle.host_model.proofs.OpenSessions
+pub use Rattle.host_model.proofs.Submitted

@@ -1,11 +1,13 @@
 -- What a host puts out in each part: of itself, and behind an item.
-use Rattle.std.proofs.Common.{◌≡◌, ℕ, List, [], ◌∷◌, ◌++◌, refl, sym, ◌∙◌, subst}
-use Rattle.std.specs.Prelude.{Option, Some, None}
+use Rattle.std.proofs.Common.{◌≡◌, ℕ, List, [], ◌∷◌, ◌++◌, refl, sym, ◌∙◌, subst, ap, append-nil}
 use Rattle.std.specs.List.{AllByRecursion}
 use Rattle.zw_base.proofs.Each.{all-append, all-weaker}
-use Rattle.serial_frame.specs.Frame.{FrameParts}
-use Rattle.serial_frame.specs.declared.unit.Unit.TheVariants.{Framed}
-use Rattle.serial_link.specs.State.{copy_due, tick_side}
+use Rattle.serial_frame.specs.Items.{unit_text}
+use Rattle.serial_frame.specs.declared.unit.Unit.{Unit as LineUnit}
+use Rattle.serial_frame.specs.declared.unit.Unit.TheVariants.{Ack, Nak, Can, Framed}
+use Rattle.serial_frame.specs.declared.item.Item.{Item}
+use Rattle.serial_frame.specs.declared.item.Item.TheVariants.{Good, Refused}
+use Rattle.serial_frame.specs.declared.item.Refusal.TheVariants.{Stray, BadLength, BadSum, BadKind, Aborted}
 use Rattle.zw_words.specs.declared.side.Side.TheVariants.{Host}
 use Rattle.zw_text.specs.declared.entry.Entry.{Entry}
 use Rattle.zw_text.specs.declared.entry.Entry.TheVariants as entry
@@ -13,16 +15,19 @@ use Rattle.host_node.specs.Steps.{tick_end}
 use Rattle.proof_alone.specs.host_model.State.{HostState, command_at, node_of}
 use Rattle.proof_alone.specs.host_model.Sessions.{open_command, settings_with}
 use Rattle.proof_alone.specs.host_model.Ends.{attempt_entries}
-use Rattle.proof_alone.specs.host_model.After.{gives_up, is_full, is_held, line_ticked}
-use Rattle.proof_alone.specs.host_model.Events.{HostEvent, Requests_do, Interviews, Interview_unkept, Unreads, Is_unkept, Reports_old, Works, Finishes, Offers, Gives, Spends, Spends_unread, Takes_nonce, Notifies, Resends, Hears_value, Has_no_room, Line_ticks, Node_ticks, Queues_no_more, Drops_no_more, Submits_abort, Submits_front, Starts, Gives_text, Gives_segment, Begins, Begin_unkept}
-use Rattle.proof_alone.specs.host_model.Outs.{copy_out, dropped_if, failing_entries, held_entries, noted, outs, request_entries, stored_entries}
+use Rattle.proof_alone.specs.host_model.After.{is_full, is_held}
+use Rattle.proof_alone.specs.host_model.Events.{HostEvent, Accepts, Hears, Requests_do, Interviews, Interview_unkept, Unreads, Is_unkept, Reports_old, Finishes, Offers, Gives, Spends_unread, Notifies, Resends, Hears_value, Has_no_room, Line_ticks, Node_ticks, Queues_no_more, Drops_no_more, Submits_abort, Submits_front, Starts, Gives_text, Gives_segment, Begins, Begin_unkept, IsOwn}
+use Rattle.proof_alone.specs.host_model.Outs.{answer_to, dropped_if, held_entries, noted, outs, request_entries, stored_entries}
 use Rattle.proof_alone.specs.host_model.declared.out.HostOut.{HostOut}
 use Rattle.proof_alone.specs.host_model.declared.out.HostOut.TheVariants.{Note, Write}
-use Rattle.proof_alone.proofs.Own.{IsOwn}
-use Rattle.proof_alone.proofs.HostOuts.{OutsAre, SharedAre, outs_are}
+use Rattle.proof_alone.proofs.HostOuts.{OutsAre, OwnIs, SharedAre, outs_are}
 use Rattle.proof_alone.specs.Steps.{AreTold, IsOfUnit}
+pub use Rattle.proof_alone.proofs.proof_line_Hosting.{HearsNothing, IsFrameOr, next_nothing, no_more_nothing, puts_frames_or}
 use Rattle.proof_waking.specs.Judged.{IsOfRequest}
-use Rattle.proof_waking.proofs.Apart.{IsApart}
+use Rattle.proof_alone.specs.proof_walk.Outside.{IsHostNote}
+use Rattle.proof_alone.proofs.Apart.{AreOfLine, told_are}
+use Rattle.proof_alone.proofs.HostNotes.{NoteOuts, all_outs_note}
+use Rattle.proof_waking.proofs.Apart.{IsApart, IsWordless}
 use Rattle.proof_waking.proofs.Followed.{MayFollow}
 
 -- ---- entries
@@ -83,50 +88,116 @@ noted_shared = record {
   full = λ n. tt;
 }
 
--- ---- of itself
+-- ---- what is told
 
--- it writes frames alone
-abbrev IsFramed : HostOut → Type 0
-IsFramed (Write (Framed f)) = Unit {0}
-IsFramed (Write unit) = ⊥
-IsFramed (Note e) = Unit {0}
+pub event_notes : (h : HostState) (event : HostEvent) → NoteOuts (outs h event)
+event_notes h event = subst NoteOuts (append-nil (outs h event)) (all_outs_note h (event ∷ []))
 
--- it writes nothing
+note_wordless : (e : Entry) → IsHostNote e → IsWordless e
+note_wordless (entry.Said words) note = absurd note
+note_wordless (entry.Refused refusal) note = absurd note
+note_wordless e note = tt
+
+line_wordless : AreOfLine IsWordless
+line_wordless = record { written = λ side text. tt; dropped = λ side. tt; garbled = λ side text. tt; overrun = λ side. tt }
+
+pub told_wordless : (h : HostState) (event : HostEvent) (told : List Entry) → AreTold (outs h event) told → AllByRecursion IsWordless told
+told_wordless h event told are = told_are IsWordless line_wordless note_wordless (outs h event) told (event_notes h event) are
+
+-- ---- where nothing is written
+
 abbrev pub IsNote : HostOut → Type 0
 IsNote (Write unit) = ⊥
 IsNote (Note e) = Unit {0}
 
-noted_notes : (told : List Entry) → AllByRecursion IsNote (noted told)
+pub noted_notes : (told : List Entry) → AllByRecursion IsNote (noted told)
 noted_notes [] = tt
 noted_notes (e ∷ told) = (tt, noted_notes told)
 
-note_framed : (out : HostOut) → IsNote out → IsFramed out
-note_framed (Write unit) note = absurd note
-note_framed (Note e) note = tt
+abbrev pub WritesNothing : HostEvent → Type 0
+WritesNothing (Hears item) = ⊥
+WritesNothing Line_ticks = ⊥
+WritesNothing Submits_abort = ⊥
+WritesNothing Submits_front = ⊥
+WritesNothing (Starts n plan more payload) = ⊥
+WritesNothing (Gives_text n payload) = ⊥
+WritesNothing (Gives_segment n more payload) = ⊥
+WritesNothing event = Unit {0}
 
-noted_framed : (told : List Entry) → AllByRecursion IsFramed (noted told)
-noted_framed told = all-weaker IsNote IsFramed note_framed (noted told) (noted_notes told)
+pub writes_nothing : (h : HostState) (event : HostEvent) → WritesNothing event → AllByRecursion IsNote (outs h event)
+writes_nothing h (Hears item) nothing = absurd nothing
+writes_nothing h Line_ticks nothing = absurd nothing
+writes_nothing h Submits_abort nothing = absurd nothing
+writes_nothing h Submits_front nothing = absurd nothing
+writes_nothing h (Starts n plan more payload) nothing = absurd nothing
+writes_nothing h (Gives_text n payload) nothing = absurd nothing
+writes_nothing h (Gives_segment n more payload) nothing = absurd nothing
+writes_nothing h (Requests_do event moment) nothing = noted_notes (request_entries h event)
+writes_nothing h (Interviews n listens classes update) nothing = (tt, tt)
+writes_nothing h (Interview_unkept n update) nothing = (tt, tt)
+writes_nothing h (Unreads n payload) nothing = (tt, tt)
+writes_nothing h (Is_unkept n) nothing = (tt, tt)
+writes_nothing h (Reports_old n id) nothing = (tt, tt)
+writes_nothing h (Finishes n session id command status wake_request) nothing =
+    (tt, noted_notes (stored_entries n (settings_with status (command_at h.commands command)) ++ held_entries n (is_held h n wake_request)))
+writes_nothing h (Offers n) nothing = noted_notes (dropped_if (is_full h) n)
+writes_nothing h (Gives n drawn) nothing = noted_notes (dropped_if (is_full h) n)
+writes_nothing h (Spends_unread n payload) nothing = (tt, tt)
+writes_nothing h (Notifies n) nothing = (tt, tt)
+writes_nothing h (Resends n payload) nothing = noted_notes (dropped_if (is_full h) n)
+writes_nothing h (Hears_value n setting) nothing = (tt, tt)
+writes_nothing h (Has_no_room n property) nothing = (tt, tt)
+writes_nothing h (Node_ticks n) nothing = noted_notes (attempt_entries n (tick_end (node_of h n)) (open_command (node_of h n)))
+writes_nothing h (Drops_no_more n) nothing = (tt, tt)
+writes_nothing h (Begins n session command) nothing = (tt, tt)
+writes_nothing h (Begin_unkept n) nothing = (tt, tt)
+writes_nothing h event nothing = tt
 
-copy_framed : (copy : Option FrameParts) → AllByRecursion IsFramed (copy_out copy)
-copy_framed None = tt
-copy_framed (Some f) = (tt, tt)
+-- nor does a request or an attempt end
+abbrev pub NotesAlone : HostEvent → Type 0
+NotesAlone (Requests_do event moment) = ⊥
+NotesAlone (Node_ticks n) = ⊥
+NotesAlone event = WritesNothing event
 
-own_framed : (h : HostState) (event : HostEvent) → IsOwn event → AllByRecursion IsFramed (outs h event)
-own_framed h Line_ticks own =
-    let told : List Entry = failing_entries (gives_up h.side.turn (tick_side h.side).turn) (line_ticked h) in
-    all-append IsFramed (copy_out (copy_due h.side.turn)) (noted told) (copy_framed (copy_due h.side.turn)) (noted_framed told)
-own_framed h (Requests_do event moment) own = noted_framed (request_entries h event)
-own_framed h (Node_ticks n) own = noted_framed (attempt_entries n (tick_end (node_of h n)) (open_command (node_of h n)))
-own_framed h (Queues_no_more n) own = tt
-own_framed h (Drops_no_more n) own = (tt, tt)
-own_framed h Submits_abort own = (tt, tt)
-own_framed h Submits_front own = (tt, tt)
-own_framed h (Starts n plan more payload) own = (tt, tt)
-own_framed h (Gives_text n payload) own = (tt, tt)
-own_framed h (Gives_segment n more payload) own = (tt, tt)
-own_framed h (Begins n session command) own = (tt, tt)
-own_framed h (Begin_unkept n) own = (tt, tt)
-own_framed h event own = absurd own
+pub alone_writes : (event : HostEvent) → NotesAlone event → WritesNothing event
+alone_writes (Requests_do event moment) alone = absurd alone
+alone_writes (Node_ticks n) alone = absurd alone
+alone_writes event alone = alone
+
+-- what is told there is what is noted
+pub noted_told : (notes told : List Entry) → AreTold (noted notes) told → told ≡ notes
+noted_told [] told is = is
+noted_told (e ∷ notes) told (rest, is, more) = is ∙ ap (λ (l : List Entry). e ∷ l) (noted_told notes rest more)
+
+pub notes_told : (Is : Entry → Type 0) (puts : List HostOut) (told : List Entry) → AllByRecursion IsNote puts → OutsAre Is puts → AreTold puts told → AllByRecursion Is told
+notes_told Is [] told notes are is = subst (AllByRecursion Is) (sym is) tt
+notes_told Is (Write unit ∷ puts) told notes are is = absurd notes.0
+notes_told Is (Note e ∷ puts) told notes are (rest, is, more) = subst (AllByRecursion Is) (sym is) (are.0, notes_told Is puts rest notes.1 are.1 more)
+
+-- where one unit is written alone, it and what became of it
+pub unit_told : (Is : Entry → Type 0) → ((e : Entry) → IsOfUnit e → Is e) → (unit : LineUnit) (told : List Entry) → Is (entry.Written Host (unit_text unit)) → AreTold (Write unit ∷ []) told
+    → AllByRecursion Is told
+unit_told Is mark unit told written (marks, rest, is, all, none) =
+    subst (AllByRecursion Is) (sym is) (written, all-append Is marks rest (all-weaker IsOfUnit Is mark marks all) (subst (AllByRecursion Is) (sym none) tt))
+
+-- an item is answered by an acknowledgement or a denial, or not
+pub item_told : (Is : List Entry → Type 0) → ((told : List Entry) → AreTold (Write Ack ∷ []) told → Is told) → ((told : List Entry) → AreTold (Write Nak ∷ []) told → Is told)
+    → Is [] → (item : Item) (told : List Entry) → AreTold (answer_to item) told → Is told
+item_told Is acked denied none (Good (Framed f)) told are = acked told are
+item_told Is acked denied none (Good Ack) told are = subst Is (sym are) none
+item_told Is acked denied none (Good Nak) told are = subst Is (sym are) none
+item_told Is acked denied none (Good Can) told are = subst Is (sym are) none
+item_told Is acked denied none (Refused (BadSum want got)) told are = denied told are
+item_told Is acked denied none (Refused (BadKind x)) told are = denied told are
+item_told Is acked denied none (Refused (Stray x)) told are = subst Is (sym are) none
+item_told Is acked denied none (Refused (BadLength n)) told are = subst Is (sym are) none
+item_told Is acked denied none (Refused Aborted) told are = subst Is (sym are) none
+
+-- ---- of itself
+
+own_hears : (event : HostEvent) → IsOwn event → HearsNothing event
+own_hears (Hears item) own = absurd own
+own_hears event own = tt
 
 own_still : (h : HostState) (event : HostEvent) → IsOwn event → OutsAre IsStill (outs h event)
 own_still h Line_ticks own = outs_are IsStill still_shared h Line_ticks tt
@@ -150,77 +221,56 @@ mark_still (entry.Garbled Host unit) mark = (tt, tt)
 mark_still (entry.Overrun Host) mark = (tt, tt)
 mark_still e mark = absurd mark
 
-told_still : (puts : List HostOut) (told : List Entry) → AllByRecursion IsFramed puts → OutsAre IsStill puts → AreTold puts told → AllByRecursion IsStill told
-told_still [] told framed are is = subst (AllByRecursion IsStill) (sym is) tt
-told_still (Note e ∷ puts) told framed are (rest, is, more) = subst (AllByRecursion IsStill) (sym is) (are.0, told_still puts rest framed.1 are.1 more)
-told_still (Write (Framed f) ∷ puts) told framed are (marks, rest, is, all, more) =
+told_still : (puts : List HostOut) (told : List Entry) → AllByRecursion (IsFrameOr IsStill) puts → AreTold puts told → AllByRecursion IsStill told
+told_still [] told are is = subst (AllByRecursion IsStill) (sym is) tt
+told_still (Note e ∷ puts) told are (rest, is, more) = subst (AllByRecursion IsStill) (sym is) (are.0, told_still puts rest are.1 more)
+told_still (Write (Framed f) ∷ puts) told are (marks, rest, is, all, more) =
     subst (AllByRecursion IsStill) (sym is)
-    ((refl, tt), all-append IsStill marks rest (all-weaker IsOfUnit IsStill mark_still marks all) (told_still puts rest framed.1 are.1 more))
-told_still (Write unit ∷ puts) told framed are is = absurd framed.0
+    ((refl, tt), all-append IsStill marks rest (all-weaker IsOfUnit IsStill mark_still marks all) (told_still puts rest are.1 more))
+told_still (Write unit ∷ puts) told are is = absurd are.0
 
 pub own_told : (h : HostState) (event : HostEvent) (told : List Entry) → IsOwn event → AreTold (outs h event) told → AllByRecursion IsStill told
-own_told h event told own is = told_still (outs h event) told (own_framed h event own) (own_still h event own) is
+own_told h event told own is = told_still (outs h event) told (puts_frames_or IsStill h event (own_hears event own) (own_still h event own)) is
 
 -- the request under way hears of something
 pub request_told : (h : HostState) (event : HostEvent) (told : List Entry) → IsOfRequest event → AreTold (outs h event) told → AllByRecursion IsStill told
 request_told h (Requests_do event moment) told of_it is =
-    told_still (outs h (Requests_do event moment)) told (noted_framed (request_entries h event)) (outs_are IsStill still_shared h (Requests_do event moment) tt) is
+    notes_told IsStill (outs h (Requests_do event moment)) told (writes_nothing h (Requests_do event moment) tt) (outs_are IsStill still_shared h (Requests_do event moment) tt) is
 request_told h event told of_it is = absurd of_it
 
 -- ---- behind a frame
 
-pub follow_notes : (unit : List ℕ) (h : HostState) (event : HostEvent) → MayFollow unit event → AllByRecursion IsNote (outs h event)
-follow_notes unit h (Notifies n) may = (tt, tt)
-follow_notes unit h (Requests_do event moment) may = noted_notes (request_entries h event)
-follow_notes unit h (Interviews n listens classes update) may = (tt, tt)
-follow_notes unit h (Interview_unkept n update) may = (tt, tt)
-follow_notes unit h (Unreads n payload) may = (tt, tt)
-follow_notes unit h (Is_unkept n) may = (tt, tt)
-follow_notes unit h (Reports_old n id) may = (tt, tt)
-follow_notes unit h (Works n id) may = tt
-follow_notes unit h (Finishes n session id command status wake_request) may =
-    (tt, noted_notes (stored_entries n (settings_with status (command_at h.commands command)) ++ held_entries n (is_held h n wake_request)))
-follow_notes unit h (Offers n) may = noted_notes (dropped_if (is_full h) n)
-follow_notes unit h (Gives n drawn) may = noted_notes (dropped_if (is_full h) n)
-follow_notes unit h (Spends n) may = tt
-follow_notes unit h (Spends_unread n payload) may = (tt, tt)
-follow_notes unit h (Takes_nonce n seen text) may = tt
-follow_notes unit h (Resends n payload) may = noted_notes (dropped_if (is_full h) n)
-follow_notes unit h (Hears_value n setting) may = (tt, tt)
-follow_notes unit h (Has_no_room n property) may = (tt, tt)
-follow_notes unit h event may = absurd may
+follow_writes : (unit : List ℕ) (event : HostEvent) → MayFollow unit event → WritesNothing event
+follow_writes unit (Hears item) may = absurd may
+follow_writes unit Line_ticks may = absurd may
+follow_writes unit Submits_abort may = absurd may
+follow_writes unit Submits_front may = absurd may
+follow_writes unit (Starts n plan more payload) may = absurd may
+follow_writes unit (Gives_text n payload) may = absurd may
+follow_writes unit (Gives_segment n more payload) may = absurd may
+follow_writes unit event may = tt
 
-follow_noted : (unit : List ℕ) (h : HostState) (event : HostEvent) → MayFollow unit event → OutsAre IsNoted (outs h event)
-follow_noted unit h (Notifies n) may = (tt, tt)
-follow_noted unit h (Requests_do event moment) may = outs_are IsNoted noted_shared h (Requests_do event moment) tt
-follow_noted unit h (Interviews n listens classes update) may = (tt, tt)
-follow_noted unit h (Interview_unkept n update) may = (tt, tt)
-follow_noted unit h (Unreads n payload) may = (tt, tt)
-follow_noted unit h (Is_unkept n) may = (tt, tt)
-follow_noted unit h (Reports_old n id) may = (tt, tt)
-follow_noted unit h (Works n id) may = tt
-follow_noted unit h (Finishes n session id command status wake_request) may = outs_are IsNoted noted_shared h (Finishes n session id command status wake_request) tt
-follow_noted unit h (Offers n) may = outs_are IsNoted noted_shared h (Offers n) tt
-follow_noted unit h (Gives n drawn) may = outs_are IsNoted noted_shared h (Gives n drawn) tt
-follow_noted unit h (Spends n) may = tt
-follow_noted unit h (Spends_unread n payload) may = (tt, tt)
-follow_noted unit h (Takes_nonce n seen text) may = tt
-follow_noted unit h (Resends n payload) may = outs_are IsNoted noted_shared h (Resends n payload) tt
-follow_noted unit h (Hears_value n setting) may = (tt, tt)
-follow_noted unit h (Has_no_room n property) may = (tt, tt)
-follow_noted unit h event may = absurd may
+pub follow_notes : (unit : List ℕ) (h : HostState) (event : HostEvent) → MayFollow unit event → AllByRecursion IsNote (outs h event)
+follow_notes unit h event may = writes_nothing h event (follow_writes unit event may)
+
+follow_own : (unit : List ℕ) (event : HostEvent) → MayFollow unit event → OwnIs IsNoted event
+follow_own unit (Accepts order carriage) may = absurd may
+follow_own unit (Begins n session command) may = absurd may
+follow_own unit event may = tt
 
 -- what is noted is told as it is put out
 pub record IsNotedSo (puts : List HostOut) (told : List Entry) : Type 0 where
   pub noted_are : AllByRecursion IsNoted told
   pub none : told ≡ [] → puts ≡ []
 
-notes_told : (puts : List HostOut) (told : List Entry) → AllByRecursion IsNote puts → OutsAre IsNoted puts → AreTold puts told → IsNotedSo puts told
-notes_told [] told notes are is = record { noted_are = subst (AllByRecursion IsNoted) (sym is) tt; none = λ empty. refl }
-notes_told (Write unit ∷ puts) told notes are is = absurd notes.0
-notes_told (Note e ∷ puts) told notes are (rest, is, more) =
-    let after = notes_told puts rest notes.1 are.1 more in
-    record { noted_are = subst (AllByRecursion IsNoted) (sym is) (are.0, after.noted_are); none = λ empty. absurd (let bad : e ∷ rest ≡ [] = sym is ∙ empty in cc) }
+none_put : (puts : List HostOut) (told : List Entry) → AllByRecursion IsNote puts → AreTold puts told → told ≡ [] → puts ≡ []
+none_put [] told notes is empty = refl
+none_put (Write unit ∷ puts) told notes is empty = absurd notes.0
+none_put (Note e ∷ puts) told notes (rest, is, more) empty = absurd (let bad : e ∷ rest ≡ [] = sym is ∙ empty in cc)
 
 pub follow_told : (unit : List ℕ) (h : HostState) (event : HostEvent) (told : List Entry) → MayFollow unit event → AreTold (outs h event) told → IsNotedSo (outs h event) told
-follow_told unit h event told may is = notes_told (outs h event) told (follow_notes unit h event may) (follow_noted unit h event may) is
+follow_told unit h event told may is =
+    let notes = follow_notes unit h event may in record {
+      noted_are = notes_told IsNoted (outs h event) told notes (outs_are IsNoted noted_shared h event (follow_own unit event may)) is;
+      none = λ empty. none_put (outs h event) told notes is empty;
+    }

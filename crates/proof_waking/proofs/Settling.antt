@@ -1,6 +1,6 @@
 -- What a host put out behind the last frame that it judged; so no node owes here that it counts as awake, but where the event that says so comes next.
-use Rattle.std.proofs.Common.{◌≡◌, ℕ, not, Bool, true, false, if◌then◌else◌, List, [], ◌∷◌, ◌++◌, refl, sym, ap, ◌∙◌, subst, append-nil, append_assoc}
-use Rattle.std.specs.List.{AllByRecursion, flat_map, list_any}
+use Rattle.std.proofs.Common.{◌≡◌, ℕ, not, Bool, true, false, if◌then◌else◌, List, [], ◌∷◌, ◌++◌, refl, sym, ap, ◌∙◌, subst, append-nil, append_assoc, ◌⊎◌, inl, inr}
+use Rattle.std.specs.List.{AllByRecursion, flat_map}
 use Rattle.std.proofs.lemmas.Bool.{and_left, and_parts, and_right, both_ways, or_left, or_right, false_from_ne_true as unless}
 use Rattle.zw_base.proofs.Each.{all-right, all-weaker}
 use Rattle.serial_frame.specs.Items.{unit_text}
@@ -14,24 +14,23 @@ use Rattle.proof_alone.specs.law_transcript.Lists.{EachAfter}
 use Rattle.proof_alone.specs.law_transcript.Units.{Carried, bringing_in, from_node}
 use Rattle.proof_alone.specs.law_time.Judged.{after_step, brought_here, directly_step, is_acknowledgement, is_directly_after, is_following, is_mark, judged, judged_here, last_of, may_be_told}
 use Rattle.proof_alone.specs.law_time.Moments.{Allows}
-use Rattle.proof_alone.specs.law_time.Waking.{is_notification, may_wake, owes_waking, tells_waking}
-use Rattle.host_heard.specs.Telling.{heard_at}
+use Rattle.proof_alone.specs.law_time.Waking.{is_notification, may_wake, owes_waking}
 use Rattle.proof_alone.specs.host_model.State.{HostState}
-use Rattle.proof_alone.specs.host_model.Events.{HostEvent, Accepts, Notifies}
+use Rattle.proof_alone.specs.host_model.Events.{HostEvent, Accepts, Notifies, Requests_do}
 use Rattle.proof_alone.specs.host_model.After.{after}
 use Rattle.proof_alone.specs.host_model.Did.{after_all, outs_all}
 use Rattle.proof_alone.specs.host_model.Outs.{outs}
 use Rattle.proof_alone.specs.host_model.Taking.{FrameEvents}
 use Rattle.proof_alone.specs.host_model.declared.out.HostOut.{HostOut}
-use Rattle.proof_alone.specs.host_model.declared.out.HostOut.TheVariants.{Note, Write}
+use Rattle.proof_alone.specs.host_model.declared.out.HostOut.TheVariants.{Note}
 use Rattle.proof_alone.proofs.EventLists.{after_all-append, outs_all-append}
-use Rattle.proof_alone.proofs.HostOuts.{OutsAre, OwnIs, SharedAre, outs_are}
+use Rattle.proof_alone.proofs.HostOuts.{OwnIs, SharedAre, outs_are}
 use Rattle.proof_alone.specs.State.{HostMachine, done}
 use Rattle.proof_alone.specs.Steps.{AreTold}
-use Rattle.proof_waking.specs.Judged.{IsBehindFrame, LastFrame, Settled, TieFrames}
+use Rattle.proof_waking.specs.Judged.{IsBehindFrame, LastFrame, Settled, TieFrames, IsOfRequest}
 use Rattle.proof_waking.proofs.Apart.{IsApart, apart_frames, apart_judged}
-use Rattle.proof_waking.proofs.Followed.{MayFollow, frame_all, frame_wakes, may_wake_by}
-use Rattle.proof_waking.proofs.Parts.{IsNote, IsNoted, IsNotedSo, IsNoWaking, IsStill, follow_notes, follow_told}
+use Rattle.proof_waking.proofs.Followed.{MayFollow, frame_all, frame_wakes, may_wake_by, wakes_by}
+use Rattle.proof_waking.proofs.Parts.{IsNoted, IsNotedSo, IsNoWaking, IsStill, follow_notes, follow_told, notes_told}
 
 -- ---- what stands next is after the acknowledgement
 
@@ -51,10 +50,10 @@ directly_was false (entry.Garbled Host unit) apart is = absurd (let bad : false 
 directly_was false (entry.Garbled Chip unit) apart is = absurd apart
 directly_was false e apart is = absurd (let bad : false ≡ true = is in cc)
 
-after_one : (past : List Entry) (e : Entry) → is_following (past ++ e ∷ []) ≡ after_step (is_following past) e
+pub after_one : (past : List Entry) (e : Entry) → is_following (past ++ e ∷ []) ≡ after_step (is_following past) e
 after_one past e = folded-append after_step false past (e ∷ [])
 
-directly_one : (past : List Entry) (e : Entry) → is_directly_after (past ++ e ∷ []) ≡ directly_step (is_directly_after past) e
+pub directly_one : (past : List Entry) (e : Entry) → is_directly_after (past ++ e ∷ []) ≡ directly_step (is_directly_after past) e
 directly_one past e = folded-append directly_step false past (e ∷ [])
 
 pub unfollowed : (past : List Entry) → is_following past ≡ false → Settled past
@@ -137,9 +136,6 @@ behind_here past m left behind = here_is past (unit_text (Framed behind.frame.fr
 pub behind_brought : (past : List Entry) (m : HostMachine) (left : List HostEvent) (behind : IsBehindFrame past m left) → brought_here past ≡ bringing_in (unit_text (Framed behind.frame.frame))
 behind_brought past m left behind = brought_is past left behind.frame behind.follows
 
-abbrev wakes_by : List Carried → Bool
-wakes_by brought = list_any (λ carried. tells_waking (heard_at carried.payload)) brought
-
 abbrev first_event : HostEvent → List HostEvent → HostEvent
 first_event other [] = other
 first_event other (event ∷ events) = event
@@ -201,10 +197,20 @@ noted_stand past (e ∷ told) noted none owes = (
 
 -- ---- an event behind a frame
 
-may_come : (past : List Entry) (left : List HostEvent) (event : HostEvent) (frame : LastFrame past (event ∷ left)) → MayFollow (unit_text (Framed frame.frame)) event
+pub may_come : (past : List Entry) (left : List HostEvent) (event : HostEvent) (frame : LastFrame past (event ∷ left)) → MayFollow (unit_text (Framed frame.frame)) event
 may_come past left event frame =
     let may = MayFollow (unit_text (Framed frame.frame)) in
     (all-right may frame.gone (event ∷ left) (frame_all frame.first frame.frame (frame.gone ++ event ∷ left) frame.followed)).0
+
+-- and behind an item each may follow a frame
+pub request_follows : (unit : List ℕ) (event : HostEvent) → IsOfRequest event → MayFollow unit event
+request_follows unit (Requests_do event moment) of = tt
+request_follows unit event of = absurd of
+
+pub behind_follows : (first : HostEvent) (left : List HostEvent) (past : List Entry) (m : HostMachine)
+    → IsBehindFrame past m (first ∷ left) ⊎ (AllByRecursion IsOfRequest (first ∷ left) × Settled past) → (unit : List ℕ) × MayFollow unit first
+behind_follows first left past m (inl behind) = (unit_text (Framed behind.frame.frame), may_come past left first behind.frame)
+behind_follows first left past m (inr (requests, settled)) = ([], request_follows [] first requests.0)
 
 still_direct : (past told : List Entry) (puts : List HostOut) → IsNotedSo puts told → is_directly_after (past ++ told) ≡ true → (is_directly_after past ≡ true) × (puts ≡ [])
 still_direct past [] puts so directly = (subst (λ (l : List Entry). is_directly_after l ≡ true) (append-nil past) directly, so.none refl)
@@ -244,7 +250,7 @@ behind_frames past m left event told is known tie =
 
 -- ---- what it puts out may stand
 
-waking_shared : SharedAre IsNoWaking
+pub waking_shared : SharedAre IsNoWaking
 waking_shared = record {
   unanswered = λ command. tt;
   asleep = λ n. tt;
@@ -266,11 +272,6 @@ own_else (Accepts order carriage) other = λ number. tt
 own_else (Notifies n) other = absurd other
 own_else event other = tt
 
-notes_no_waking : (puts : List HostOut) (told : List Entry) → AllByRecursion IsNote puts → OutsAre IsNoWaking puts → AreTold puts told → AllByRecursion IsNoWaking told
-notes_no_waking [] told notes are is = subst (AllByRecursion IsNoWaking) (sym is) tt
-notes_no_waking (Write unit ∷ puts) told notes are is = absurd notes.0
-notes_no_waking (Note e ∷ puts) told notes are (rest, is, more) = subst (AllByRecursion IsNoWaking) (sym is) (are.0, notes_no_waking puts rest notes.1 are.1 more)
-
 -- another event puts out what may stand, since none is owed
 else_stands : (past : List Entry) (m : HostMachine) (left : List HostEvent) (event : HostEvent) (told : List Entry) → IsElse event → AreTold (outs m.state event) told
     → IsBehindFrame past m (event ∷ left) → EachAfter (Allows may_wake) past told
@@ -278,7 +279,7 @@ else_stands past m left event told other is known =
     let may = may_come past left event known.frame in
     let unit : List ℕ = unit_text (Framed known.frame.frame) in
     let so = follow_told unit m.state event told may is in
-    noted_stand past told so.noted_are (notes_no_waking (outs m.state event) told (follow_notes unit m.state event may) (outs_are IsNoWaking waking_shared m.state event (own_else event other)) is)
+    noted_stand past told so.noted_are (notes_told IsNoWaking (outs m.state event) told (follow_notes unit m.state event may) (outs_are IsNoWaking waking_shared m.state event (own_else event other)) is)
     (unless (owes_waking past) (λ owes. absurd (
     let got = owed_left past (event ∷ left) known.frame known.follows owes in
     subst IsElse (ap (λ (l : List HostEvent). first_event event l) got.1) other

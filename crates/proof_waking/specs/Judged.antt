@@ -13,12 +13,11 @@ use Rattle.zw_text.specs.Transcript.{line_of}
 use Rattle.zw_text.specs.Transcript.Way.{Whole}
 use Rattle.proof_alone.specs.law_time.Judged.{acknowledged, frame_whole, frames_come, is_directly_after, is_following, judged, last_of}
 use Rattle.proof_alone.specs.host_model.State.{HostState}
-use Rattle.proof_alone.specs.host_model.Events.{HostEvent, Requests_do}
+use Rattle.proof_alone.specs.host_model.Events.{HostEvent, Requests_do, IsOwn}
 use Rattle.proof_alone.specs.host_model.Did.{after_all, outs_all}
 use Rattle.proof_alone.specs.host_model.Taking.{FrameEvents}
-use Rattle.host_model.proofs.Own.{IsOwn}
 use Rattle.proof_alone.specs.State.{HostMachine}
-use Rattle.proof_alone.specs.Phases.{Asked, Behind, Ticking}
+use Rattle.proof_alone.specs.Phases.{Phase, Asked, Behind, Ticking}
 use Rattle.proof_alone.specs.Runs.{Knowledge}
 
 -- the data frames among some units
@@ -61,6 +60,11 @@ pub record IsBehindFrame (past : List Entry) (m : HostMachine) (left : List Host
 abbrev pub IsOfRequest : HostEvent → Type 0
 IsOfRequest (Requests_do event moment) = Unit {0}
 IsOfRequest event = ⊥
+
+-- no line was just said
+abbrev pub IsElse : Phase → Type 0
+IsElse (Asked line) = ⊥
+IsElse here = Unit {0}
 
 -- the words of a line stand last, and this holds of what stood before them
 pub record AfterWords (line : Line) (past : List Entry) (m : HostMachine) : Type 0 where

@@ -8,3 +8,4 @@ pub use Rattle.proof_alone.specs.law_transcript as law_transcript
 pub use Rattle.proof_alone.specs.proof_host as proof_host
 pub use Rattle.proof_alone.specs.world_lines as world_lines
 pub use Rattle.proof_alone.specs.world_model as world_model
+pub use Rattle.host_model.specs as host_model

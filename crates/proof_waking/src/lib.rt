@@ -11,7 +11,13 @@
 mod judged;
 mod waking;
 
+pub use host_model::{
+    a_host_begins_with_what_is_kept, a_restart_keeps_what_is_held, facts_are_kept,
+};
 pub use judged::hosts_judge_as_told;
-pub use proof_alone as alone;
-pub use proof_alone::traffic;
+pub use proof_alone::{
+    frames_fly_in_order, hosts_answer_what_is_asked, hosts_keep_their_tables, hosts_obey_the_line,
+    hosts_tell_time, lines_are_a_hosts, lines_make_requests, outsides_make_requests,
+    what_is_heard_is_a_hosts,
+};
 pub use waking::{hosts_wake_as_told, lines_wake_as_told};

@@ -21,11 +21,11 @@ use Rattle.proof_host.specs.host_model.Events.{HostEvent, Accepts, Cancels}
 use Rattle.proof_host.specs.host_model.Outs.{answers}
 use Rattle.proof_device.specs.outside_model.State.{OuterState, Outside}
 use Rattle.proof_device.specs.outside_model.Devices.{acts}
-use Rattle.proof_device.specs.outside_model.Events.{OuterEvent, Host_writes, Host_takes as host_takes, Host_notes, Host_begins, Arrives, Repeats, Wakes_device, Sets_device, Shows, Clears_pipe, outcome, mesh_of, steps, stamp, happens as happens_outside, entries as entries_outside, Device_ticks}
+use Rattle.proof_device.specs.outside_model.Events.{OuterEvent, Host_writes, Host_takes as host_takes, Host_notes, Host_begins, Arrives, Repeats, Wakes_device, Sets_device, Shows, Clears_pipe, outcome, mesh_of, steps, stamp, happens as happens_outside, entries as entries_outside, Device_ticks, IsCleared}
 use Rattle.proof_device.specs.world_model.State.{Machine}
 use Rattle.proof_device.specs.world_model.Events.{Event, Outside_does, Host_does, Refuses, Shows_values, happens, entries, May}
 use Rattle.proof_device.specs.world_model.Did.{MayAll, entries_all}
-use Rattle.proof_device.proofs.Entered.{IsMark, IsCleared}
+use Rattle.proof_device.proofs.Entered.{IsMark}
 use Rattle.proof_device.proofs.Entering.{Enters, IsOfChip, IsShowing, MayAnswer, NotesNone, outcome_enters, own_notes_none, stamp_are, steps_enter, told_of_chip, Acts}
 use Rattle.proof_walk.specs.Outside.{HasNoWords, IsHearing, IsOfAir, IsNote, IsHostNote, CoversOuter, CoversRefusal, CoversAnswer, IsSimple}
 use Rattle.proof_walk.specs.ByLine.{IsOfTick, IsCommon, OfEffect, ShowsNothing}

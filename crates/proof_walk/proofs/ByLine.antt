@@ -14,10 +14,11 @@ use Rattle.host_orders.specs.declared.refused.Refused.{Refused}
 use Rattle.host_orders.specs.Refusals.{classes_of}
 use Rattle.host_orders.specs.Errands.{send_refusal, send_text, get_refusal, get_text}
 use Rattle.host_requests.specs.declared.task.Task.TheVariants as task
+use Rattle.proof_host.specs.host_model.Outs.{Silent}
 use Rattle.proof_host.specs.host_model.State.{HostState, node_of}
 use Rattle.proof_host.specs.host_model.Events.{HostEvent, Accepts, Cancels, Joins as joins_host, Queues, Queues_interview, Queues_probe}
 use Rattle.proof_host.specs.host_model.Pumping.{no_more_event, IsNext}
-use Rattle.proof_host.proofs.Silence.{Silent, tick_silent}
+use Rattle.proof_host.proofs.Silence.{tick_silent}
 use Rattle.proof_host.proofs.Submitted.{SubmittedAre, next_is, no_more_is}
 use Rattle.proof_host.specs.host_model.May.{known_of}
 use Rattle.proof_host.specs.host_model.Asking.{carriage_for, places_refusal, interview_refusal}

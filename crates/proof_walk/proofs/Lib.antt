@@ -36,3 +36,17 @@ pub use Rattle.proof_host.proofs.Values
 pub use Rattle.proof_device.proofs.Hosting
 pub use Rattle.proof_device.proofs.EventLists as world_model_EventLists
 pub use Rattle.proof_device.proofs.ShownChanges
+pub use Rattle.proof_host.proofs.EventLists as host_model_EventLists
+pub use Rattle.proof_host.proofs.Own
+pub use Rattle.proof_host.proofs.Submitted
+pub use Rattle.proof_host.proofs.Pumps
+pub use Rattle.proof_host.proofs.Rising
+pub use Rattle.proof_host.proofs.Begun
+pub use Rattle.proof_host.proofs.Ended
+pub use Rattle.proof_host.proofs.OpenSessions
+pub use Rattle.proof_host.proofs.Silence
+pub use Rattle.proof_host.proofs.host_model_Values
+pub use Rattle.proof_host.proofs.Counts
+pub use Rattle.proof_host.proofs.Legal
+pub use Rattle.proof_host.proofs.RestoredFacts
+pub use Rattle.proof_host.proofs.Commands

@@ -8,8 +8,8 @@ use Rattle.zw_text.specs.declared.entry.Entry.{Entry}
 use Rattle.zw_text.specs.declared.entry.Entry.TheVariants.{Said}
 use Rattle.zw_text.specs.Transcript.{line_of}
 use Rattle.proof_host.specs.law_transcript.Lists.{EachAfter}
+use Rattle.proof_host.specs.host_model.Outs.{Silent}
 use Rattle.proof_host.specs.host_model.Events.{HostEvent, Accepts, Cancels, Joins as joins_host, Queues, Queues_interview, Queues_probe}
-use Rattle.proof_host.proofs.Silence.{Silent}
 use Rattle.proof_device.specs.outside_model.Events.{OuterEvent, Begins_line, Begins_tick, Chip_takes, Arrives, Gives, Device_ticks, Chip_ticks, Repeats, Wakes_device, Sets_device, Shows, Joins, Discovers, Links, Loses, Loses_acks, Marks_loss, Marks_change, Clears_pipe, Collides_next, Stalls, Cuts, Host_notes}
 use Rattle.proof_device.specs.world_model.State.{Machine}
 use Rattle.proof_device.specs.world_model.Events.{Event, Outside_does, Host_does, Host_takes, Decoder_ticks, Shows_values, happens, entries, May}

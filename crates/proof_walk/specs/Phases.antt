@@ -6,7 +6,7 @@ use Rattle.serial_frame.specs.declared.item.Item.{Item}
 use Rattle.route_table.specs.declared.route.Route.{Route}
 use Rattle.zw_text.specs.declared.line.Line.{Line}
 use Rattle.zw_text.specs.declared.line.Line.TheVariants.{Tick}
-use Rattle.host_node.specs.Search.{first_wanting}
+use Rattle.proof_host.specs.host_node.Search.{first_wanting}
 use Rattle.proof_host.specs.host_model.Events.{HostEvent}
 use Rattle.proof_host.specs.host_model.Pumping.{no_more_event, IsNext, IsPumped}
 use Rattle.proof_host.specs.host_model.Ticking.{tick_events}

@@ -20,15 +20,15 @@ use Rattle.chip_functions.specs.declared.notice.Update.TheVariants.{Received, Re
 use Rattle.host_heard.specs.Telling.{heard_at}
 use Rattle.host_requests.specs.Events.{RequestsEvent, interviewed_by}
 use Rattle.host_requests.specs.Events.RequestsEvent.{CallsBack, Fails as request_fails, IsSent as request_is_sent, Responds, Updates}
-use Rattle.host_model.specs.State.{HostState}
-use Rattle.host_model.specs.Events.{HostEvent, Queues, Requests_do, Hears, Interviews, Interview_unkept}
-use Rattle.host_model.specs.After.{after, is_busy, gives_up}
-use Rattle.host_model.specs.May.{says_listens}
-use Rattle.host_model.specs.Did.{after_all}
-use Rattle.host_model.specs.Pumping.{Pumps}
-use Rattle.host_model.specs.Ticking.{tick_events}
-use Rattle.host_model.specs.Taking.{InterviewEvents, ResponseEvents, NoticeEvents, FrameEvents, told_if, IsFollowed, IsJudged, AreJudged}
-use Rattle.host_model.proofs.Own.{IsOwn, pump_own, tick_own}
+use Rattle.proof_walk.specs.host_model.State.{HostState}
+use Rattle.proof_walk.specs.host_model.Events.{HostEvent, Queues, Requests_do, Hears, Interviews, Interview_unkept, IsOwn}
+use Rattle.proof_walk.specs.host_model.After.{after, is_busy, gives_up}
+use Rattle.proof_walk.specs.host_model.May.{says_listens}
+use Rattle.proof_walk.specs.host_model.Did.{after_all}
+use Rattle.proof_walk.specs.host_model.Pumping.{Pumps}
+use Rattle.proof_walk.specs.host_model.Ticking.{tick_events}
+use Rattle.proof_walk.specs.host_model.Taking.{InterviewEvents, ResponseEvents, NoticeEvents, FrameEvents, told_if, IsFollowed, IsJudged, AreJudged}
+use Rattle.proof_walk.proofs.Own.{pump_own, tick_own}
 use Rattle.proof_world.proofs.Always.{one, none, either}
 use Rattle.proof_world.proofs.Heard.{IsOfPayload, payload_of}
 use Rattle.proof_work.specs.Doing.{IsDone, IsTold}

@@ -19,9 +19,9 @@ use Rattle.host_node.specs.declared.attempt.AttemptEnd.{AttemptEnd}
 use Rattle.host_node.specs.declared.attempt.AttemptEnd.TheVariants.{NoneRan, Again, Unanswered}
 use Rattle.host_node.specs.declared.no_more.NoMore.{NoMore as NoMoreState}
 use Rattle.host_node.specs.declared.no_more.NoMore.TheVariants.{Unasked, Queued, Dropped}
-use Rattle.host_model.specs.State.{HostState, node_of, with_node}
-use Rattle.host_model.specs.Sessions.{open_command}
-use Rattle.host_model.specs.Ends.{PartEnd, Good, Passed_over, Bad, part_end, after_part, after_task, after_end, attempt_ended, unanswered}
+use Rattle.proof_walk.specs.host_model.State.{HostState, node_of, with_node}
+use Rattle.proof_walk.specs.host_model.Sessions.{open_command}
+use Rattle.proof_walk.specs.host_model.Ends.{PartEnd, Good, Passed_over, Bad, part_end, after_part, after_task, after_end, attempt_ended, unanswered}
 use Rattle.proof_work.specs.Work.{NodeWork, Work, part_by, told_in, times_due}
 use Rattle.proof_work.proofs.Places.{set_each}
 use Rattle.proof_work.proofs.Attempts.{passed_over}

@@ -39,13 +39,13 @@ use Rattle.host_keep.specs.Status.{status_byte}
 use Rattle.host_orders.specs.Wrapping.{form_of}
 use Rattle.host_orders.specs.declared.carriage.Form.{Form}
 use Rattle.host_orders.specs.declared.carriage.Form.TheVariants.{Plain, Cut, Sealed}
-use Rattle.host_model.specs.State.{HostState, node_of}
-use Rattle.host_model.specs.Sessions.{message_for, open_command, open_segment, start_by}
-use Rattle.host_model.specs.After.{after, failing_if, finishing, gives_up, giving, holding, is_full, is_held, line_ticked, node_does, node_for, offering, queues_if_room, request_does, requests_do}
-use Rattle.host_model.specs.Events.{HostEvent, Accepts, Cancels, Joins, Queues, Queues_interview, Queues_probe, Hears, Requests_do, Interviews, Interview_unkept, Unreads, Is_unkept, Reports_old, Works as Works_on, Finishes, Offers, Gives, Spends, Spends_unread, Takes_nonce, Notifies, Resends, Hears_value, Has_no_room, Line_ticks, Node_ticks, Queues_no_more, Drops_no_more, Submits_abort, Submits_front, Starts, Gives_text, Gives_segment, Begins, Begin_unkept}
-use Rattle.host_model.specs.May.{May, IsServed, IsStart}
-use Rattle.host_model.specs.Did.{after_all, MayAll}
-use Rattle.host_model.specs.Facts.{HostFacts}
+use Rattle.proof_walk.specs.host_model.State.{HostState, node_of}
+use Rattle.proof_walk.specs.host_model.Sessions.{message_for, open_command, open_segment, start_by}
+use Rattle.proof_walk.specs.host_model.After.{after, failing_if, finishing, gives_up, giving, holding, is_full, is_held, line_ticked, node_does, node_for, offering, queues_if_room, request_does, requests_do}
+use Rattle.proof_walk.specs.host_model.Events.{HostEvent, Accepts, Cancels, Joins, Queues, Queues_interview, Queues_probe, Hears, Requests_do, Interviews, Interview_unkept, Unreads, Is_unkept, Reports_old, Works as Works_on, Finishes, Offers, Gives, Spends, Spends_unread, Takes_nonce, Notifies, Resends, Hears_value, Has_no_room, Line_ticks, Node_ticks, Queues_no_more, Drops_no_more, Submits_abort, Submits_front, Starts, Gives_text, Gives_segment, Begins, Begin_unkept}
+use Rattle.proof_walk.specs.host_model.May.{May, IsServed, IsStart}
+use Rattle.proof_walk.specs.host_model.Did.{after_all, MayAll}
+use Rattle.proof_walk.specs.host_model.Facts.{HostFacts}
 use Rattle.proof_work.specs.Doing.{IsAskedFor, IsDone, IsTold}
 use Rattle.proof_work.specs.Work.{HostWork, NodeWork, Work, part_by, part_of, told_in, times_due, times_told}
 use Rattle.proof_work.proofs.Places.{set_each}

@@ -13,10 +13,10 @@ use Rattle.host_node.specs.Events.NodeEvent.{Ends_attempt as node_ends_attempt}
 use Rattle.host_node.specs.declared.attempt.AttemptEnd.{AttemptEnd}
 use Rattle.host_node.specs.declared.attempt.AttemptEnd.TheVariants.{NoneRan, Again, Unanswered}
 use Rattle.host_node.specs.declared.attempt.Moment.{Moment}
-use Rattle.host_model.specs.State.{HostState, node_of}
-use Rattle.host_model.specs.Sessions.{open_command}
-use Rattle.host_model.specs.Ends.{PartEnd, Good, Passed_over, Bad, part_end, after_part, after_task, after_end, after_end_if, attempt_ended, unanswered}
-use Rattle.host_model.specs.After.{node_does}
+use Rattle.proof_walk.specs.host_model.State.{HostState, node_of}
+use Rattle.proof_walk.specs.host_model.Sessions.{open_command}
+use Rattle.proof_walk.specs.host_model.Ends.{PartEnd, Good, Passed_over, Bad, part_end, after_part, after_task, after_end, after_end_if, attempt_ended, unanswered}
+use Rattle.proof_walk.specs.host_model.After.{node_does}
 
 module _ (P : RequestsState → Turn → Type 0) where
   abbrev Has : HostState → Type 0

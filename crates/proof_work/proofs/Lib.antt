@@ -26,3 +26,5 @@ pub use Rattle.proof_walk.proofs.Times
 pub use Rattle.proof_walk.proofs.Lines
 pub use Rattle.proof_walk.proofs.Results
 pub use Rattle.proof_walk.proofs.Lists
+pub use Rattle.law_time.proofs.Computing
+pub use Rattle.proof_walk.proofs.Commands

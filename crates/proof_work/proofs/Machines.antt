@@ -6,9 +6,9 @@ use Rattle.zw_text.specs.declared.line.Line.{Line}
 use Rattle.zw_text.specs.declared.line.Line.TheVariants.{Command, Send, Get, Join, Interview, Cancel, Discover, Neighbours, Failed, Probe}
 use Rattle.host_keep.specs.Legal.{AreLegal}
 use Rattle.host_keep.specs.declared.record.Record.{Record}
-use Rattle.host_model.specs.State.{HostState}
-use Rattle.host_model.specs.Events.{HostEvent}
-use Rattle.host_model.specs.Opening.{opened}
+use Rattle.proof_walk.specs.host_model.State.{HostState}
+use Rattle.proof_walk.specs.host_model.Events.{HostEvent}
+use Rattle.proof_walk.specs.host_model.Opening.{opened}
 use Rattle.proof_walk.specs.world_model.State.{Machine}
 use Rattle.proof_walk.specs.world_model.Events.{Event, Outside_does, Host_does, Host_takes, Decoder_ticks, Refuses, Shows_values, Restarts, OpensFrom, happens, May}
 use Rattle.proof_walk.specs.world_model.Did.{MayAll, happens_all}

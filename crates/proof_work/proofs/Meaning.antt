@@ -9,7 +9,7 @@ use Rattle.host_node.specs.declared.no_more.NoMore.{NoMore}
 use Rattle.host_node.specs.declared.no_more.NoMore.TheVariants.{Unasked, Queued, Dropped}
 use Rattle.host_node.specs.State.{NodeState, has_segment, is_running}
 use Rattle.host_node.specs.Facts.{NoMoreFacts, NothingLeft, SeriesFacts}
-use Rattle.host_model.specs.State.{HostState, node_of}
+use Rattle.proof_walk.specs.host_model.State.{HostState, node_of}
 use Rattle.proof_work.specs.Work.{HostWork, IsWoken, MayBeTold, SeriesMeans, Wakes, part_of, times_due, times_told}
 use Rattle.proof_work.proofs.Attempts.{none_left, not_sealed}
 use Rattle.proof_work.proofs.Ending.{at_most_once}

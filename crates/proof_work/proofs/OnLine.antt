@@ -34,14 +34,14 @@ use Rattle.host_node.specs.Steps.{tick_end}
 use Rattle.host_node.specs.Events.NodeEvent.{Holds as node_holds, Ticks as node_ticks}
 use Rattle.host_node.specs.declared.attempt.Moment.{Moment}
 use Rattle.host_node.specs.declared.attempt.Moment.TheVariants.{BeforeItsTick, BetweenTicks}
-use Rattle.host_model.specs.State.{HostState, node_of}
-use Rattle.host_model.specs.Sessions.{open_command}
-use Rattle.host_model.specs.After.{after, failing_if, finishing, gives_up, giving, holding, is_busy, is_full, is_held, line_ticked, node_does, offering, queues_if_room, request_does, requests_do}
-use Rattle.host_model.specs.Did.{after_all}
-use Rattle.host_model.specs.Events.{HostEvent, Accepts, Cancels, Joins, Queues, Queues_interview, Queues_probe, Hears, Requests_do, Interviews, Interview_unkept, Unreads, Is_unkept, Reports_old, Works, Finishes, Offers, Gives, Spends, Spends_unread, Takes_nonce, Notifies, Resends, Hears_value, Has_no_room, Line_ticks, Node_ticks, Queues_no_more, Drops_no_more, Submits_abort, Submits_front, Starts, Gives_text, Gives_segment, Begins, Begin_unkept}
-use Rattle.host_model.specs.May.{May}
-use Rattle.host_model.specs.Taking.{told_if, told_requests, IsFollowed, AreJudged}
-use Rattle.host_model.proofs.EventLists.{after_all-append}
+use Rattle.proof_walk.specs.host_model.State.{HostState, node_of}
+use Rattle.proof_walk.specs.host_model.Sessions.{open_command}
+use Rattle.proof_walk.specs.host_model.After.{after, failing_if, finishing, gives_up, giving, holding, is_busy, is_full, is_held, line_ticked, node_does, offering, queues_if_room, request_does, requests_do}
+use Rattle.proof_walk.specs.host_model.Did.{after_all}
+use Rattle.proof_walk.specs.host_model.Events.{HostEvent, Accepts, Cancels, Joins, Queues, Queues_interview, Queues_probe, Hears, Requests_do, Interviews, Interview_unkept, Unreads, Is_unkept, Reports_old, Works, Finishes, Offers, Gives, Spends, Spends_unread, Takes_nonce, Notifies, Resends, Hears_value, Has_no_room, Line_ticks, Node_ticks, Queues_no_more, Drops_no_more, Submits_abort, Submits_front, Starts, Gives_text, Gives_segment, Begins, Begin_unkept}
+use Rattle.proof_walk.specs.host_model.May.{May}
+use Rattle.proof_walk.specs.host_model.Taking.{told_if, told_requests, IsFollowed, AreJudged}
+use Rattle.proof_walk.proofs.host_model_EventLists.{after_all-append}
 use Rattle.proof_work.specs.Doing.{IsDone, IsTold}
 use Rattle.proof_work.specs.Line.{AcksNothing, HasOnLine, IsNoItem, IsOnLine}
 use Rattle.proof_work.proofs.Leaving.{attempt_same, end_if_same}

@@ -3,11 +3,11 @@ use Rattle.std.proofs.Common.{◌≡◌, ℕ, zero, suc, ◌+◌, true, false, L
 use Rattle.std.specs.Prelude.{IsSome}
 use Rattle.zw_text.specs.declared.entry.Entry.{Entry}
 use Rattle.law_time.specs.law_transcript.Lists.{EachAfter}
-use Rattle.host_model.specs.Events.{HostEvent}
-use Rattle.host_model.specs.After.{is_full}
-use Rattle.host_model.specs.Pumping.{no_more_event, IsNext}
-use Rattle.host_model.specs.Ticking.{tick_events}
-use Rattle.outside_model.specs.Events.{OuterEvent, Begins_line, Begins_tick, Arrives, Gives, Device_ticks, Chip_ticks, Chip_takes}
+use Rattle.proof_walk.specs.host_model.Events.{HostEvent}
+use Rattle.proof_walk.specs.host_model.After.{is_full}
+use Rattle.proof_walk.specs.host_model.Pumping.{no_more_event, IsNext}
+use Rattle.proof_walk.specs.host_model.Ticking.{tick_events}
+use Rattle.proof_walk.specs.outside_model.Events.{OuterEvent, Begins_line, Begins_tick, Arrives, Gives, Device_ticks, Chip_ticks, Chip_takes}
 use Rattle.proof_walk.specs.world_model.State.{Machine}
 use Rattle.proof_walk.specs.world_model.Events.{Event, Outside_does, Host_does, Host_takes, Decoder_ticks, Refuses, Shows_values, Restarts, happens, entries, May}
 use Rattle.proof_walk.specs.Phases.{Phase, Between, Said_line, Begun, Doing, To_tick, Ticked, Arriving, Giving, Ticking_devices, Ticking_chip, Ticking_decoder, Ticking_host, Sleeping, Submitting, Moving, Moved, Turns, Goes, after_pump, passes_after}

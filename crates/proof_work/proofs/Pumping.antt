@@ -17,15 +17,15 @@ use Rattle.host_node.specs.Search.{first_wanting, least_above, next_of}
 use Rattle.host_node.specs.declared.attempt.Plan.{Plan}
 use Rattle.host_node.specs.declared.attempt.Plan.TheVariants.{Whole, Segments, Sealed}
 use Rattle.host_node.proofs.Searches.{where_is_none}
-use Rattle.host_model.specs.State.{HostState, node_of}
-use Rattle.host_model.specs.After.{after, is_full}
-use Rattle.host_model.specs.Did.{after_all}
-use Rattle.host_model.specs.Events.{HostEvent, Queues_no_more, Drops_no_more}
-use Rattle.host_model.specs.May.{May, IsFree}
-use Rattle.host_model.specs.Pumping.{HasNothing, IsNext, IsPumped, LetsSleep, Pumps, Submits, no_more_event}
-use Rattle.host_model.specs.Facts.{HostFacts}
-use Rattle.host_model.proofs.Submitted.{SubmittedAre, next_is}
-use Rattle.host_model.proofs.EventLists.{after_all-append}
+use Rattle.proof_walk.specs.host_model.State.{HostState, node_of}
+use Rattle.proof_walk.specs.host_model.After.{after, is_full}
+use Rattle.proof_walk.specs.host_model.Did.{after_all}
+use Rattle.proof_walk.specs.host_model.Events.{HostEvent, Queues_no_more, Drops_no_more}
+use Rattle.proof_walk.specs.host_model.May.{May, IsFree}
+use Rattle.proof_walk.specs.host_model.Pumping.{HasNothing, IsNext, IsPumped, LetsSleep, Pumps, Submits, no_more_event}
+use Rattle.proof_walk.specs.host_model.Facts.{HostFacts}
+use Rattle.proof_walk.proofs.Submitted.{SubmittedAre, next_is}
+use Rattle.proof_walk.proofs.host_model_EventLists.{after_all-append}
 use Rattle.proof_work.specs.Doing.{IsDone}
 use Rattle.proof_work.specs.Work.{HostWork, NodeWork, Wakes, told_in, times_due}
 use Rattle.proof_work.specs.Rests.{IsTended, NodeRests, NoneWants, Rests}

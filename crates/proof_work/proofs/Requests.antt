@@ -19,9 +19,9 @@ use Rattle.host_requests.specs.declared.under_way.UnderWay.{UnderWay}
 use Rattle.host_node.specs.State.{NodeState}
 use Rattle.host_node.specs.TableState.{node_of}
 use Rattle.host_node.specs.declared.attempt.Moment.{Moment}
-use Rattle.host_model.specs.State.{HostState}
-use Rattle.host_model.specs.Ends.{after_end_if}
-use Rattle.host_model.specs.Did.{one_if}
+use Rattle.proof_walk.specs.host_model.State.{HostState}
+use Rattle.proof_walk.specs.host_model.Ends.{after_end_if}
+use Rattle.proof_walk.specs.host_model.Did.{one_if}
 use Rattle.proof_work.specs.Doing.{IsAskedFor}
 use Rattle.proof_work.specs.Work.{NodeWork, Work, part_by, part_of, told_at, told_by, told_for, told_in, times_due}
 

@@ -16,10 +16,10 @@ use Rattle.host_node.specs.declared.series.Series.TheVariants.{Idle, Due, Runnin
 use Rattle.host_node.specs.Steps.{after_restart, as_recorded}
 use Rattle.host_node.specs.Events.NodeEvent.{Accepts as node_accepts, Begins as node_begins, Cancels as node_cancels, Interviews as node_interviews, Joins as node_joins, Puts as node_puts, Reports as node_reports, Restores_seen as node_restores_seen}
 use Rattle.host_node.specs.TableState.{node_of as node_among, nodes_after, unknown_from, unknown_nodes}
-use Rattle.host_model.specs.State.{HostState, first_classes, first_host, first_nodes, node_of}
-use Rattle.host_model.specs.After.{node_for}
-use Rattle.host_model.specs.Restoring.{ending, restored}
-use Rattle.host_model.specs.Opening.{opened, restarting, restored_all}
+use Rattle.proof_walk.specs.host_model.State.{HostState, first_classes, first_host, first_nodes, node_of}
+use Rattle.proof_walk.specs.host_model.After.{node_for}
+use Rattle.proof_walk.specs.host_model.Restoring.{ending, restored}
+use Rattle.proof_walk.specs.host_model.Opening.{opened, restarting, restored_all}
 use Rattle.proof_work.specs.Rests.{IsTended, NodeRests}
 use Rattle.proof_work.specs.Work.{NodeWork, Work, times_due}
 use Rattle.proof_work.proofs.Places.{set_each}

@@ -25,12 +25,12 @@ use Rattle.host_requests.specs.declared.task.Purpose.TheVariants.{Housekeeping, 
 use Rattle.host_requests.specs.declared.under_way.Progress.{Progress}
 use Rattle.host_requests.specs.declared.under_way.UnderWay.{UnderWay}
 use Rattle.host_node.specs.Steps.{falls_asleep}
-use Rattle.host_model.specs.State.{HostState, node_of}
-use Rattle.host_model.specs.Ends.{part_end, done_of, asleep_entry, part_entries, neighbours_entry, failed_entry, end_entries, end_entries_if}
-use Rattle.host_model.specs.After.{gives_up, line_ticked, requests_do}
-use Rattle.host_model.specs.Events.{HostEvent, Accepts, Cancels, Requests_do, Interviews, Interview_unkept, Finishes, Line_ticks, Node_ticks}
-use Rattle.host_model.specs.May.{May, IsInterviewed}
-use Rattle.host_model.specs.Outs.{answers, failing_entries, noted, outs, request_entries}
+use Rattle.proof_walk.specs.host_model.State.{HostState, node_of}
+use Rattle.proof_walk.specs.host_model.Ends.{part_end, done_of, asleep_entry, part_entries, neighbours_entry, failed_entry, end_entries, end_entries_if}
+use Rattle.proof_walk.specs.host_model.After.{gives_up, line_ticked, requests_do}
+use Rattle.proof_walk.specs.host_model.Events.{HostEvent, Accepts, Cancels, Requests_do, Interviews, Interview_unkept, Finishes, Line_ticks, Node_ticks}
+use Rattle.proof_walk.specs.host_model.May.{May, IsInterviewed}
+use Rattle.proof_walk.specs.host_model.Outs.{answers, failing_entries, noted, outs, request_entries}
 use Rattle.proof_walk.specs.proof_host.Entries.{entries_at, notes_of}
 use Rattle.proof_work.specs.Tasks.{KeepsInterview, ended, ended_if, errand_of, errands, interview_of, interviews, task_ended, task_of}
 use Rattle.proof_walk.proofs.Effects.{notes_noted, copy_notes}

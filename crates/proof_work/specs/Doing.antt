@@ -4,7 +4,7 @@ use Rattle.host_requests.specs.declared.task.Task.{Task}
 use Rattle.host_requests.specs.declared.task.Task.TheVariants.{NoMore}
 use Rattle.host_requests.specs.Events.{RequestsEvent}
 use Rattle.host_requests.specs.Events.RequestsEvent.{IsSent, Fails, Responds, CallsBack, Updates, Ticks}
-use Rattle.host_model.specs.Events.{HostEvent, Queues, Requests_do}
+use Rattle.proof_walk.specs.host_model.Events.{HostEvent, Queues, Requests_do}
 
 -- a task that a line may ask for: that there is no more for a node is told by the host of itself
 abbrev pub IsAskedFor : Task → Type 0

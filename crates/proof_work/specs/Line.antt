@@ -7,9 +7,9 @@ use Rattle.host_requests.specs.Events.RequestsEvent.{IsSent}
 use Rattle.host_requests.specs.Next.{is_sent}
 use Rattle.host_requests.specs.declared.under_way.UnderWay.{UnderWay}
 use Rattle.host_node.specs.State.{is_false}
-use Rattle.host_model.specs.State.{HostState}
-use Rattle.host_model.specs.After.{is_busy}
-use Rattle.host_model.specs.Events.{HostEvent, Hears, Requests_do}
+use Rattle.proof_walk.specs.host_model.State.{HostState}
+use Rattle.proof_walk.specs.host_model.After.{is_busy}
+use Rattle.proof_walk.specs.host_model.Events.{HostEvent, Hears, Requests_do}
 
 abbrev pub IsOnLine : Option UnderWay → Turn → Type 0
 IsOnLine None turn = Unit {0}

@@ -3,7 +3,7 @@
 use Rattle.std.specs.Prelude.{ℕ, Option, List, IsSome}
 use Rattle.std.specs.List.{AllByRecursion}
 use Rattle.zw_text.specs.declared.entry.Entry.{Entry}
-use Rattle.host_model.specs.State.{HostState}
+use Rattle.proof_walk.specs.host_model.State.{HostState}
 use Rattle.proof_walk.specs.world_model.State.{Machine}
 use Rattle.proof_walk.specs.Phases.{Phase, Doing, Ticking_host, Sleeping, Submitting}
 use Rattle.proof_work.specs.Doing.{IsDone}

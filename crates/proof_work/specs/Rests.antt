@@ -5,8 +5,8 @@ use Rattle.host_node.specs.declared.series.Series.TheVariants.{Due, Running}
 use Rattle.host_node.specs.declared.no_more.NoMore.TheVariants.{Dropped}
 use Rattle.host_node.specs.State.{NodeState, has_segment, has_waiting, is_up, wants_no_more}
 use Rattle.host_node.specs.TableState.{node_of as node_among}
-use Rattle.host_model.specs.State.{HostState, node_of}
-use Rattle.host_model.specs.May.{IsFree}
+use Rattle.proof_walk.specs.host_model.State.{HostState, node_of}
+use Rattle.proof_walk.specs.host_model.May.{IsFree}
 
 -- why a node is left awake that would sleep: a command waits for it, an attempt runs, it is held, or its No More Information found the queue full
 abbrev pub HasReason : NodeState → Type 0

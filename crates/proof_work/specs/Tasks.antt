@@ -13,9 +13,9 @@ use Rattle.host_requests.specs.declared.task.Task.TheVariants.{Plain, Offer, Seg
 use Rattle.host_requests.specs.declared.task.Purpose.{Purpose}
 use Rattle.host_requests.specs.declared.task.Purpose.TheVariants.{Housekeeping}
 use Rattle.host_requests.specs.declared.under_way.UnderWay.{UnderWay}
-use Rattle.host_model.specs.State.{HostState}
-use Rattle.host_model.specs.After.{after, gives_up, giving, is_full}
-use Rattle.host_model.specs.Events.{HostEvent, Queues, Queues_interview, Queues_probe, Requests_do, Interviews, Interview_unkept, Offers, Gives, Resends, Line_ticks, Queues_no_more}
+use Rattle.proof_walk.specs.host_model.State.{HostState}
+use Rattle.proof_walk.specs.host_model.After.{after, gives_up, giving, is_full}
+use Rattle.proof_walk.specs.host_model.Events.{HostEvent, Queues, Queues_interview, Queues_probe, Requests_do, Interviews, Interview_unkept, Offers, Gives, Resends, Line_ticks, Queues_no_more}
 
 -- the task of a purpose, and of the request under way
 abbrev pub task_of : Purpose → List Task

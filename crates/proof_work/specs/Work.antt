@@ -16,9 +16,9 @@ use Rattle.host_node.specs.declared.no_more.NoMore.TheVariants.{Unasked, Queued,
 use Rattle.host_node.specs.State.{NodeState, has_segment, is_running}
 use Rattle.host_node.specs.Facts.{IsQuiet}
 use Rattle.host_node.specs.TableState.{node_of}
-use Rattle.host_model.specs.State.{HostState}
-use Rattle.host_model.specs.Did.{one_if}
-use Rattle.host_model.specs.Facts.{HostFacts}
+use Rattle.proof_walk.specs.host_model.State.{HostState}
+use Rattle.proof_walk.specs.host_model.Did.{one_if}
+use Rattle.proof_walk.specs.host_model.Facts.{HostFacts}
 
 -- ---- attempts
 

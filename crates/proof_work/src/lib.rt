@@ -19,6 +19,7 @@ mod work;
 
 pub use line::requests_stay_on_the_line;
 pub use machine::machines_keep_their_work;
+pub use proof_walk::laws_follow;
 pub use tended::hosts_are_tended;
 pub use turns::{ends_of_tasks_are_told, tasks_end_in_order};
 pub use work::{

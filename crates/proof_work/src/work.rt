@@ -9,24 +9,24 @@ ghost use Rattle.host_keep.specs.declared.record.Record.{Record};
 ghost use Rattle.host_node.specs.State.{NodeState};
 ghost use Rattle.host_node.specs.Search.{first_wanting};
 ghost use Rattle.host_node.specs.declared.series.Series.TheVariants.{Running};
-ghost use Rattle.host_model.specs.State.{HostState, first_host, node_of};
-ghost use Rattle.host_model.specs.Events.{HostEvent};
-ghost use Rattle.host_model.specs.After.{after};
-ghost use Rattle.host_model.specs.May.{May};
-ghost use Rattle.host_model.specs.Did.{after_all, MayAll};
-ghost use Rattle.host_model.specs.Opening.{opened};
-ghost use Rattle.host_model.specs.Pumping.{IsNext, IsPumped, Pumps};
-ghost use Rattle.host_model.specs.Taking.{AreJudged};
-ghost use Rattle.host_model.specs.Ticking.{tick_events};
+ghost use Rattle.proof_walk.specs.host_model.State.{HostState, first_host, node_of};
+ghost use Rattle.proof_walk.specs.host_model.Events.{HostEvent};
+ghost use Rattle.proof_walk.specs.host_model.After.{after};
+ghost use Rattle.proof_walk.specs.host_model.May.{May};
+ghost use Rattle.proof_walk.specs.host_model.Did.{after_all, MayAll};
+ghost use Rattle.proof_walk.specs.host_model.Opening.{opened};
+ghost use Rattle.proof_walk.specs.host_model.Pumping.{IsNext, IsPumped, Pumps};
+ghost use Rattle.proof_walk.specs.host_model.Taking.{AreJudged};
+ghost use Rattle.proof_walk.specs.host_model.Ticking.{tick_events};
 ghost use Rattle.proof_work.specs.Doing.{IsDone};
 ghost use Rattle.proof_work.specs.Work.{HostWork, IsWoken, MayBeTold, SeriesMeans, part_of, times_told};
 ghost use Rattle.proof_work.specs.Rests.{IsTended, NoneWants};
 
-use host_model::{
+use host_requests::requests_stay_valid;
+use proof_walk::{
     a_pump_ends, a_restart_keeps_what_is_held, attempts_have_what_they_give, facts_are_kept,
     nodes_are_told_in_few_turns,
 };
-use host_requests::requests_stay_valid;
 
 /// A host begins with its work in order, and so does one that starts from legal records; each event that hosts do and that may happen keeps it so, and so do
 /// events one after another.

@@ -1,9 +1,9 @@
 -- What an event of the host is asked, and lists of events that the chip's bytes bring.
 use Rattle.std.proofs.Common.{◌≡◌, List, [], ◌∷◌, sym, subst, inl, inr}
 use Rattle.std.specs.List.{AllByRecursion}
-use Rattle.host_model.specs.State.{HostState}
-use Rattle.host_model.specs.Events.{HostEvent, Accepts, Joins, Queues, Queues_interview, Requests_do, Interviews, Finishes, Gives, Spends, Spends_unread, Takes_nonce}
-use Rattle.host_model.specs.Taking.{IsKeptOr}
+use Rattle.proof_host.specs.host_model.State.{HostState}
+use Rattle.proof_host.specs.host_model.Events.{HostEvent, Accepts, Joins, Queues, Queues_interview, Requests_do, Interviews, Finishes, Gives, Spends, Spends_unread, Takes_nonce}
+use Rattle.proof_host.specs.host_model.Taking.{IsKeptOr}
 use Rattle.proof_world.specs.Lines.{IsAsked}
 
 -- What it is asked is in order. Of what the chip's bytes bring nothing is asked.

@@ -20,13 +20,13 @@ use Rattle.route_table.specs.Network.{linked}
 use Rattle.chip_functions.specs.declared.notice.TransmitStatus.{TransmitStatus}
 use Rattle.chip_functions.specs.declared.notice.TransmitStatus.TheVariants.{Fail, NoRoute as no_route_status}
 use Rattle.chip_functions.specs.Notice.{status_of}
-use Rattle.chip_sim.specs.Events.{ChipEvent, Done, Heard as chip_hears, Forgets, after, outs}
-use Rattle.chip_sim.specs.Did.{judged_all}
-use Rattle.chip_sim.specs.declared.out.ChipOut.{ChipOut}
-use Rattle.chip_sim.specs.declared.out.ChipOut.TheVariants as chip_out
+use Rattle.world_lines.specs.chip_sim.Events.{ChipEvent, Done, Heard as chip_hears, Forgets, after, outs}
+use Rattle.world_lines.specs.chip_sim.Did.{judged_all}
+use Rattle.world_lines.specs.chip_sim.declared.out.ChipOut.{ChipOut}
+use Rattle.world_lines.specs.chip_sim.declared.out.ChipOut.TheVariants as chip_out
 use Rattle.proof_serial.specs.device_kinds.declared.change.Change.{Change}
-use Rattle.device_sim.specs.State.{State}
-use Rattle.device_sim.specs.Event.{DeviceEvent, device_replies}
+use Rattle.proof_host.specs.device_sim.State.{State}
+use Rattle.proof_host.specs.device_sim.Event.{DeviceEvent, device_replies}
 use Rattle.air_frames.specs.declared.ages.Refusal.{Refusal as RepeatRefusal}
 use Rattle.air_frames.specs.declared.ages.Refusal.TheVariants as repeat
 use Rattle.proof_device.specs.mesh_sim.Air.{is_joined}

@@ -3,8 +3,8 @@ use Rattle.std.proofs.Common.{ℕ, List, [], ◌∷◌, ap, sym, subst}
 use Rattle.std.specs.List.{AllByRecursion}
 use Rattle.zw_text.specs.declared.entry.Entry.{Entry}
 use Rattle.proof_serial.specs.device_kinds.declared.kind.Kind.{Kind}
-use Rattle.device_sim.specs.State.{State, fresh}
-use Rattle.device_sim.specs.Laws.{IsInOrder}
+use Rattle.proof_host.specs.device_sim.State.{State, fresh}
+use Rattle.proof_host.specs.device_sim.Laws.{IsInOrder}
 use Rattle.proof_host.specs.law_transcript.Headline.{IsAsMade}
 use Rattle.proof_device.specs.GoingOn.{AreInOrder, TakesOnce, TakeOnce}
 use Rattle.proof_device.specs.Showing.{AreUnchanged, IsShown}

@@ -2,13 +2,13 @@
 use Rattle.std.proofs.Common.{◌≡◌, List, [], ◌∷◌, ◌++◌, map, ap, sym, ◌∙◌, subst, append_assoc, append-nil}
 use Rattle.zw_text.specs.declared.entry.Entry.{Entry}
 use Rattle.zw_text.specs.declared.entry.Entry.TheVariants.{Refused}
-use Rattle.host_model.specs.State.{HostState}
-use Rattle.host_model.specs.declared.out.HostOut.{HostOut}
-use Rattle.host_model.specs.Events.{HostEvent}
-use Rattle.host_model.specs.After.{after}
-use Rattle.host_model.specs.Outs.{outs, answers}
-use Rattle.host_model.specs.May.{May as MayHost}
-use Rattle.host_model.specs.Did.{MayAll as MayAllHost, after_all}
+use Rattle.proof_host.specs.host_model.State.{HostState}
+use Rattle.proof_host.specs.host_model.declared.out.HostOut.{HostOut}
+use Rattle.proof_host.specs.host_model.Events.{HostEvent}
+use Rattle.proof_host.specs.host_model.After.{after}
+use Rattle.proof_host.specs.host_model.Outs.{outs, answers, Silent}
+use Rattle.proof_host.specs.host_model.May.{May as MayHost}
+use Rattle.proof_host.specs.host_model.Did.{MayAll as MayAllHost, after_all}
 use Rattle.proof_device.specs.outside_model.State.{Outside}
 use Rattle.proof_device.specs.outside_model.Events.{Host_notes, entries as entries_outside, outcome}
 use Rattle.proof_device.specs.outside_model.Did.{entries_all as entries_all_outside}
@@ -16,7 +16,7 @@ use Rattle.proof_device.specs.world_model.State.{Machine, routed, host_does, hos
 use Rattle.proof_device.specs.world_model.Events.{Event, Outside_does, Host_does, Host_takes, Decoder_ticks, Refuses, Shows_values, Restarts, fed, shown_values, happens, entries, May}
 use Rattle.proof_device.specs.world_model.Did.{happens_all, entries_all, MayAll}
 use Rattle.proof_device.proofs.Hosting.{entries_cons}
-use Rattle.host_model.proofs.Silence.{Silent, judged_silent}
+use Rattle.proof_host.proofs.Silence.{judged_silent}
 use Rattle.proof_host.specs.Entries.{IsAside, entries_at}
 use Rattle.proof_host.specs.Facts.{Facts, StartsAs}
 use Rattle.proof_world.specs.Restarts.{StartsWell, AllStartWell}

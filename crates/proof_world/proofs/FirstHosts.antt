@@ -4,18 +4,18 @@ use Rattle.s0_crypto.specs.declared.key_pair.Keys.{Keys}
 use Rattle.supervision.specs.Session.{wire_id}
 use Rattle.supervision.specs.Host.{command_at as command_of_session}
 use Rattle.host_requests.specs.State.{RequestsState, no_requests}
-use Rattle.host_node.specs.State.{NodeState}
-use Rattle.host_node.specs.Steps.{after_restart}
-use Rattle.host_node.specs.Events.NodeEvent.{Joins as node_joins, Interviews as node_interviews, Puts as node_puts, Accepts as node_accepts, Begins as node_begins, Cancels as node_cancels, Reports as node_reports, Restores_seen as node_restores_seen, Restarts as node_restarts}
-use Rattle.host_node.specs.TableState.{unknown_from, unknown_nodes, nodes_after, node_of as node_among}
+use Rattle.proof_host.specs.host_node.State.{NodeState}
+use Rattle.proof_host.specs.host_node.Steps.{after_restart}
+use Rattle.proof_host.specs.host_node.Events.NodeEvent.{Joins as node_joins, Interviews as node_interviews, Puts as node_puts, Accepts as node_accepts, Begins as node_begins, Cancels as node_cancels, Reports as node_reports, Restores_seen as node_restores_seen, Restarts as node_restarts}
+use Rattle.proof_host.specs.host_node.TableState.{unknown_from, unknown_nodes, nodes_after, node_of as node_among}
 use Rattle.host_keep.specs.Status.{status_byte}
 use Rattle.host_keep.specs.declared.final_status.FinalStatus.{FinalStatus}
 use Rattle.host_keep.specs.declared.record.Record.{Record}
 use Rattle.host_keep.specs.declared.record.Record.TheVariants.{Accepted, Joined, Classes, Begun, Final, Cancelled, Given, Spent, Seen}
-use Rattle.host_model.specs.Restoring.{restored, ending}
-use Rattle.host_model.specs.Opening.{restored_all, restarting, opened}
-use Rattle.host_model.specs.State.{HostState, node_of, first_host, first_nodes, first_classes}
-use Rattle.host_model.specs.After.{node_for}
+use Rattle.proof_host.specs.host_model.Restoring.{restored, ending}
+use Rattle.proof_host.specs.host_model.Opening.{restored_all, restarting, opened}
+use Rattle.proof_host.specs.host_model.State.{HostState, node_of, first_host, first_nodes, first_classes}
+use Rattle.proof_host.specs.host_model.After.{node_for}
 use Rattle.proof_serial.specs.Host.{FitsIn}
 use Rattle.proof_world.specs.Asking.{AreTasksOf, IsJoined, HostAsks}
 use Rattle.proof_world.proofs.Nodes.{AllStay, all_same, all_follow, one_stays, event_stays}

@@ -34,12 +34,12 @@ use Rattle.host_heard.specs.declared.payload.Heard.{Heard}
 use Rattle.host_heard.specs.declared.payload.Heard.TheVariants.{Messages, Sealed, Unread}
 use Rattle.host_heard.specs.declared.told.Told.{Told}
 use Rattle.host_heard.specs.declared.told.Told.TheVariants.{Report, NonceGet, NonceReport, Notification, SegmentRequest, Values}
-use Rattle.host_model.specs.State.{HostState, node_of}
-use Rattle.host_model.specs.After.{after, is_busy, gives_up}
-use Rattle.host_model.specs.May.{says_listens}
-use Rattle.host_model.specs.Did.{after_all}
-use Rattle.host_model.specs.Events.{HostEvent, Hears, Interviews, Interview_unkept, Unreads, Is_unkept, Reports_old, Works, Finishes, Offers, Gives, Spends, Spends_unread, Takes_nonce, Notifies, Resends, Hears_value, Has_no_room}
-use Rattle.host_model.specs.Taking.{is_secure, FinalEvents, ReportEvents, NonceGetEvents, NonceReportEvents, resent, value_event, value_events, IsTaken, AreTaken, IsOpened, SealedEvents, PayloadEvents, InterviewEvents, ResponseEvents, NoticeEvents, FrameEvents, told_if, IsFollowed, IsJudged, AreJudged}
+use Rattle.proof_host.specs.host_model.State.{HostState, node_of}
+use Rattle.proof_host.specs.host_model.After.{after, is_busy, gives_up}
+use Rattle.proof_host.specs.host_model.May.{says_listens}
+use Rattle.proof_host.specs.host_model.Did.{after_all}
+use Rattle.proof_host.specs.host_model.Events.{HostEvent, Hears, Interviews, Interview_unkept, Unreads, Is_unkept, Reports_old, Works, Finishes, Offers, Gives, Spends, Spends_unread, Takes_nonce, Notifies, Resends, Hears_value, Has_no_room}
+use Rattle.proof_host.specs.host_model.Taking.{is_secure, FinalEvents, ReportEvents, NonceGetEvents, NonceReportEvents, resent, value_event, value_events, IsTaken, AreTaken, IsOpened, SealedEvents, PayloadEvents, InterviewEvents, ResponseEvents, NoticeEvents, FrameEvents, told_if, IsFollowed, IsJudged, AreJudged}
 use Rattle.proof_world.proofs.Always.{AlwaysInOrder, one, none, either}
 
 -- ---- payloads of a node

@@ -9,20 +9,20 @@ use Rattle.host_keep.specs.Legal.{AreTextsOf, AreLegal}
 use Rattle.host_keep.specs.Rows.{IsRecord}
 use Rattle.host_keep.specs.RecordText.{IsTextOf, record_text}
 use Rattle.host_keep.specs.declared.record.Record.{Record}
-use Rattle.host_model.specs.State.{HostState, first_host}
-use Rattle.host_model.specs.Events.{HostEvent}
-use Rattle.host_model.specs.Did.{MayAll as MayAllHost, after_all, records_all, texts_of}
-use Rattle.host_model.specs.Facts.{HostFacts}
-use Rattle.host_model.proofs.EventLists.{all_in_range}
-use Rattle.host_model.specs.Holding.{Holds, HoldsAlone}
-use Rattle.host_model.specs.Opening.{opened}
-use Rattle.host_model.specs.Recording.{AllOfJoined}
+use Rattle.proof_host.specs.host_model.State.{HostState, first_host}
+use Rattle.proof_host.specs.host_model.Events.{HostEvent}
+use Rattle.proof_host.specs.host_model.Did.{MayAll as MayAllHost, after_all, records_all, texts_of}
+use Rattle.proof_host.specs.host_model.Facts.{HostFacts}
+use Rattle.proof_host.proofs.EventLists.{all_in_range}
+use Rattle.proof_host.specs.host_model.Holding.{Holds, HoldsAlone}
+use Rattle.proof_host.specs.host_model.Opening.{opened}
+use Rattle.proof_host.specs.host_model.Recording.{AllOfJoined}
 use Rattle.proof_device.specs.world_model.State.{Machine, with_texts}
 use Rattle.proof_device.specs.world_model.Events.{Event, Outside_does, Host_does, Host_takes, Decoder_ticks, Refuses, Shows_values, Restarts, OpensFrom, happens, entries, May}
 use Rattle.proof_device.specs.world_model.Did.{happens_all, MayAll}
 use Rattle.proof_host.specs.Facts.{Facts, StartsAs}
 use Rattle.proof_host.proofs.HostsFromRecords.{nothing_kept, nothing_legal, KeptStarts, KeptGoesOn, EventsHold, EventsAreLegal, OpenedHolds, OpenedFacts}
-use Rattle.host_model.proofs.Recorded.{legal-append as legal_both}
+use Rattle.proof_host.proofs.Recorded.{legal-append as legal_both}
 use Rattle.proof_world.specs.Restarts.{StartsWell, AllStartWell, KeepsWell, AllKeepWell, BeginsEmpty, AreHeld, IsHeld}
 
 -- ---- texts

@@ -13,15 +13,15 @@ use Rattle.host_requests.specs.declared.task.Task.{Task}
 use Rattle.host_requests.specs.declared.task.Task.TheVariants.{Plain, Offer, Segment, First, Second}
 use Rattle.host_requests.specs.declared.task.Purpose.{Purpose}
 use Rattle.host_requests.specs.declared.task.Purpose.TheVariants.{Housekeeping}
-use Rattle.host_node.specs.Events.{FitsPlan}
-use Rattle.host_node.specs.Events.NodeEvent.{Starts as node_starts}
-use Rattle.host_node.specs.declared.attempt.Plan.{Plan}
-use Rattle.host_node.specs.declared.attempt.Plan.TheVariants.{Whole, Segments, Sealed}
-use Rattle.host_model.specs.State.{HostState}
-use Rattle.host_model.specs.After.{after}
-use Rattle.host_model.specs.May.{May}
-use Rattle.host_model.specs.Events.{HostEvent, Queues, Queues_interview, Requests_do, Interviews, Takes_nonce, Starts}
-use Rattle.host_model.specs.Recording.{IsOfJoined}
+use Rattle.proof_host.specs.host_node.Events.{FitsPlan}
+use Rattle.proof_host.specs.host_node.Events.NodeEvent.{Starts as node_starts}
+use Rattle.proof_host.specs.host_node.declared.attempt.Plan.{Plan}
+use Rattle.proof_host.specs.host_node.declared.attempt.Plan.TheVariants.{Whole, Segments, Sealed}
+use Rattle.proof_host.specs.host_model.State.{HostState}
+use Rattle.proof_host.specs.host_model.After.{after}
+use Rattle.proof_host.specs.host_model.May.{May}
+use Rattle.proof_host.specs.host_model.Events.{HostEvent, Queues, Queues_interview, Requests_do, Interviews, Takes_nonce, Starts}
+use Rattle.proof_host.specs.host_model.Recording.{IsOfJoined}
 use Rattle.proof_serial.specs.Host.{FitsTask, FitsIn, FitsRequest, FitsEvent}
 use Rattle.proof_world.specs.Lines.{IsErrand, AsksNothing}
 use Rattle.proof_world.specs.Asking.{IsTaskOf, IsPurposeOf, IsUnderWayOf, IsJoined, HostAsks}

@@ -23,12 +23,12 @@ pub use Rattle.proof_serial.proofs.ChipMoves
 pub use Rattle.proof_serial.proofs.ChipFrames
 pub use Rattle.proof_serial.proofs.HostFits
 pub use Rattle.proof_serial.proofs.EndedItems
-pub use Rattle.host_model.proofs.Submitted
-pub use Rattle.host_model.proofs.EventLists
+pub use Rattle.proof_host.proofs.Submitted
+pub use Rattle.proof_host.proofs.EventLists
 pub use Rattle.proof_serial.proofs.Events
 pub use Rattle.proof_serial.proofs.ChangedUnits
 pub use Rattle.proof_serial.proofs.First
 pub use Rattle.proof_serial.proofs.HostRuns
-pub use Rattle.host_model.proofs.Own
-pub use Rattle.host_model.proofs.Silence
-pub use Rattle.host_model.proofs.Numbered
+pub use Rattle.proof_host.proofs.Own
+pub use Rattle.proof_host.proofs.Silence
+pub use Rattle.proof_host.proofs.Numbered

@@ -15,23 +15,23 @@ use Rattle.host_requests.specs.declared.task.Task.{Task}
 use Rattle.host_requests.specs.declared.task.Task.TheVariants.{NoMore, Offer, Segment}
 use Rattle.host_requests.specs.declared.task.Purpose.{Purpose}
 use Rattle.host_requests.specs.declared.task.Purpose.TheVariants.{Housekeeping, Attempt, Abort}
-use Rattle.host_node.specs.State.{NodeState, unknown, is_open, is_up, is_idle, is_running, has_waiting}
-use Rattle.host_node.specs.Steps.{after_occasion, new_series, without_attempt, after_sign, with_wait, wait_ticks, after_sleep, asleep, after_attempts, next_due, series_over, after_attempt_end, attempt_end, tick_end, after_told, after_again, after_again_tick, with_again, after_attempt_tick, after_hold_tick, after_no_more, as_recorded, tried_again}
-use Rattle.host_node.specs.declared.no_more.NoMore.TheVariants.{Unasked}
-use Rattle.host_node.specs.Events.{NodeEvent, after as after_node}
-use Rattle.host_node.specs.Events.NodeEvent.{Joins as node_joins, Interviews as node_interviews, Puts as node_puts, Takes_back as node_takes_back, Accepts as node_accepts, Cancels as node_cancels, Begins as node_begins, Blocks as node_blocks, Starts as node_starts, Gives_segment as node_gives_segment, Gives_text as node_gives_text, Succeeds as node_succeeds, Takes_nonce as node_takes_nonce, Restores_seen as node_restores_seen, Ends_attempt as node_ends_attempt, Reports as node_reports, Holds as node_holds, Notifies as node_notifies, Sleeps as node_sleeps, Queues_no_more as node_queues_no_more, Drops_no_more as node_drops_no_more, Ends_no_more as node_ends_no_more, Ticks as node_ticks, Restarts as node_restarts}
-use Rattle.host_node.specs.declared.attempt.Moment.{Moment}
-use Rattle.host_node.specs.declared.attempt.Moment.TheVariants.{BetweenTicks, BeforeItsTick}
-use Rattle.host_node.specs.declared.attempt.AttemptEnd.{AttemptEnd}
-use Rattle.host_node.specs.declared.attempt.AttemptEnd.TheVariants.{NoneRan, Again, Unanswered}
-use Rattle.host_node.specs.declared.attempt.Plan.TheVariants.{Whole, Segments, Sealed}
-use Rattle.host_node.specs.TableState.{nodes_after, node_of as node_among}
+use Rattle.proof_host.specs.host_node.State.{NodeState, unknown, is_open, is_up, is_idle, is_running, has_waiting}
+use Rattle.proof_host.specs.host_node.Steps.{after_occasion, new_series, without_attempt, after_sign, with_wait, wait_ticks, after_sleep, asleep, after_attempts, next_due, series_over, after_attempt_end, attempt_end, tick_end, after_told, after_again, after_again_tick, with_again, after_attempt_tick, after_hold_tick, after_no_more, as_recorded, tried_again}
+use Rattle.proof_host.specs.host_node.declared.no_more.NoMore.TheVariants.{Unasked}
+use Rattle.proof_host.specs.host_node.Events.{NodeEvent, after as after_node}
+use Rattle.proof_host.specs.host_node.Events.NodeEvent.{Joins as node_joins, Interviews as node_interviews, Puts as node_puts, Takes_back as node_takes_back, Accepts as node_accepts, Cancels as node_cancels, Begins as node_begins, Blocks as node_blocks, Starts as node_starts, Gives_segment as node_gives_segment, Gives_text as node_gives_text, Succeeds as node_succeeds, Takes_nonce as node_takes_nonce, Restores_seen as node_restores_seen, Ends_attempt as node_ends_attempt, Reports as node_reports, Holds as node_holds, Notifies as node_notifies, Sleeps as node_sleeps, Queues_no_more as node_queues_no_more, Drops_no_more as node_drops_no_more, Ends_no_more as node_ends_no_more, Ticks as node_ticks, Restarts as node_restarts}
+use Rattle.proof_host.specs.host_node.declared.attempt.Moment.{Moment}
+use Rattle.proof_host.specs.host_node.declared.attempt.Moment.TheVariants.{BetweenTicks, BeforeItsTick}
+use Rattle.proof_host.specs.host_node.declared.attempt.AttemptEnd.{AttemptEnd}
+use Rattle.proof_host.specs.host_node.declared.attempt.AttemptEnd.TheVariants.{NoneRan, Again, Unanswered}
+use Rattle.proof_host.specs.host_node.declared.attempt.Plan.TheVariants.{Whole, Segments, Sealed}
+use Rattle.proof_host.specs.host_node.TableState.{nodes_after, node_of as node_among}
 use Rattle.host_keep.specs.Status.{status_byte}
-use Rattle.host_model.specs.State.{HostState, node_of}
-use Rattle.host_model.specs.Sessions.{open_command}
-use Rattle.host_model.specs.Ends.{unanswered, attempt_ended, PartEnd, Good as well, Passed_over, Bad, part_end, after_part, after_task, after_end, after_end_if}
-use Rattle.host_model.specs.After.{after, node_does, requests_do, request_does, submits, submits_part, is_full, is_held, queues_if_room, finishing, holding, giving, offering, gives_up, line_ticked, failing_if, node_for}
-use Rattle.host_model.specs.Events.{HostEvent, Accepts, Cancels, Joins, Queues, Queues_interview, Queues_probe, Hears, Requests_do, Interviews, Interview_unkept, Unreads, Is_unkept, Reports_old, Works, Finishes, Offers, Gives, Spends, Spends_unread, Takes_nonce, Notifies, Resends, Hears_value, Has_no_room, Line_ticks, Node_ticks, Queues_no_more, Drops_no_more, Submits_abort, Submits_front, Starts, Gives_text, Gives_segment, Begins, Begin_unkept}
+use Rattle.proof_host.specs.host_model.State.{HostState, node_of}
+use Rattle.proof_host.specs.host_model.Sessions.{open_command}
+use Rattle.proof_host.specs.host_model.Ends.{unanswered, attempt_ended, PartEnd, Good as well, Passed_over, Bad, part_end, after_part, after_task, after_end, after_end_if}
+use Rattle.proof_host.specs.host_model.After.{after, node_does, requests_do, request_does, submits, submits_part, is_full, is_held, queues_if_room, finishing, holding, giving, offering, gives_up, line_ticked, failing_if, node_for}
+use Rattle.proof_host.specs.host_model.Events.{HostEvent, Accepts, Cancels, Joins, Queues, Queues_interview, Queues_probe, Hears, Requests_do, Interviews, Interview_unkept, Unreads, Is_unkept, Reports_old, Works, Finishes, Offers, Gives, Spends, Spends_unread, Takes_nonce, Notifies, Resends, Hears_value, Has_no_room, Line_ticks, Node_ticks, Queues_no_more, Drops_no_more, Submits_abort, Submits_front, Starts, Gives_text, Gives_segment, Begins, Begin_unkept}
 use Rattle.proof_serial.specs.Host.{FitsIn}
 
 -- ---- one node

@@ -11,11 +11,11 @@ use Rattle.serial_frame.specs.declared.item.Item.{Item}
 use Rattle.serial_frame.specs.declared.item.Item.TheVariants.{Good, Refused}
 use Rattle.serial_frame.specs.declared.item.Refusal.TheVariants.{Stray, BadLength, BadSum, BadKind, Aborted}
 use Rattle.serial_link.specs.State.{copy_due}
-use Rattle.host_model.specs.State.{HostState}
-use Rattle.host_model.specs.Events.{HostEvent, Accepts, Cancels, Joins, Queues, Queues_interview, Queues_probe, Hears, Requests_do, Interviews, Interview_unkept, Unreads, Is_unkept, Reports_old, Works, Finishes, Offers, Gives, Spends, Spends_unread, Takes_nonce, Notifies, Resends, Hears_value, Has_no_room, Line_ticks, Node_ticks, Queues_no_more, Drops_no_more, Submits_abort, Submits_front, Starts, Gives_text, Gives_segment, Begins, Begin_unkept}
-use Rattle.host_model.specs.Outs.{outs, answer_to, copy_out, noted, answers}
-use Rattle.host_model.specs.declared.out.HostOut.{HostOut}
-use Rattle.host_model.specs.declared.out.HostOut.TheVariants.{Write, Note}
+use Rattle.proof_host.specs.host_model.State.{HostState}
+use Rattle.proof_host.specs.host_model.Events.{HostEvent, Accepts, Cancels, Joins, Queues, Queues_interview, Queues_probe, Hears, Requests_do, Interviews, Interview_unkept, Unreads, Is_unkept, Reports_old, Works, Finishes, Offers, Gives, Spends, Spends_unread, Takes_nonce, Notifies, Resends, Hears_value, Has_no_room, Line_ticks, Node_ticks, Queues_no_more, Drops_no_more, Submits_abort, Submits_front, Starts, Gives_text, Gives_segment, Begins, Begin_unkept}
+use Rattle.proof_host.specs.host_model.Outs.{outs, answer_to, copy_out, noted, answers}
+use Rattle.proof_host.specs.host_model.declared.out.HostOut.{HostOut}
+use Rattle.proof_host.specs.host_model.declared.out.HostOut.TheVariants.{Write, Note}
 use Rattle.proof_device.specs.outside_model.State.{Outside, OuterState}
 use Rattle.proof_device.specs.outside_model.Events.{Host_writes, Host_notes, Host_begins, happens, entries, outcome, devices_after, ticked_entry}
 use Rattle.proof_device.specs.outside_model.Did.{entries_all}

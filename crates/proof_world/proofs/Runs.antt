@@ -3,15 +3,15 @@ use Rattle.std.proofs.Common.{◌≡◌, ℕ, true, false, List, [], ◌∷◌, 
 use Rattle.std.specs.Prelude.{IsSome}
 use Rattle.std.specs.List.{AllByRecursion}
 use Rattle.s0_crypto.specs.declared.key_pair.Keys.{Keys}
-use Rattle.device_sim.specs.State.{State}
-use Rattle.host_model.specs.State.{HostState}
-use Rattle.host_model.specs.Events.{HostEvent}
-use Rattle.host_model.specs.After.{after}
-use Rattle.host_model.specs.Did.{MayAll as MayAllHost, after_all, records_all, texts_of}
+use Rattle.proof_host.specs.device_sim.State.{State}
+use Rattle.proof_host.specs.host_model.State.{HostState}
+use Rattle.proof_host.specs.host_model.Events.{HostEvent}
+use Rattle.proof_host.specs.host_model.After.{after}
+use Rattle.proof_host.specs.host_model.Did.{MayAll as MayAllHost, after_all, records_all, texts_of}
 use Rattle.proof_device.specs.world_model.State.{Machine, with_texts, first_machine}
 use Rattle.proof_device.specs.world_model.Events.{Event, Outside_does, Host_does, Host_takes, Decoder_ticks, Refuses, Shows_values, Restarts, OpensFrom, happens, May}
 use Rattle.proof_device.specs.world_model.Did.{MayAll}
-use Rattle.host_model.specs.Recording.{AllOfJoined}
+use Rattle.proof_host.specs.host_model.Recording.{AllOfJoined}
 use Rattle.proof_world.specs.Restarts.{KeepsWell, AllKeepWell}
 use Rattle.proof_serial.specs.Host.{FitsEvent, AsksWell as LineAsksWell, AllAskWell}
 use Rattle.proof_world.specs.Lines.{AsksWell, AllAsked}

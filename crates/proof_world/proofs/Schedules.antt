@@ -6,16 +6,15 @@ use Rattle.zw_text.specs.declared.line.Line.TheVariants.{Command, Send, Get, Joi
 use Rattle.host_orders.specs.declared.refused.Refused.{Refused}
 use Rattle.host_orders.specs.declared.refused.Refused.TheVariants.{NotJoined}
 use Rattle.host_orders.specs.Refusals.{classes_of}
-use Rattle.host_model.specs.State.{HostState, node_of}
-use Rattle.host_model.specs.May.{known_of}
-use Rattle.host_model.specs.Asking.{places_refusal, interview_refusal}
-use Rattle.host_model.specs.Events.{HostEvent, Queues, Queues_interview, Requests_do, Interviews, Finishes, Gives, Spends, Spends_unread, Takes_nonce}
+use Rattle.proof_host.specs.host_model.State.{HostState, node_of}
+use Rattle.proof_host.specs.host_model.May.{known_of}
+use Rattle.proof_host.specs.host_model.Asking.{places_refusal, interview_refusal}
+use Rattle.proof_host.specs.host_model.Events.{HostEvent, Queues, Queues_interview, Requests_do, Interviews, Finishes, Gives, Spends, Spends_unread, Takes_nonce, IsOwn}
 use Rattle.proof_device.specs.world_model.State.{Machine}
 use Rattle.proof_device.specs.world_model.Events.{Event, Host_does}
 use Rattle.proof_device.specs.world_model.Did.{happens_all}
 use Rattle.proof_device.specs.world_model.Lines.{IsEffect}
 use Rattle.proof_device.specs.world_model.Prefixes.{LinePart, IsLineBefore}
-use Rattle.host_model.proofs.Own.{IsOwn}
 use Rattle.proof_device.proofs.Pieces.{Of, Law, Pieces, of_none, of_then, of_line_part, of_line_before}
 use Rattle.proof_device.proofs.Along.{IsAskedBy, IsOfPart, IsOfEffect, along, pieces_along, effect_along}
 use Rattle.proof_serial.specs.Line.{AreLines}

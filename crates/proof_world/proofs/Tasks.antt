@@ -19,17 +19,17 @@ use Rattle.host_requests.specs.declared.task.Task.{Task}
 use Rattle.host_requests.specs.declared.task.Task.TheVariants.{Offer, Segment, NoMore, First, Second, Version, MemoryId, Capabilities}
 use Rattle.host_requests.specs.declared.task.Purpose.{Purpose}
 use Rattle.host_requests.specs.declared.task.Purpose.TheVariants.{Housekeeping, Attempt, Abort}
-use Rattle.host_node.specs.Steps.{attempt_end, tick_end}
-use Rattle.host_node.specs.declared.attempt.Moment.{Moment}
-use Rattle.host_node.specs.declared.attempt.Moment.TheVariants.{BeforeItsTick}
-use Rattle.host_node.specs.declared.attempt.AttemptEnd.{AttemptEnd}
-use Rattle.host_node.specs.declared.attempt.AttemptEnd.TheVariants.{NoneRan, Again, Unanswered}
-use Rattle.host_node.specs.Events.NodeEvent.{Queues_no_more as node_queues_no_more, Ticks as node_ticks, Ends_attempt as node_ends_attempt}
-use Rattle.host_model.specs.State.{HostState, node_of}
-use Rattle.host_model.specs.Sessions.{open_command}
-use Rattle.host_model.specs.Ends.{unanswered, attempt_ended, PartEnd, Good as well, Passed_over, Bad, part_end, after_part, after_task, after_end, after_end_if}
-use Rattle.host_model.specs.After.{after, node_does, requests_do, request_does, is_full, is_held, queues_if_room, finishing, holding, giving, offering, gives_up, line_ticked, failing_if}
-use Rattle.host_model.specs.Events.{HostEvent, Accepts, Cancels, Joins, Queues, Queues_interview, Queues_probe, Hears, Requests_do, Interviews, Interview_unkept, Unreads, Is_unkept, Reports_old, Works, Finishes, Offers, Gives, Spends, Spends_unread, Takes_nonce, Notifies, Resends, Hears_value, Has_no_room, Line_ticks, Node_ticks, Queues_no_more, Drops_no_more, Submits_abort, Submits_front, Starts, Gives_text, Gives_segment, Begins, Begin_unkept}
+use Rattle.proof_host.specs.host_node.Steps.{attempt_end, tick_end}
+use Rattle.proof_host.specs.host_node.declared.attempt.Moment.{Moment}
+use Rattle.proof_host.specs.host_node.declared.attempt.Moment.TheVariants.{BeforeItsTick}
+use Rattle.proof_host.specs.host_node.declared.attempt.AttemptEnd.{AttemptEnd}
+use Rattle.proof_host.specs.host_node.declared.attempt.AttemptEnd.TheVariants.{NoneRan, Again, Unanswered}
+use Rattle.proof_host.specs.host_node.Events.NodeEvent.{Queues_no_more as node_queues_no_more, Ticks as node_ticks, Ends_attempt as node_ends_attempt}
+use Rattle.proof_host.specs.host_model.State.{HostState, node_of}
+use Rattle.proof_host.specs.host_model.Sessions.{open_command}
+use Rattle.proof_host.specs.host_model.Ends.{unanswered, attempt_ended, PartEnd, Good as well, Passed_over, Bad, part_end, after_part, after_task, after_end, after_end_if}
+use Rattle.proof_host.specs.host_model.After.{after, node_does, requests_do, request_does, is_full, is_held, queues_if_room, finishing, holding, giving, offering, gives_up, line_ticked, failing_if}
+use Rattle.proof_host.specs.host_model.Events.{HostEvent, Accepts, Cancels, Joins, Queues, Queues_interview, Queues_probe, Hears, Requests_do, Interviews, Interview_unkept, Unreads, Is_unkept, Reports_old, Works, Finishes, Offers, Gives, Spends, Spends_unread, Takes_nonce, Notifies, Resends, Hears_value, Has_no_room, Line_ticks, Node_ticks, Queues_no_more, Drops_no_more, Submits_abort, Submits_front, Starts, Gives_text, Gives_segment, Begins, Begin_unkept}
 use Rattle.proof_world.specs.Asking.{IsTaskOf, IsPurposeOf, IsUnderWayOf, AreTasksOf}
 
 -- ---- weaker

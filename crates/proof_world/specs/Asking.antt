@@ -8,7 +8,7 @@ use Rattle.host_requests.specs.declared.task.Task.TheVariants.{First, Second}
 use Rattle.host_requests.specs.declared.task.Purpose.{Purpose}
 use Rattle.host_requests.specs.declared.task.Purpose.TheVariants.{Housekeeping}
 use Rattle.host_requests.specs.declared.under_way.UnderWay.{UnderWay}
-use Rattle.host_model.specs.State.{HostState, node_of}
+use Rattle.proof_host.specs.host_model.State.{HostState, node_of}
 use Rattle.proof_serial.specs.Host.{FitsIn}
 
 -- where a task is of an interview, this holds of its node

@@ -1,6 +1,6 @@
 -- What a transcript shows of the sessions of a device (this project's own).
 use Rattle.std.specs.Prelude.{List}
-use Rattle.device_sim.specs.State.{State}
+use Rattle.proof_host.specs.device_sim.State.{State}
 use Rattle.zw_text.specs.declared.entry.Entry.{Entry}
 use Rattle.zw_text.specs.Transcript.{applied}
 use Rattle.proof_device.specs.Showing.{NeverFalls}

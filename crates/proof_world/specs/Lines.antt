@@ -4,8 +4,8 @@ use Rattle.host_requests.specs.Events.{RequestsEvent}
 use Rattle.host_requests.specs.Events.RequestsEvent.{Pushes, PushesInterview}
 use Rattle.host_requests.specs.declared.task.Task.{Task}
 use Rattle.host_requests.specs.declared.task.Task.TheVariants.{Plain, Offer, Segment, First, Second}
-use Rattle.host_model.specs.State.{HostState, node_of}
-use Rattle.host_model.specs.Events.{HostEvent, Queues, Queues_interview, Requests_do, Interviews, Finishes, Gives, Spends, Spends_unread, Takes_nonce}
+use Rattle.proof_host.specs.host_model.State.{HostState, node_of}
+use Rattle.proof_host.specs.host_model.Events.{HostEvent, Queues, Queues_interview, Requests_do, Interviews, Finishes, Gives, Spends, Spends_unread, Takes_nonce}
 use Rattle.proof_device.specs.world_model.State.{Machine}
 use Rattle.proof_device.specs.world_model.Events.{Event, Host_does}
 use Rattle.proof_device.specs.world_model.Did.{AllAlong}

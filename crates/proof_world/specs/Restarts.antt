@@ -4,9 +4,9 @@ use Rattle.std.specs.Prelude.{◌≡◌, ℕ, List, [], ◌∷◌, Option, Some,
 use Rattle.host_keep.specs.Kept.{kept_of}
 use Rattle.host_keep.specs.Legal.{AreTextsOf, AreLegal}
 use Rattle.host_keep.specs.declared.record.Record.{Record}
-use Rattle.host_model.specs.State.{HostState}
-use Rattle.host_model.specs.Holding.{Holds}
-use Rattle.host_model.specs.Recording.{IsOfJoined, AllOfJoined}
+use Rattle.proof_host.specs.host_model.State.{HostState}
+use Rattle.proof_host.specs.host_model.Holding.{Holds}
+use Rattle.proof_host.specs.host_model.Recording.{IsOfJoined, AllOfJoined}
 use Rattle.proof_device.specs.world_model.State.{Machine}
 use Rattle.proof_device.specs.world_model.Events.{Event, Host_does, Host_takes, Restarts, happens}
 use Rattle.proof_host.specs.Facts.{StartsAs}

@@ -17,5 +17,5 @@ mod machine;
 
 pub use lines::{lines_ask_well, lines_keep_and_ask_well, runs_keep_and_ask_well};
 pub use machine::{restarts_go_on, runs_keep_laws, runs_take_once, the_machine_keeps_facts};
-pub use proof_device as device;
-pub use proof_serial as serial;
+pub use proof_device::{devices_go_on, devices_stay_the_same};
+pub use proof_serial::{hosts_write_well, units_are_judged_whole};

@@ -2,7 +2,7 @@
 
 ghost use Rattle.std.specs.Prelude.{◌++◌, Some, List, []};
 ghost use Rattle.s0_crypto.specs.declared.key_pair.Keys.{Keys};
-ghost use Rattle.device_sim.specs.State.{State};
+ghost use Rattle.proof_host.specs.device_sim.State.{State};
 ghost use Rattle.zw_text.specs.declared.line.Line.{Line};
 ghost use Rattle.proof_device.specs.world_model.State.{Machine, first_machine};
 ghost use Rattle.proof_device.specs.world_model.Events.{Event};

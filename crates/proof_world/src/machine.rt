@@ -3,7 +3,7 @@
 ghost use Rattle.std.specs.Prelude.{ℕ, Option, List, [], ◌++◌};
 ghost use Rattle.std.specs.List.{AllByRecursion};
 ghost use Rattle.s0_crypto.specs.declared.key_pair.Keys.{Keys};
-ghost use Rattle.device_sim.specs.State.{State};
+ghost use Rattle.proof_host.specs.device_sim.State.{State};
 ghost use Rattle.zw_text.specs.declared.entry.Entry.{Entry};
 ghost use Rattle.proof_device.specs.world_model.State.{Machine, first_machine};
 ghost use Rattle.proof_device.specs.world_model.Events.{Event, happens, entries, May};
@@ -11,24 +11,20 @@ ghost use Rattle.proof_device.specs.world_model.Did.{happens_all, entries_all, M
 ghost use Rattle.proof_host.specs.Laws.{HostLaws};
 ghost use Rattle.proof_host.specs.Facts.{Facts, AreShown};
 ghost use Rattle.proof_host.specs.Stores.{StoresLaw};
-ghost use Rattle.host_model.specs.State.{first_host};
-ghost use Rattle.host_model.specs.Facts.{HostFacts};
+ghost use Rattle.proof_host.specs.host_model.State.{first_host};
+ghost use Rattle.proof_host.specs.host_model.Facts.{HostFacts};
 ghost use Rattle.proof_host.specs.law_transcript.Headline.{IsAsMade};
 ghost use Rattle.proof_device.specs.GoingOn.{AreSame, AreInOrder, TakeOnce};
 ghost use Rattle.proof_device.specs.Showing.{AreApart, IsShown};
 ghost use Rattle.proof_world.specs.Devices.{GroupsSessions};
 ghost use Rattle.proof_world.specs.Restarts.{StartsWell, AllStartWell, KeepsWell, AllKeepWell, BeginsEmpty, IsHeld};
 
-use device_sim::sessions_rise;
 use host_keep::{a_text_is_of_one_record, records_go_on};
-use host_model::{
-    a_host_begins_with_what_is_kept, a_restart_keeps_what_is_held, events_do_what_their_records_do,
-    records_of_events_are_legal,
-};
 use proof_device::{changes_are_shown, devices_go_on, devices_stay_the_same, devices_take_once};
 use proof_host::{
-    asides_keep_facts, events_keep_facts, first_facts_hold, laws_follow, restarts_keep_facts,
-    what_is_kept_starts_a_host,
+    a_host_begins_with_what_is_kept, a_restart_keeps_what_is_held, asides_keep_facts,
+    events_do_what_their_records_do, events_keep_facts, first_facts_hold, laws_follow,
+    records_of_events_are_legal, restarts_keep_facts, sessions_rise, what_is_kept_starts_a_host,
 };
 
 /// The facts of the host hold of an empty transcript at first, and every event of the machine that may happen keeps them, with what is

@@ -1,14 +1,13 @@
 -- What `replay` reads, runs and writes (this project's own rule).
-use Rattle.std.specs.Prelude.{◌≡◌, ℕ, false, List, [], ◌∷◌, map, Option, Some, Ok}
+use Rattle.std.specs.Prelude.{◌≡◌, ℕ, false, List, [], ◌∷◌, Option, Some, Ok}
 use Rattle.std.specs.List.{flat_map}
-use Rattle.value_store.specs.Values.{held_of}
 use Rattle.zw_text.specs.Line.{replay_at}
 use Rattle.zw_text.specs.Entry.{transcript_text}
 use Rattle.zw_text.specs.declared.line.ReplayLine.{ReplayLine}
 use Rattle.zw_text.specs.declared.entry.Entry.{Entry}
-use Rattle.zw_text.specs.declared.entry.Entry.TheVariants.{Said, TableEnd, TableNode}
-use Rattle.host_model.specs.State.{node_of}
-use Rattle.world_model.specs.Table.{joined_nodes, value_entry}
+use Rattle.zw_text.specs.declared.entry.Entry.TheVariants.{Said, TableEnd}
+use Rattle.host_model.specs.Listing.{host_lines}
+use Rattle.world_model.specs.Table.{joined_nodes}
 use Rattle.run_lines.specs.declared.status.Status.{Status}
 use Rattle.run_lines.specs.Pieces.{pieces_of, said_text}
 use Rattle.run_lines.specs.Lines.{TextLine, DoesText, StopsText, LinesTold}
@@ -19,7 +18,7 @@ use Rattle.host_keep.specs.Keeping.{Shelf}
 -- ---- the final table: the clock; then for each joined node, in order, its sessions and its values
 
 abbrev pub node_entries : Lone → ℕ → List Entry
-node_entries m node = TableNode node (node_of m.host.state node).book.commands ∷ map (value_entry node) (held_of m.host.state.store node)
+node_entries m node = host_lines m.host.state node
 
 abbrev pub table_entries : Lone → List Entry
 table_entries m = TableEnd m.clock ∷ flat_map (node_entries m) (joined_nodes m.host.state)

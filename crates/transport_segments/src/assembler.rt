@@ -211,6 +211,7 @@ fn joined(
         return Ok(None);
     }
     let mut datagram = Bytes::new(alloc);
+    datagram.reserve(places.len())?;
     append_present(&mut datagram, &places[..offset])?;
     datagram.extend(payload)?;
     append_present(&mut datagram, &places[end..])?;

@@ -1,6 +1,6 @@
 //! The segments of a datagram.
 
-ghost use Rattle.std.specs.Prelude.{◌≡◌, ◌+◌, ◌*◌, ◌<◌, ◌≤◌, ◌++◌, length, IfOk};
+ghost use Rattle.std.specs.Prelude.{◌≡◌, ◌+◌, ◌*◌, ◌<◌, ◌≤◌, length, IfOk};
 ghost use Rattle.transport_segments.specs.Segment.{segment_header, segment_text};
 ghost use Rattle.transport_segments.specs.Parts.{Parts, slice_at};
 
@@ -70,7 +70,7 @@ fn header(alloc: Global, id: u8, size: u16, offset: u16, payload: &[u8]) -> Resu
     let size_high = (size / 256) as u8;
     let size_low = (size % 256) as u8;
     if offset == 0 {
-        headed(
+        Bytes::joined(
             alloc,
             &[TRANSPORT, FIRST + size_high, size_low, id * 16],
             payload,
@@ -78,19 +78,10 @@ fn header(alloc: Global, id: u8, size: u16, offset: u16, payload: &[u8]) -> Resu
     } else {
         let tag = id * 16 + (offset / 256) as u8;
         let offset_low = (offset % 256) as u8;
-        headed(
+        Bytes::joined(
             alloc,
             &[TRANSPORT, SUBSEQUENT + size_high, size_low, tag, offset_low],
             payload,
         )
     }
-}
-
-/// A header and then a payload.
-fn headed(alloc: Global, header: &[u8], payload: &[u8]) -> Result<Bytes, NoMemory>
-    ensures { IfOk result (λ text. text ≡ header.now ++ payload.now) }
-{
-    let mut text = Bytes::from_slice(alloc, header)?;
-    text.extend(payload)?;
-    Ok(text)
 }

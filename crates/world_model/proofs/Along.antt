@@ -9,7 +9,7 @@ use Rattle.host_orders.specs.Refusals.{classes_of}
 use Rattle.host_orders.specs.Errands.{send_refusal, send_text, get_refusal, get_text}
 use Rattle.host_requests.specs.declared.task.Task.TheVariants as task
 use Rattle.host_model.specs.State.{node_of}
-use Rattle.host_model.specs.Events.{HostEvent, Accepts, Cancels, Joins as joins_host, Queues, Queues_interview, Queues_probe}
+use Rattle.host_model.specs.Events.{HostEvent, Accepts, Cancels, Joins as joins_host, Queues, Queues_interview, Queues_probe, IsOwn}
 use Rattle.host_model.specs.May.{known_of}
 use Rattle.host_model.specs.Asking.{carriage_for, places_refusal, interview_refusal}
 use Rattle.host_model.specs.Ticking.{tick_events}
@@ -22,7 +22,7 @@ use Rattle.world_model.specs.Did.{happens_all, AllAlong}
 use Rattle.world_model.specs.Settling.{Outside, IsPump, IsChipPart, IsHostPart, TakesBy, OuterTakesAll}
 use Rattle.world_model.specs.Ticking.{IsHostTick}
 use Rattle.world_model.specs.Lines.{IsRefusal, IsDone, Asks, IsRestart, IsDiscovery, IsEffect}
-use Rattle.host_model.proofs.Own.{IsOwn, pump_own, tick_own}
+use Rattle.host_model.proofs.Own.{pump_own, tick_own}
 use Rattle.world_model.proofs.Pieces.{Of, Law, Pieces}
 
 -- ---- what an event may be

@@ -10,12 +10,11 @@ use Rattle.host_keep.specs.RecordText.{record_text}
 use Rattle.host_model.specs.State.{HostState}
 use Rattle.host_model.specs.Events.{HostEvent}
 use Rattle.host_model.specs.After.{after}
-use Rattle.host_model.specs.Outs.{outs, answers}
+use Rattle.host_model.specs.Outs.{outs, answers, Silent}
 use Rattle.host_model.specs.Records.{records_at}
 use Rattle.host_model.specs.Did.{after_all, outs_all, records_all, texts_of, MayAll as MayAllHost, is_unkept, unkept_in as unkept_by_host, one_if, RoseBy, Did}
 use Rattle.host_model.specs.declared.out.HostOut.{HostOut}
 use Rattle.host_model.specs.declared.out.HostOut.TheVariants.{Write, Note}
-use Rattle.host_model.proofs.Silence.{Silent}
 use Rattle.outside_model.specs.State.{Outside, OuterState, outside}
 use Rattle.outside_model.specs.Events.{OuterEvent, Host_notes, happens as happens_outside, devices_after}
 use Rattle.outside_model.specs.Did.{happens_all as happens_all_outside, entries_all as entries_all_outside, Goes}

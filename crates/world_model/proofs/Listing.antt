@@ -1,11 +1,9 @@
 -- Node after node, as the final table lists them.
-use Rattle.std.proofs.Common.{◌≡◌, ℕ, zero, suc, ◌+◌, Bool, true, false, List, [], ◌∷◌, ◌++◌, take, refl, ap, sym, ◌∙◌, subst, append_assoc, arith, add-one}
-use Rattle.std.specs.Prelude.{filter, if◌then◌else◌, Some, slice_get}
-use Rattle.std.proofs.lemmas.Option.{slice_get_within, get_or_from_slice_get}
+use Rattle.std.proofs.Common.{◌≡◌, ℕ, zero, suc, ◌+◌, Bool, true, false, List, [], ◌∷◌, ◌++◌, refl, ap, sym, ◌∙◌, subst, append_assoc, arith, add-one}
+use Rattle.std.specs.Prelude.{filter, if◌then◌else◌}
 use Rattle.std.specs.List.{range_with_len, flat_map}
-use Rattle.std.proofs.lemmas.List.{append-nil, take_more}
+use Rattle.std.proofs.lemmas.List.{append-nil}
 use Rattle.std.proofs.lemmas.Grind.{flat_map-append}
-use Rattle.supervision.specs.Host.{command_at}
 use Rattle.zw_text.specs.declared.entry.Entry.{Entry}
 
 -- a range with one more number
@@ -45,12 +43,3 @@ pub listing_whole : (head : Entry) (entries : ℕ → List Entry) (is_listed : �
 listing_whole head entries is_listed k before all full so_far =
     subst (λ (n : ℕ). all ≡ before ++ listing head (λ n. if is_listed n then entries n else []) n) full so_far
     ∙ ap (λ (l : List Entry). before ++ (head ∷ l)) (sym (flat_filter entries is_listed (range_with_len 1 232)))
-
--- one session more
-pub session_more : (commands sessions new : List ℕ) (k command : ℕ) → sessions ≡ take k commands → command_at commands (k + 1) ≡ Some command → new ≡ sessions ++ command ∷ [] → new ≡ take (k + 1) commands
-session_more commands sessions new k command so_far found put =
-    let at : slice_get commands k ≡ Some command = ap (λ (n : ℕ). command_at commands n) (sym (add-one k)) ∙ found in
-    put
-    ∙ (ap (λ (l : List ℕ). l ++ command ∷ []) so_far
-    ∙ (ap (λ (c : ℕ). take k commands ++ c ∷ []) (sym (get_or_from_slice_get commands k command 0 at))
-    ∙ sym (take_more commands k 0 (slice_get_within commands k command at))))

@@ -1,24 +1,16 @@
 -- The final table (this project's own): the clock; then for each joined node, in order, its sessions, its values and its device.
-use Rattle.std.specs.Prelude.{ℕ, List, ◌∷◌, ◌++◌, map, filter}
+use Rattle.std.specs.Prelude.{ℕ, List, ◌∷◌, ◌++◌, filter}
 use Rattle.std.specs.List.{flat_map, range_with_len}
-use Rattle.value_store.specs.Values.{held_of}
-use Rattle.value_store.specs.declared.stored.Held.{Held}
 use Rattle.zw_text.specs.declared.entry.Entry.{Entry}
-use Rattle.zw_text.specs.declared.entry.Entry.TheVariants.{TableEnd, TableNode, TableValue}
+use Rattle.zw_text.specs.declared.entry.Entry.TheVariants.{TableEnd}
 use Rattle.host_model.specs.State.{HostState, node_of}
+use Rattle.host_model.specs.Listing.{host_lines}
 use Rattle.outside_model.specs.Devices.{kept_entries}
 use Rattle.world_model.specs.State.{Machine}
 
--- a value of a node
-abbrev pub value_entry : ℕ → Held → Entry
-value_entry node held = TableValue node held.property held.stored.confirmed held.stored.heard
-
 -- the lines of a node
 abbrev pub node_entries : Machine → ℕ → List Entry
-node_entries m node =
-    TableNode node (node_of m.host.state node).book.commands
-    ∷ (map (value_entry node) (held_of m.host.state.store node)
-    ++ kept_entries node m.outside.devices)
+node_entries m node = host_lines m.host.state node ++ kept_entries node m.outside.devices
 
 -- the joined nodes
 abbrev pub joined_nodes : HostState → List ℕ

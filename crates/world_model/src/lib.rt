@@ -10,4 +10,5 @@
 
 mod laws;
 
+pub use host_model::{a_restart_keeps_what_is_held, attempts_have_what_they_give, facts_are_kept};
 pub use laws::lists_go_on;

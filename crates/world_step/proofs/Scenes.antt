@@ -6,11 +6,11 @@ use Rattle.serial_frame.specs.Stream.{Rest, after_tick}
 use Rattle.s0_crypto.specs.declared.key_pair.Keys.{Keys}
 use Rattle.device_sim.specs.State.{State}
 use Rattle.zw_text.specs.declared.entry.Entry.{Entry}
+use Rattle.host_model.specs.Outs.{Silent}
 use Rattle.host_model.specs.State.{HostState, HostParts}
 use Rattle.host_model.specs.Events.{HostEvent}
 use Rattle.host_model.specs.Did.{Did}
 use Rattle.host_model.specs.declared.out.HostOut.{HostOut}
-use Rattle.host_model.proofs.Silence.{Silent}
 use Rattle.outside_model.specs.State.{OuterState, outside}
 use Rattle.outside_model.specs.Events.{OuterEvent, is_own, AreOwn}
 use Rattle.outside_model.specs.Did.{RunOf, Goes, GoesOf, PrefixOf as PrefixOfOutside, Stops as StopsOutside}

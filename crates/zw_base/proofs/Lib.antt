@@ -1,3 +1,4 @@
 pub mod CrcLemmas
+mod DigitLemmas
 pub mod Each
 pub mod Results

@@ -9,6 +9,9 @@ use std::marker::Model;
 /// The least room that a copy of some bytes is given: the least memory that is handed out holds as much.
 const LEAST_ROOM: usize = 24;
 
+/// The most bytes of a check that is put after a message.
+const CHECK_LEN: usize = 2;
+
 /// A list of bytes. Contracts see the list.
 #[derive(Debug, Drop)]
 pub struct Bytes {
@@ -40,6 +43,24 @@ impl Bytes {
         Ok(Bytes { bytes: copy })
     }
 
+    /// A copy of bytes, and of others after them, with room for a check after them.
+    pub fn joined(alloc: Global, first: &[u8], rest: &[u8]) -> Result<Bytes, NoMemory>
+        ensures { IfOk result (λ joined. joined ≡ first.now ++ rest.now) }
+    {
+        let len = first.len().saturating_add(rest.len());
+        let mut joined = Vec::with_capacity(alloc, room_for(len.saturating_add(CHECK_LEN)))?;
+        joined.extend_from_slice(first)?;
+        joined.extend_from_slice(rest)?;
+        Ok(Bytes { bytes: joined })
+    }
+
+    /// These bytes, as they are. It takes no memory.
+    pub fn of(bytes: Vec<u8>) -> Bytes
+        ensures { result ≡ bytes.items }
+    {
+        Bytes { bytes }
+    }
+
     pub fn len(&self) -> usize
         ensures { result ≡ length self.now }
     {
@@ -67,6 +88,14 @@ impl Bytes {
         ensures err { OnErr result (self.new ≡ self.old) }
     {
         self.bytes.extend_from_slice(bytes)?;
+        Ok(())
+    }
+
+    /// Makes room for so many more bytes.
+    pub fn reserve(&mut self, additional: usize) -> Result<(), NoMemory>
+        ensures { self.new ≡ self.old }
+    {
+        self.bytes.reserve(additional)?;
         Ok(())
     }
 

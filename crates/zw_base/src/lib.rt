@@ -35,7 +35,7 @@ pub use list::List;
 pub use memory::NoMemory;
 pub use memory_sink::MemorySink;
 pub use memory_source::MemorySource;
-pub use node::{NodeId, read_node};
+pub use node::{MAX_NODE, NodeId, controller, node_after, read_node};
 pub use order::{Order, What, Word};
 pub use outside::{Draw, Failed, Sink, Source};
 pub use payload::{Payload, Replies};

@@ -35,13 +35,21 @@ impl Payload {
     pub fn of(bytes: &[u8]) -> Option<Payload>
         ensures { SomeIff result (length bytes.now ≤ 46) bytes.now }
     {
-        let len = bytes.len();
-        if len > MAX_PAYLOAD {
+        if bytes.len() > MAX_PAYLOAD {
             return None;
         }
+        Some(Payload::fitting(bytes))
+    }
+
+    /// These bytes, at most 46, as a payload. It takes no memory.
+    pub fn fitting(bytes: &[u8]) -> Payload
+        requires { length bytes.now ≤ 46 }
+        ensures { result ≡ bytes.now }
+    {
+        let len = bytes.len();
         let mut buffer = [0; MAX_PAYLOAD];
         buffer[..len].copy_from_slice(bytes);
-        Some(Payload { buffer, len })
+        Payload { buffer, len }
     }
 
     pub fn bytes(&self) -> &[u8]

@@ -39,6 +39,7 @@ impl Name {
 }
 
 /// A name and its number.
+#[inline(always)]
 fn push_named(text: &mut String, name: &str, n: u8) -> Result<(), AllocError>
     ensures { OnOk result (string_bytes text.new ≡ string_bytes text.old ++ (name.now ++ decimal n)) }
 {

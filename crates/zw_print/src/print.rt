@@ -76,6 +76,7 @@ pub fn write_line(alloc: Global, entry: &Entry, scratch: &mut String) -> Result<
 }
 
 /// The same with an end.
+#[inline(always)]
 fn write_ended(
     alloc: Global,
     entry: &Entry,

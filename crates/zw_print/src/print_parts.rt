@@ -30,6 +30,7 @@ pub fn print_word(text: &mut String, word: &str) -> Result<(), AllocError>
 }
 
 /// A word and a number.
+#[inline(always)]
 pub fn print_count(text: &mut String, word: &str, n: u64) -> Result<(), AllocError>
     ensures { OnOk result (string_bytes text.new ≡ string_bytes text.old ++ join_with_byte 32 (word.now ∷ decimal n ∷ [])) }
 {
@@ -152,6 +153,7 @@ pub fn print_unread(
 }
 
 /// A word, a node, a property and its value.
+#[inline(always)]
 pub fn print_setting_of(
     text: &mut String,
     word: &str,

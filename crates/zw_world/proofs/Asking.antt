@@ -29,8 +29,7 @@ use Rattle.host_model.specs.Events.{Joins as joins_host}
 use Rattle.host_model.specs.Did.{Did, RoseIf, after_all, outs_all, records_all, texts_of}
 use Rattle.host_model.specs.Asking.{places_refusal, carriage_for}
 use Rattle.host_model.specs.declared.out.HostOut.{HostOut}
-use Rattle.host_model.specs.Outs.{answers}
-use Rattle.host_model.proofs.Silence.{Silent}
+use Rattle.host_model.specs.Outs.{answers, Silent}
 use Rattle.host_core.specs.Calls.{DoesAlone, Are, scene, shelf_of}
 use Rattle.host_core.specs.Calls as calls
 use Rattle.host_core.specs.Orders.{question_event, places_of}

@@ -226,21 +226,21 @@ class Reading:
         if moments[0] is not None and moments[1] is not None and clears_broken(last, *moments):
             self.breaks("ClearsLine", "IsLegal", "each or only", len(entries), "the end")
 
-    def host(self):
-        """The laws of the host alone over what it heard."""
+    def host(self, whole):
+        """The laws of the host alone over what it heard, of this whole."""
         entries = heard(self.entries)
         place, heeds = notes_broken(entries, self.key, self.whole)
         listing = heeds.listing
         if place is not None:
             entry = repr(entries.items()[place]) if place < len(entries) else "the end"
-            self.breaks("NotesWhatHappens", "IsHostLegal", "fits, in_the_end or nonces", place, entry)
-        self.tests("IsHostLegal", HOST_TESTS, entries, heeds)
+            self.breaks("NotesWhatHappens", whole, "fits, in_the_end or nonces", place, entry)
+        self.tests(whole, HOST_TESTS, entries, heeds)
         code, last = lambda path: NAMES.get(path).code, ended(entries) if self.whole else entries  # noqa: E731
         shown = code("zw_text.specs.Transcript.shown")(NAMES.get("law_transcript.specs.Stores.store_at"), entries)
         asked = code("law_transcript.specs.Stores.stores_asked")(listing, entries)
         carries = code("law_transcript.specs.Once.CarriesOnce")
         before, last_line = code("law_transcript.specs.Answers.before_last")(entries), code("zw_text.specs.Transcript.line_last")(entries)
-        self.claims("IsHostLegal", (
+        self.claims(whole, (
             ("AnswersLines", "answered", not self.whole or code("law_transcript.specs.Answers.AsksNothing")(refusals(listing), before, last_line)),
             ("RestsWell", "rested", not self.whole or code("law_time.specs.Rests.rests_well")(heeds, entries, WORLD.variant("Entry.Said", ()))),
             ("StoresConfirmed", "asked", tuple_of(asked)[:len(shown)] == tuple_of(shown)),
@@ -248,7 +248,7 @@ class Reading:
             ("CarriesOnce", "carries", all(carries(node, entries) for node in tuple_of(code("zw_text.specs.Transcript.joined")(entries))))))
         broken, _ = links_broken(last, SIDES["h"])
         if broken:
-            self.breaks("KeepsLinks", "IsHostLegal", broken[0], broken[1], "by events of the line, as heard")
+            self.breaks("KeepsLinks", whole, broken[0], broken[1], "by events of the line, as heard")
 
 
 def violations(lines, key, alone=None):
@@ -258,7 +258,7 @@ def violations(lines, key, alone=None):
     reading = Reading(transcript._replace(entries=heard_alone(transcript.entries)) if alone else transcript, key)
     if not alone:
         reading.sim()
-    reading.host()
+    reading.host("IsHostLegal" if alone else "IsLegal, IsHostLegal")
     return reading.found
 
 

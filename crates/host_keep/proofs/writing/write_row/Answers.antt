@@ -1,5 +1,4 @@
 use Rattle.std.proofs.Common.{◌∙◌, ap}
-use Rattle.std.proofs.lemmas.Result.{IfOk-weaker}
 use Rattle.serde_json.specs.Written.{compact_text, has_float}
 use Rattle.host_keep.specs.RecordText.{row_text}
 use Rattle.host_keep.proofs.RowTexts.{no_float}
@@ -11,4 +10,4 @@ unfolding row_text
 returns c =
     let plain = ap has_float c.in_ok-row_value.ensures ∙ no_float c.args.numbers.now in
     let text = c.in_ok-text.ensures.text plain in
-    IfOk-weaker c.from_slice.result _ _ (λ v h. h ∙ c.as_slice.ensures.value ∙ text ∙ ap compact_text c.in_ok-row_value.ensures) c.from_slice.ensures
+    c.of.ensures ∙ text ∙ ap compact_text c.in_ok-row_value.ensures

@@ -1,18 +1,20 @@
-use Rattle.law_time.specs.Heeds.{heeds_of}
 use Rattle.std.proofs.Common.{◌≡◌, ℕ, ◌==◌, Bool, true, false, if◌then◌else◌, List, [], ◌∷◌, ◌++◌, arith, refl, sym, ap, subst, append_assoc, append-nil, ◌∙◌}
-use Rattle.std.specs.Prelude.{Some, None}
+use Rattle.std.specs.Prelude.{Some, None, map}
 use Rattle.std.proofs.lemmas.Bool.{eqb-true}
 use Rattle.law_transcript.specs.device_stack.State.{State}
 use Rattle.zw_words.specs.declared.side.Side.TheVariants.{Host, Chip}
 use Rattle.zw_text.specs.declared.entry.Entry.{Entry}
 use Rattle.zw_text.specs.declared.entry.Entry.TheVariants.{Said}
 use Rattle.zw_text.specs.Transcript.{line_last}
+use Rattle.host_keep.specs.Kept.{kept_of, node_of}
+use Rattle.host_keep.specs.RecordText.{record_text}
+use Rattle.law_transcript.specs.Records.{KeepsRecords, ShowsNode}
 use Rattle.law_transcript.specs.Devices.{RanAsShown, after_events}
 use Rattle.law_transcript.specs.Fates.{MayFare}
 use Rattle.law_transcript.specs.Lists.{EachAfter}
 use Rattle.law_transcript.specs.Nodes.{device_of, listing_of, always}
 use Rattle.law_transcript.specs.Worked.{plain_exchange, the_switch}
-use Rattle.law_transcript.specs.WorkedDevices.{switch_events}
+use Rattle.law_transcript.specs.WorkedDevices.{plain_records, switch_events}
 use Rattle.law_wire.specs.Arriving.{FollowsRepeat, IsForgotten, forgets}
 use Rattle.law_wire.specs.Clearing.{ClearsLine}
 use Rattle.law_wire.specs.Doings.{DoesAtOnce}
@@ -21,14 +23,14 @@ use Rattle.law_wire.specs.Pipes.{may_overrun}
 use Rattle.law_wire.specs.Serial.{ended}
 use Rattle.law_wire.specs.Times.{MayBeTold, TellsTime}
 use Rattle.law_host.specs.Heard.{heard_by_host}
-use Rattle.law_host.specs.HostLegal.{ShowsValues}
-use Rattle.law_host.specs.Notes.{NotesWhatHappens, first_start}
-use Rattle.law_host.specs.Worked.{all_kept}
+use Rattle.law_host.specs.HostLegal.{IsLegalAlone, ShowsValues}
+use Rattle.law_host.specs.Notes.{first_start}
+use Rattle.law_host.specs.Worked.{plain_heard}
 use Rattle.law_wire.proofs.Judging.{both_links, keeps_link}
 use Rattle.law_wire.proofs.Moves.{acts_of}
+use Rattle.law_wire.proofs.ShownRecords.{blank_at, gives_plain, shows_nodes}
 use Rattle.law_transcript.proofs.Computing.{computing_devices}
 use Rattle.law_time.proofs.Computing.{computing}
-use Rattle.law_host.proofs.Noting.{noted}
 use Rattle.law_host.proofs.legal.worked_run.Goals as goal
 
 -- up to its end
@@ -80,9 +82,40 @@ told = (
   ),
 )
 
-noted_so : NotesWhatHappens [] (heeds_of (the_switch ∷ [])) first_start true (heard_by_host plain_exchange)
+-- what the host heard of it shows what the records give
+abbrev records : List (List ℕ)
+records = map record_text plain_records
+
+heard_nodes : (node : ℕ) → ShowsNode plain_heard node (node_of (kept_of plain_records) node)
+unfolding computing_devices
+heard_nodes = shows_nodes plain_heard (kept_of plain_records) 3 (record { joined = refl; interviewed = refl; waits = refl; begun = refl; ended = refl }, (record { joined = refl; interviewed = refl; waits = refl; begun = refl; ended = refl }, (record { joined = refl; interviewed = refl; waits = refl; begun = refl; ended = refl }, tt))) (blank_at 230) refl refl refl
+
+keeps_heard : KeepsRecords plain_heard records
+unfolding computing_devices
+keeps_heard = record { kept = kept_of plain_records; gives = gives_plain; shows = record { orders = refl; cancelled = refl; nodes = heard_nodes } }
+
+heard_is : plain_heard ≡ heard_by_host plain_exchange
 unfolding computing
-noted_so = noted [] (heeds_of (the_switch ∷ [])) first_start (heard_by_host plain_exchange) all_kept refl
+heard_is = refl
+
+with_records : IsLegalAlone [] first_start true plain_heard None → IsLegalAlone [] first_start true plain_heard (Some records)
+with_records alone = record {
+  taken = alone.taken;
+  legal = record {
+    answers = alone.legal.answers;
+    cancels = alone.legal.cancels;
+    sessions = alone.legal.sessions;
+    carries = alone.legal.carries;
+    link = alone.legal.link;
+    notes = alone.legal.notes;
+    stores = alone.legal.stores;
+    values = alone.legal.values;
+    sends = alone.legal.sends;
+    prompt = alone.legal.prompt;
+    records_kept = λ whole. keeps_heard;
+  };
+  heeded = alone.heeded;
+}
 
 -- there is one device, of node 2
 abbrev after : State
@@ -192,8 +225,8 @@ returns c = record {
     serves = c.worked_service.ensures.plain;
     times = ends MayBeTold told timed;
   };
+  host = subst (λ (heard : List Entry). IsLegalAlone [] first_start true heard (Some records)) heard_is (with_records c.worked_legal.ensures.plain);
   sends = c.worked_payloads.ensures.plain;
-  notes = noted_so;
   cancels = c.worked_cancels.ensures.plain;
   stores = c.worked_stores.ensures.plain;
   shows = c.worked_showing.ensures.plain;

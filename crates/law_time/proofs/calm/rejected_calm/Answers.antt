@@ -81,3 +81,11 @@ returns-clause-owed c = λ calm. not_true calm.still.called
 pub returns-clause-dropped : goal.returns-clause-dropped
 unfolding computing
 returns-clause-dropped c = λ calm. not_true calm.still.called
+
+pub returns-clause-information : goal.returns-clause-information
+unfolding computing
+returns-clause-information c = λ calm. not_true calm.still.called
+
+pub returns-clause-unsettled : goal.returns-clause-unsettled
+unfolding computing
+returns-clause-unsettled c = λ calm. not_true calm.still.settled

@@ -36,7 +36,7 @@ pub returns-clause-missing : goal.returns-clause-missing
 unfolding computing
 returns-clause-missing c = λ law. not_true (law.alone
     (record {
-      still = record { marks = refl; judged = refl; host = refl; chip = refl; called = refl; air = refl; idle = refl; asleep = refl; working = refl };
+      still = record { marks = refl; judged = refl; host = refl; chip = refl; called = refl; settled = refl; air = refl; idle = refl; asleep = refl; working = refl };
       to_come = refl;
     })
     (record {
@@ -53,7 +53,7 @@ pub returns-clause-missing_together : goal.returns-clause-missing_together
 unfolding computing
 returns-clause-missing_together c = λ law. not_true (law.together
     (record {
-      still = record { marks = refl; judged = refl; host = refl; chip = refl; called = refl; air = refl; idle = refl; asleep = refl; working = refl };
+      still = record { marks = refl; judged = refl; host = refl; chip = refl; called = refl; settled = refl; air = refl; idle = refl; asleep = refl; working = refl };
       to_come = refl;
     })
     (record {
@@ -70,7 +70,7 @@ pub returns-clause-succeeded : goal.returns-clause-succeeded
 unfolding computing
 returns-clause-succeeded c = λ law. not_true (law.alone
     (record {
-      still = record { marks = refl; judged = refl; host = refl; chip = refl; called = refl; air = refl; idle = refl; asleep = refl; working = refl };
+      still = record { marks = refl; judged = refl; host = refl; chip = refl; called = refl; settled = refl; air = refl; idle = refl; asleep = refl; working = refl };
       to_come = refl;
     })
     (record {
@@ -87,7 +87,7 @@ pub returns-clause-failed : goal.returns-clause-failed
 unfolding computing
 returns-clause-failed c = λ law. not_true (law.alone
     (record {
-      still = record { marks = refl; judged = refl; host = refl; chip = refl; called = refl; air = refl; idle = refl; asleep = refl; working = refl };
+      still = record { marks = refl; judged = refl; host = refl; chip = refl; called = refl; settled = refl; air = refl; idle = refl; asleep = refl; working = refl };
       to_come = refl;
     })
     (record {

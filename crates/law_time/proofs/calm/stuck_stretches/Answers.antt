@@ -5,7 +5,7 @@ use Rattle.law_time.proofs.calm.stuck_stretches.Goals as goal
 
 pub returns-clause-still : goal.returns-clause-still
 unfolding computing
-returns-clause-still c = record { marks = refl; judged = refl; host = refl; chip = refl; called = refl; air = refl; idle = refl; asleep = refl; working = refl }
+returns-clause-still c = record { marks = refl; judged = refl; host = refl; chip = refl; called = refl; settled = refl; air = refl; idle = refl; asleep = refl; working = refl }
 
 pub returns-clause-stuck : goal.returns-clause-stuck
 unfolding computing

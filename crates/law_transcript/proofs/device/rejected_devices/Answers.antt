@@ -1,7 +1,7 @@
 use Rattle.std.proofs.Common.{◌≡◌, ℕ, true, false, List, [], ◌∷◌, length, sym, ap, ◌∙◌, arith}
 use Rattle.std.specs.List.{flat_map}
 use Rattle.zw_base.specs.declared.property.Setting.{Setting}
-use Rattle.device_kinds.specs.declared.change.Change.{Change}
+use Rattle.device_sim.specs.device_kinds.declared.change.Change.{Change}
 use Rattle.device_sim.specs.Event.{DeviceEvent}
 use Rattle.device_sim.specs.State.{State}
 use Rattle.law_transcript.specs.Devices.{after_events, made_by, replies_joined}

@@ -1,5 +1,5 @@
 use Rattle.std.proofs.Common.{◌≡◌, ℕ, length, ap, arith}
-use Rattle.device_stack.specs.State.{State}
+use Rattle.device_sim.specs.device_stack.State.{State}
 use Rattle.law_transcript.proofs.Computing.{computing}
 use Rattle.law_transcript.proofs.device.rejected_made.Goals as goal
 

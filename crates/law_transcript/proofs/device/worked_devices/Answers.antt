@@ -16,7 +16,7 @@ use Rattle.law_transcript.specs.Worked.{bytes, sealed_exchange, turned_on, turne
 use Rattle.law_transcript.specs.WorkedDevices.{tick, switch_events, repeated_events, lossy_events, restarted_events, cut_events, sensor_events, the_keyed_lock, sealed_set, lock_begins, lock_goes_on, lock_events, hand_events, switch_at_work}
 use Rattle.transport_segments.specs.Places.{written, IsFull}
 use Rattle.transport_segments.specs.Taking.{taken_at, kept_after}
-use Rattle.device_stack.specs.Hearing.{hears_in_segments, hears_segment, hears_plain, hears_sealed, hears_securely, active}
+use Rattle.device_sim.specs.device_stack.Hearing.{hears_in_segments, hears_segment, hears_plain, hears_sealed, hears_securely, active}
 use Rattle.class_core.specs.MessageReading.{configuration_bulk_at}
 use Rattle.class_core.specs.Reading.{size_at, numbers_at}
 use Rattle.class_info.specs.InfoReading.{nonce_at}

@@ -5,7 +5,8 @@ use Rattle.std.specs.Prelude.{take}
 use Rattle.zw_text.specs.declared.entry.Entry.TheVariants.{Heard}
 use Rattle.law_transcript.specs.WorkedDevices.{the_keyed_lock}
 use Rattle.law_wire.specs.Arriving.{MayMeet}
-use Rattle.law_wire.proofs.Listening.{IsUp, lock_hears, lock_hears_again}
+use Rattle.law_wire.specs.Listening.{IsUp}
+use Rattle.law_wire.proofs.Listening.{listener_hears, listener_hears_again}
 use Rattle.transport_segments.specs.Places.{written, IsFull}
 use Rattle.transport_segments.specs.Taking.{taken_at, kept_after}
 use Rattle.law_transcript.specs.device_stack.Hearing.{hears_in_segments, hears_segment}
@@ -376,27 +377,27 @@ returns-clause-sleeping c = meets_what_is_due (the_sensor ∷ []) sleeping_node 
 
 -- the lock hears whatever has come to it before, and whatever that opened to
 lock_is_up : IsUp the_keyed_lock
-lock_is_up = record { kind = refl; awake = refl }
+lock_is_up = record { is_listening = refl; awake = refl }
 
 heard_1 : MayMeet (the_keyed_lock ∷ []) (take 27 sealed_exchange) (Heard 1)
 unfolding reckoning
-heard_1 = lock_hears (the_keyed_lock ∷ []) (take 27 sealed_exchange) 1 _ the_keyed_lock refl refl refl refl refl lock_is_up
+heard_1 = listener_hears (the_keyed_lock ∷ []) (take 27 sealed_exchange) 1 _ the_keyed_lock refl refl refl refl refl lock_is_up
 
 heard_3 : MayMeet (the_keyed_lock ∷ []) (take 41 sealed_exchange) (Heard 3)
 unfolding reckoning
-heard_3 = lock_hears (the_keyed_lock ∷ []) (take 41 sealed_exchange) 3 _ the_keyed_lock refl refl refl refl refl lock_is_up
+heard_3 = listener_hears (the_keyed_lock ∷ []) (take 41 sealed_exchange) 3 _ the_keyed_lock refl refl refl refl refl lock_is_up
 
 heard_5 : MayMeet (the_keyed_lock ∷ []) (take 55 sealed_exchange) (Heard 5)
 unfolding reckoning
-heard_5 = lock_hears (the_keyed_lock ∷ []) (take 55 sealed_exchange) 5 _ the_keyed_lock refl refl refl refl refl lock_is_up
+heard_5 = listener_hears (the_keyed_lock ∷ []) (take 55 sealed_exchange) 5 _ the_keyed_lock refl refl refl refl refl lock_is_up
 
 heard_7 : MayMeet (the_keyed_lock ∷ []) (take 70 sealed_exchange) (Heard 7)
 unfolding reckoning
-heard_7 = lock_hears (the_keyed_lock ∷ []) (take 70 sealed_exchange) 7 _ the_keyed_lock refl refl refl refl refl lock_is_up
+heard_7 = listener_hears (the_keyed_lock ∷ []) (take 70 sealed_exchange) 7 _ the_keyed_lock refl refl refl refl refl lock_is_up
 
 repeat_heard : MayMeet (the_keyed_lock ∷ []) (take 81 sealed_exchange) (Heard 5)
 unfolding reckoning
-repeat_heard = lock_hears_again (the_keyed_lock ∷ []) (take 81 sealed_exchange) 5 _ the_keyed_lock refl refl refl lock_is_up
+repeat_heard = listener_hears_again (the_keyed_lock ∷ []) (take 81 sealed_exchange) 5 _ the_keyed_lock refl refl refl lock_is_up
 
 pub returns-clause-sealed : goal.returns-clause-sealed
 unfolding reckoning

@@ -1,7 +1,8 @@
 -- A device that listens stays awake, and hears what is sent to it.
 use Rattle.std.proofs.Common.{refl}
 use Rattle.world_model.specs.Did.{happens_all}
-use Rattle.proof_answered.proofs.Listeners.{all_stay, event_up, listener_hears}
+use Rattle.proof_answered.proofs.Listeners.{all_stay, listener_hears}
+use Rattle.law_time.proofs.Listening.{event_up}
 use Rattle.proof_answered.proofs.listening.listeners_hear.Goals as goal
 
 pub returns-clause-fresh : goal.returns-clause-fresh

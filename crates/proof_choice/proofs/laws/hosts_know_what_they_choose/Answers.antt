@@ -19,7 +19,7 @@ use Rattle.proof_giving.specs.proof_queue.proof_attempts.Since.{KnowsSince}
 use Rattle.proof_giving.proofs.Lasting.{since_walk}
 use Rattle.proof_giving.proofs.Queued.{PayloadsBring}
 use Rattle.proof_giving.proofs.Running.{run_keeps}
-use Rattle.proof_ends.specs.proof_rests.proof_nonces.proof_known.Known.{KnowsTold, KnowsWhole}
+use Rattle.proof_following.specs.proof_ends.proof_rests.proof_nonces.proof_known.Known.{KnowsTold, KnowsWhole}
 use Rattle.proof_giving.specs.proof_queue.Heeding.{AllSteps, HeedsAs, HeedsSo}
 use Rattle.proof_giving.proofs.Seeing.{Sights, sights_along}
 use Rattle.proof_giving.proofs.proof_queue_Segments.{Shows}

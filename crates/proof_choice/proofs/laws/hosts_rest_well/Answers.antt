@@ -16,9 +16,9 @@ use Rattle.proof_giving.specs.proof_queue.proof_attempts.proof_requests.proof_al
 use Rattle.proof_giving.specs.proof_queue.proof_attempts.proof_requests.proof_alone.Runs.{Knowledge, Run, both_know}
 use Rattle.proof_giving.specs.proof_queue.proof_attempts.proof_requests.proof_alone.Time.{TieClock}
 use Rattle.proof_giving.specs.proof_queue.Heeding.{AllSteps, HeedsAs, HeedsSo}
-use Rattle.proof_ends.specs.proof_rests.Known.{KnowsAll as KnowsDone, WasSo}
-use Rattle.proof_ends.specs.proof_rests.Undone.{may_begin}
-use Rattle.proof_ends.proofs.AtRests.{before_line, rests_walk}
+use Rattle.proof_following.specs.proof_ends.proof_rests.Known.{KnowsAll as KnowsDone, WasSo}
+use Rattle.proof_following.specs.proof_ends.proof_rests.Undone.{may_begin}
+use Rattle.proof_following.proofs.AtRests.{before_line, rests_walk}
 use Rattle.proof_choice.specs.Resting.{RestingGround, rests_with_none}
 use Rattle.proof_choice.specs.Turning.{AllAlong, KnowsAll}
 use Rattle.proof_choice.specs.Waits.{AskingGround}

@@ -6,6 +6,7 @@ returns c = λ key old new. record {
   headline = c.stories_have_the_headline.ensures.one key old new;
   after_change = c.stories_have_the_headline.ensures.after_change key old new;
   whole_headline = c.stories_have_the_headline.ensures.whole key old new;
+  legal = c.stories_are_legal.ensures key old new;
   of_host = record {
     kept = c.stories_keep_records.ensures key old new;
     orders = c.stories_keep_laws.ensures.orders key old new;
@@ -33,7 +34,8 @@ returns c = λ key old new. record {
     nonces = c.stories_send_what_is_due.ensures.nonces key old new;
     noted = c.stories_note_in_full.ensures.noted key old new;
     unkept = c.stories_note_in_full.ensures.unkept key old new;
-    heard = c.stories_are_heard.ensures key old new;
+    heard = c.stories_are_heard.ensures.laws key old new;
+    alone = c.stories_are_heard.ensures.legal key old new;
   };
   of_devices = record {
     once = c.stories_take_once.ensures.once key old new;

@@ -1,7 +1,7 @@
 -- Lines are told by a host alone, and so is what is heard of them.
 use Rattle.std.specs.Prelude.{Some, []}
 use Rattle.world_model.specs.State.{first_machine}
-use Rattle.world_lines.specs.Spoken.{transcript_of}
+use Rattle.proof_rests.specs.world_lines.Spoken.{transcript_of}
 use Rattle.proof_rests.specs.proof_requests.law_host.Heard.{heard_by_host}
 use Rattle.proof_rests.specs.proof_requests.proof_alone.Phases.{Resting}
 use Rattle.proof_rests.specs.proof_requests.proof_alone.State.{first_alone}

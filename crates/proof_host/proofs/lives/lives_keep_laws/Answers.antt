@@ -1,6 +1,6 @@
 -- The facts go from the beginning through all lives.
 use Rattle.std.proofs.Common.{[], sym, subst}
-use Rattle.host_keep.specs.Kept.{Kept}
+use Rattle.host_model.specs.host_keep.Kept.{Kept}
 use Rattle.host_model.specs.Holding.{Holds}
 use Rattle.host_model.specs.State.{first_host}
 use Rattle.proof_host.specs.Lives.{entries_of_lives, last_of_lives}

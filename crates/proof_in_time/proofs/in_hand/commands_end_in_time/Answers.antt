@@ -1,6 +1,8 @@
 -- Over the first lines the host may serve each of these nodes; from then on, one walk counts down the ticks of a command.
 use Rattle.std.proofs.Common.{◌≡◌, ◌≤◌, ◌<◌, ℕ, suc, ◌+◌, ◌-◌, Bool, true, false, List, [], ◌++◌, length, Some, sym, ap, ◌∙◌, subst, arith}
 use Rattle.chip_sim.specs.Nodes.{is_marked}
+use Rattle.s0_crypto.specs.declared.key_pair.Keys.{Keys}
+use Rattle.device_sim.specs.State.{State}
 use Rattle.host_node.specs.Search.{next_of}
 use Rattle.host_model.specs.After.{after}
 use Rattle.host_model.specs.Events.{HostEvent}
@@ -26,12 +28,16 @@ use Rattle.proof_answered.proofs.Walking.{begins_known}
 use Rattle.proof_answered.proofs.Outwards.{marked_within}
 use Rattle.proof_answered.specs.proof_calm.proof_work.proof_walk.Phases.{Between}
 use Rattle.proof_in_time.specs.Coming.{IsKeptFor, IsReadyFor, KnowPlainly}
-use Rattle.proof_in_time.specs.InHand.{AllServe, HasEnded, HearsNoTask, IsInHand, ticks_begun, ticks_of_all}
-use Rattle.proof_in_time.specs.InStep.{IsPlainly}
+use Rattle.proof_in_time.specs.InHand.{HasEnded, IsInHand, ticks_begun, ticks_of_all}
+use Rattle.proof_answered.specs.Few.{AreIdle}
+use Rattle.proof_in_time.specs.InStep.{GoesInStep, IsPlainly, IsPlainOver}
+use Rattle.proof_in_time.specs.Stretch.{IsStretchFor}
 use Rattle.proof_in_time.proofs.Bounded.{Devices}
 use Rattle.proof_in_time.proofs.Lasting.{node_within}
-use Rattle.proof_in_time.proofs.Nearing.{HasAll, KnowSoon, Soon, served_walk, soon_past, soon_then, soon_walk}
-use Rattle.proof_in_time.proofs.Spoken.{after_both, both_along, done_later, each_along, events_both, told_both, whole_parts}
+use Rattle.proof_in_time.proofs.Nearing.{AreServed, KnowSoon, Soon, served_walk, soon_past, soon_then, soon_walk}
+use Rattle.proof_in_time.proofs.Plainly.{Tells}
+use Rattle.proof_answered.proofs.Speaking.{Same}
+use Rattle.proof_in_time.proofs.Spoken.{after_both, done_later, each_along, events_both, told_both, whole_parts}
 use Rattle.proof_in_time.proofs.in_hand.commands_end_in_time.Goals as goal
 
 below : (these : List Bool) → length these ≡ 233 → (n : ℕ) → is_marked these n ≡ true → n < 233
@@ -50,10 +56,9 @@ as_many begun more = omega arith
 
 -- lines of a stretch, and those behind: at the first moment it is known what waits, and that these nodes are served; in the end the command has ended
 module _ (airs : Airs) (devices_of : Devices) (facts_kept : (h : HostState) (event : HostEvent) → HostFacts h → MayHost h event → HostFacts (after h event)) (these : List Bool) (many : length these ≡ 233) (none : is_marked these 0 ≡ false)
-    (workers : (h : HostState) (k : ℕ) → KnowsWorkers these h → next_of h.nodes h.served ≡ Some k → is_marked these k ≡ true) (plainly : WalkWhere (IsPlainly these) AsksNothing (KnowPlainly these)) (start : Machine) (before first lines : List Spoken)
+    (workers : (h : HostState) (k : ℕ) → KnowsWorkers these h → next_of h.nodes h.served ≡ Some k → is_marked these k ≡ true) (same : Same) (tells : Tells) (plainly : WalkWhere (IsPlainly these) AsksNothing (KnowPlainly these)) (start : Machine) (before first lines : List Spoken)
     (are : AreDone start (before ++ (first ++ lines))) (whole : AreWhole (after_all start before) (first ++ lines)) (all : AllAlong (IsPlainly these) start (events_of (before ++ (first ++ lines))))
-    (kept : IsKeptFor these (transcript_of (after_all start before) (first ++ lines))) (ready : IsReadyFor these (after_all start before)) (serves : AllServe these (after_all start before).host.state)
-    (hears : AllAlong HearsNoTask (after_all start before) (events_of (first ++ lines))) where
+    (kept : IsKeptFor these (transcript_of (after_all start before) (first ++ lines))) (ready : IsReadyFor these (after_all start before)) (served : AreServed these (after_all start before)) where
   abbrev ready_at : Machine
   ready_at = after_all start before
 
@@ -66,19 +71,19 @@ module _ (airs : Airs) (devices_of : Devices) (facts_kept : (h : HostState) (eve
   parts : AreDone ready_at first × AreWhole ready_at first × AreWhole then_at lines
   parts = whole_parts ready_at first lines done whole
 
-  of_stretch : AllAlong (HasAll these) ready_at (events_of (first ++ lines))
-  of_stretch = both_along (IsPlainly these) HearsNoTask ready_at (events_of (first ++ lines)) (along_later (IsPlainly these) start before (first ++ lines) all) hears
+  of_stretch : AllAlong (IsPlainly these) ready_at (events_of (first ++ lines))
+  of_stretch = along_later (IsPlainly these) start before (first ++ lines) all
 
-  of_first : AllAlong (HasAll these) ready_at (events_of first)
-  of_first = (along_parts (HasAll these) ready_at (events_of first) (events_of lines) (subst (λ (es : List Event). AllAlong (HasAll these) ready_at es) (events_both first lines) of_stretch)).0
+  of_first : AllAlong (IsPlainly these) ready_at (events_of first)
+  of_first = (along_parts (IsPlainly these) ready_at (events_of first) (events_of lines) (subst (λ (es : List Event). AllAlong (IsPlainly these) ready_at es) (events_both first lines) of_stretch)).0
 
   known : KnowAccepted these (length ready_at.host.state.commands) Between (transcript_of ready_at first) then_at
   known =
-      where_whole (HasAll these) AsksNothing (KnowAccepted these (length ready_at.host.state.commands))
-      (accepted_walk airs these many none facts_kept (length ready_at.host.state.commands) (served_walk airs these many none plainly)) [] ready_at first parts.0 parts.1 of_first (
+      where_whole (IsPlainly these) AsksNothing (KnowAccepted these (length ready_at.host.state.commands))
+      (accepted_walk airs these many none facts_kept (length ready_at.host.state.commands) (served_walk airs these many none same tells plainly)) [] ready_at first parts.0 parts.1 of_first (
         (
           (((λ is. (((λ stretched. ((begins_known ready_at ready.tied ready.few, rests_heard ready_at ready.tied.rests), ready.listen)), λ stretched. ready.knows), record { lines = tt; speak = ready.speak })), λ is. ready.waiting), λ is. ready.first),
-          λ is. serves,
+          λ is. served,
         ),
         λ is n marked. none_yet n ready_at.host.state,
       )
@@ -92,8 +97,8 @@ module _ (airs : Airs) (devices_of : Devices) (facts_kept : (h : HostState) (eve
       let node = node_within these many none n marked in
       let later : Machine = after_all then_at lines in
       let told : IsKeptFor these (transcript_of ready_at first ++ transcript_of then_at lines) = subst (IsKeptFor these) (told_both ready_at first lines) kept in
-      let known_then = where_whole (HasAll these) AsksNothing (KnowSoon these n command most) (soon_walk airs these many devices_of facts_kept workers n marked node command none most (served_walk airs these many none plainly)) (transcript_of ready_at first) then_at lines
-      (done_later ready_at first lines done) parts.2 (along_later (HasAll these) ready_at first lines of_stretch)
+      let known_then = where_whole (IsPlainly these) AsksNothing (KnowSoon these n command most) (soon_walk airs these many devices_of facts_kept workers n marked node command none most (served_walk airs these many none same tells plainly)) (transcript_of ready_at first) then_at lines
+      (done_later ready_at first lines done) parts.2 (along_later (IsPlainly these) ready_at first lines of_stretch)
       (known.0, soon) in
       let last : after_all start (before ++ (first ++ lines)) ≡ later = after_both start before (first ++ lines) ∙ after_both ready_at first lines in
       let over : most ≤ ticks_begun later = subst (λ (x : Machine). most ≤ ticks_begun x) last enough in
@@ -122,12 +127,42 @@ module _ (airs : Airs) (devices_of : Devices) (facts_kept : (h : HostState) (eve
       for_node since (as_many (ticks_begun then_at) (ticks_of_all these 18)) kept_first)
       (subst (λ (x : Machine). ticks_begun x + ticks_of_all these 18 ≤ ticks_begun (after_all start (before ++ (first ++ lines)))) there enough)
 
+-- what is proved of the machine, of devices and of hosts, for these nodes
+record Proved (these : List Bool) (keys : Keys) (devices : List State) (before lines : List Spoken) : Type 0 where
+  airs : Airs
+  devices_of : Devices
+  facts_kept : (h : HostState) (event : HostEvent) → HostFacts h → MayHost h event → HostFacts (after h event)
+  workers : (h : HostState) (k : ℕ) → KnowsWorkers these h → next_of h.nodes h.served ≡ Some k → is_marked these k ≡ true
+  same : Same
+  tells : Tells
+  plainly : length these ≡ 233 → is_marked these 0 ≡ false → WalkWhere (IsPlainly these) AsksNothing (KnowPlainly these)
+  step : (n : ℕ) → n < 233 → IsPlainOver devices (events_of (before ++ lines)) n → AreIdle devices → AreDone (first_machine keys (Some []) devices) (before ++ lines)
+      → AllAlong (GoesInStep n) (first_machine keys (Some []) devices) (events_of (before ++ lines))
+
+module _ (these : List Bool) (keys : Keys) (devices : List State) (before first lines : List Spoken) (p : Proved these keys devices before (first ++ lines)) (is : IsStretchFor these keys devices before (first ++ lines)) where
+  steps : AllAlong (IsPlainly these) (first_machine keys (Some []) devices) (events_of (before ++ (first ++ lines)))
+  steps = each_along these (first_machine keys (Some []) devices) (events_of (before ++ (first ++ lines))) (λ k marked. p.step k (below these is.many k marked) (is.plain k marked) is.idle is.done)
+
+  whole_then : AreWhole (after_all (first_machine keys (Some []) devices) before) (first ++ lines)
+  whole_then = (whole_parts (first_machine keys (Some []) devices) before (first ++ lines) is.done is.whole).2
+
+  hand_then : (n command more : ℕ) → is_marked these n ≡ true → IsInHand command more (node_of (after_all (first_machine keys (Some []) devices) (before ++ first)).host.state n)
+      → ticks_begun (after_all (first_machine keys (Some []) devices) (before ++ first)) + ticks_of_all these (suc more) ≤ ticks_begun (after_all (first_machine keys (Some []) devices) (before ++ (first ++ lines)))
+      → HasEnded command (node_of (after_all (first_machine keys (Some []) devices) (before ++ (first ++ lines))).host.state n).book
+  hand_then n command more marked hand enough =
+      was_in_hand p.airs p.devices_of p.facts_kept these is.many is.none p.workers p.same p.tells (p.plainly is.many is.none) (first_machine keys (Some []) devices) before first lines is.done whole_then steps is.kept is.ready
+      (record { serve = is.serves; speak = is.speak }) n command more marked hand enough
+
+  accepted_then : (n command : ℕ) (found : Command) → is_marked these n ≡ true → command_at (after_all (first_machine keys (Some []) devices) (before ++ first)).host.state.commands command ≡ Some found → found.order.node ≡ n
+      → length (after_all (first_machine keys (Some []) devices) before).host.state.commands + 1 ≤ command
+      → ticks_begun (after_all (first_machine keys (Some []) devices) (before ++ first)) + ticks_of_all these 18 ≤ ticks_begun (after_all (first_machine keys (Some []) devices) (before ++ (first ++ lines)))
+      → HasEnded command (node_of (after_all (first_machine keys (Some []) devices) (before ++ (first ++ lines))).host.state n).book
+  accepted_then n command found marked is_found for_node since enough =
+      was_accepted p.airs p.devices_of p.facts_kept these is.many is.none p.workers p.same p.tells (p.plainly is.many is.none) (first_machine keys (Some []) devices) before first lines is.done whole_then steps is.kept is.ready
+      (record { serve = is.serves; speak = is.speak }) n command found marked is_found for_node since enough
+
 pub returns-clause-in_hand : goal.returns-clause-in_hand
-returns-clause-in_hand c = λ these n command more keys devices before first lines many none marked idle plain are whole hears kept ready serves hand enough.
-    let start : Machine = first_machine keys (Some []) devices in
-    was_in_hand airs devices_of c.facts_are_kept.ensures.each these many none (c.nodes_are_served_in_turn.ensures.workers these) (c.waits_never_run_out.ensures.first these many none) start before first lines are whole
-    (each_along these start (events_of (before ++ (first ++ lines)))
-    (λ k of_these. c.nodes_stay_in_step.ensures.along k keys devices (before ++ (first ++ lines)) (below these many k of_these) (plain k of_these) idle are)) kept ready serves hears n command more marked hand enough
+returns-clause-in_hand c = λ these n command more keys devices before first lines is. hand_then these keys devices before first lines (proved these keys devices before (first ++ lines)) is n command more
   where
     airs : Airs
     airs = record {
@@ -138,15 +173,20 @@ returns-clause-in_hand c = λ these n command more keys devices before first lin
       begins = c.frames_fly_in_order.ensures.begins;
     }
 
-    devices_of : Devices
-    devices_of = record { heard = c.messages_are_answered.ensures.heard; at_once = c.messages_are_answered.ensures.at_once }
+    proved : (these : List Bool) (keys : Keys) (devices : List State) (before lines : List Spoken) → Proved these keys devices before lines
+    proved these keys devices before lines = record {
+      airs = airs;
+      devices_of = record { heard = c.messages_are_answered.ensures.heard; at_once = c.messages_are_answered.ensures.at_once };
+      facts_kept = c.facts_are_kept.ensures.each;
+      workers = c.nodes_are_served_in_turn.ensures.workers these;
+      same = c.devices_stay_the_same.ensures.event;
+      tells = c.reports_tell.ensures.plainly;
+      plainly = c.waits_never_run_out.ensures.first these;
+      step = λ n within plain idle done. c.nodes_stay_in_step.ensures.along n keys devices (before ++ lines) within plain idle done;
+    }
 
 pub returns-clause-accepted : goal.returns-clause-accepted
-returns-clause-accepted c = λ these n command found keys devices before first lines many none marked idle plain are whole hears kept ready serves is for_node since enough.
-    let start : Machine = first_machine keys (Some []) devices in
-    was_accepted airs devices_of c.facts_are_kept.ensures.each these many none (c.nodes_are_served_in_turn.ensures.workers these) (c.waits_never_run_out.ensures.first these many none) start before first lines are whole
-    (each_along these start (events_of (before ++ (first ++ lines)))
-    (λ k of_these. c.nodes_stay_in_step.ensures.along k keys devices (before ++ (first ++ lines)) (below these many k of_these) (plain k of_these) idle are)) kept ready serves hears n command found marked is for_node since enough
+returns-clause-accepted c = λ these n command found keys devices before first lines is. accepted_then these keys devices before first lines (proved these keys devices before (first ++ lines)) is n command found
   where
     airs : Airs
     airs = record {
@@ -157,5 +197,14 @@ returns-clause-accepted c = λ these n command found keys devices before first l
       begins = c.frames_fly_in_order.ensures.begins;
     }
 
-    devices_of : Devices
-    devices_of = record { heard = c.messages_are_answered.ensures.heard; at_once = c.messages_are_answered.ensures.at_once }
+    proved : (these : List Bool) (keys : Keys) (devices : List State) (before lines : List Spoken) → Proved these keys devices before lines
+    proved these keys devices before lines = record {
+      airs = airs;
+      devices_of = record { heard = c.messages_are_answered.ensures.heard; at_once = c.messages_are_answered.ensures.at_once };
+      facts_kept = c.facts_are_kept.ensures.each;
+      workers = c.nodes_are_served_in_turn.ensures.workers these;
+      same = c.devices_stay_the_same.ensures.event;
+      tells = c.reports_tell.ensures.plainly;
+      plainly = c.waits_never_run_out.ensures.first these;
+      step = λ n within plain idle done. c.nodes_stay_in_step.ensures.along n keys devices (before ++ lines) within plain idle done;
+    }

@@ -33,7 +33,7 @@ returns-clause-along c = λ n keys devices lines within plain idle are.
     let asks = c.lines_ask_plainly.ensures.plain n said m events names whole plain.orders in
     let ends = c.lines_ask_plainly.ensures.ends n said m events whole in
     let no_work = all-get (λ (d : State). d.work_left ≡ 0) devices plain.at_first.place plain.at_first.device idle plain.at_first.stands in
-    along laws n within devices plain.at_first plain.at_once (λ none. no_work) [] first_course [] [] m events (c.lines_have_a_course.ensures.first n keys (Some []) devices within plain.at_first)
+    along laws n within devices plain.at_first plain.at_once plain.whole (λ none. no_work) [] first_course [] [] m events (c.lines_have_a_course.ensures.first n keys (Some []) devices within plain.at_first)
     (c.restarts_go_on.ensures.first keys (Some []) refl) may rests.at_rest writes few well.0 asks ends (go_none devices)
   where
     laws : Laws

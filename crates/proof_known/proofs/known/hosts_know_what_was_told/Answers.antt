@@ -2,7 +2,7 @@
 use Rattle.proof_transcript.specs.law_time.Moments.{Allows}
 use Rattle.proof_transcript.specs.law_time.Waking.{may_wake}
 use Rattle.host_keep.specs.Kept.{first_kept}
-use Rattle.host_model.specs.State.{first_host}
+use Rattle.proof_waking.specs.host_model.State.{first_host}
 use Rattle.proof_transcript.proofs.PlacesKept.{HostsKeep}
 use Rattle.proof_transcript.proofs.StoredPlaces.{alone_keeps}
 use Rattle.proof_waking.proofs.Running.{over}

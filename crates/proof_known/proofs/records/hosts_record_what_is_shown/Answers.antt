@@ -11,7 +11,7 @@ use Rattle.proof_transcript.specs.law_time.Waking.{may_wake}
 use Rattle.proof_transcript.specs.law_host.Heard.{listing_heard}
 use Rattle.host_keep.specs.Kept.{KeptNode, blank_node, first_kept, kept_of}
 use Rattle.host_keep.specs.declared.record.Record.{Record}
-use Rattle.host_model.specs.State.{HostState, node_of}
+use Rattle.proof_waking.specs.host_model.State.{HostState, node_of}
 use Rattle.proof_transcript.specs.proof_spoken.Restarts.{AreHeld, IsHeld}
 use Rattle.proof_transcript.specs.proof_spoken.Said.{AreSaid, KnowsListing}
 use Rattle.proof_transcript.specs.Records.{TellsCancelled, cancelled_by}

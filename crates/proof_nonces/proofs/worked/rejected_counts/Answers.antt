@@ -3,7 +3,7 @@ use Rattle.std.proofs.Common.{◌≡◌, ℕ, List, [], ◌∷◌, ◌++◌, sli
 use Rattle.s0_crypto.specs.declared.ends.SealEnds.{SealEnds}
 use Rattle.s0_crypto.specs.declared.key_pair.Keys.{Keys}
 use Rattle.s0_crypto.specs.Seal.{Seals, code_of}
-use Rattle.law_time.proofs.Computing.{computing}
+use Rattle.proof_notes.proofs.Computing.{computing}
 use Rattle.proof_nonces.proofs.worked.rejected_counts.Goals as goal
 
 none_left : (own text code : List ℕ) (byte : ℕ) → ◌≡◌ {A = List ℕ} (0x98 ∷ 0x81 ∷ []) (0x98 ∷ 0x81 ∷ (own ++ (text ++ byte ∷ code))) → ⊥

@@ -2,8 +2,8 @@
 use Rattle.std.proofs.Common.{refl}
 use Rattle.std.specs.Prelude.{[], codes}
 use Rattle.law_transcript.proofs.Deciding.{not_true}
-use Rattle.law_time.specs.WorkedUnits.{by_host}
-use Rattle.law_time.proofs.Computing.{computing}
+use Rattle.proof_notes.specs.law_time.WorkedUnits.{by_host}
+use Rattle.proof_notes.proofs.Computing.{computing}
 use Rattle.proof_notes.specs.proof_known.law_host.Worked.{seal_unheard}
 use Rattle.proof_nonces.specs.Sealing.{HasAsked, MaySeal}
 use Rattle.proof_nonces.proofs.Standing.{asked_stands, last_may}

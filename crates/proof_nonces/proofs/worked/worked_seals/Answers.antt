@@ -9,8 +9,8 @@ use Rattle.law_transcript.specs.Units.{Carried}
 use Rattle.law_transcript.specs.Worked.{bytes, network_key, sealed_exchange}
 use Rattle.law_transcript.proofs.Deciding.{kept_after}
 use Rattle.law_transcript.proofs.Sealing.{sealed_set, set_code, set_ends, set_nonce, set_own, set_plain, set_with}
-use Rattle.law_time.specs.WorkedUnits.{by_host}
-use Rattle.law_time.proofs.Computing.{computing}
+use Rattle.proof_notes.specs.law_time.WorkedUnits.{by_host}
+use Rattle.proof_notes.proofs.Computing.{computing}
 use Rattle.proof_notes.proofs.Lists.{each-append}
 use Rattle.proof_nonces.specs.Sealing.{HasAsked, IsSealedSo, IsToldSince, MaySeal}
 use Rattle.proof_nonces.proofs.Unsealed.{all_may, all_nothing, is_unsealed}

@@ -1,6 +1,6 @@
 -- The walk over the notes of payloads, and over which nodes count as awake.
 use Rattle.std.proofs.Common.{[], ◌∷◌}
-use Rattle.proof_host.specs.Laws.{MayStand}
+use Rattle.proof_attempts.specs.proof_host.Laws.{MayStand}
 use Rattle.proof_known.proofs.AnswerFacts.{count_is}
 use Rattle.proof_attempts.specs.Since.{KnowsSince}
 use Rattle.proof_attempts.specs.Waking.{CountsAwake}

@@ -6,7 +6,7 @@ use Rattle.host_orders.specs.Settings.{setting}
 use Rattle.zw_text.specs.declared.entry.Ended.TheVariants as endings
 use Rattle.zw_text.specs.declared.entry.Entry.{Entry}
 use Rattle.zw_text.specs.declared.entry.Entry.TheVariants.{Old, Out, Report, Unkept, Unread}
-use Rattle.law_time.proofs.Computing.{computing}
+use Rattle.proof_attempts.proofs.Computing.{computing}
 use Rattle.proof_notes.specs.Full.{IsElse}
 use Rattle.proof_notes.proofs.worked.rejected_notes.Goals as goal
 

@@ -4,7 +4,7 @@ use Rattle.zw_base.specs.declared.property.Name.TheVariants as names
 use Rattle.host_orders.specs.Settings.{setting}
 use Rattle.zw_text.specs.declared.entry.Entry.{Entry}
 use Rattle.zw_text.specs.declared.entry.Entry.TheVariants.{Report, Unkept}
-use Rattle.law_time.proofs.Computing.{computing}
+use Rattle.proof_attempts.proofs.Computing.{computing}
 use Rattle.proof_notes.proofs.worked.rejected_unkept.Goals as goal
 
 never : false ≡ true → ⊥

@@ -4,7 +4,7 @@ use Rattle.zw_base.specs.declared.property.Name.TheVariants as names
 use Rattle.host_orders.specs.Settings.{setting}
 use Rattle.zw_text.specs.declared.entry.Ended.TheVariants as endings
 use Rattle.zw_text.specs.declared.entry.Entry.TheVariants.{Old, Out, Report, Unread}
-use Rattle.law_time.proofs.Computing.{computing}
+use Rattle.proof_attempts.proofs.Computing.{computing}
 use Rattle.proof_notes.proofs.worked.worked_notes.Goals as goal
 
 pub returns-clause-failure : goal.returns-clause-failure

@@ -3,11 +3,11 @@ use Rattle.std.proofs.Common.{ℕ, List}
 use Rattle.zw_text.specs.declared.entry.Entry.{Entry}
 use Rattle.host_heard.specs.declared.told.Told.{Told}
 use Rattle.law_transcript.specs.Units.{Carried}
-use Rattle.proof_hearing.specs.proof_queue.proof_attempts.proof_requests.law_host.Notes.{Start}
 use Rattle.proof_hearing.specs.proof_queue.proof_attempts.proof_requests.proof_alone.Phases.{Phase}
 use Rattle.proof_hearing.specs.proof_queue.proof_attempts.proof_requests.proof_alone.State.{HostMachine}
 use Rattle.proof_hearing.specs.proof_queue.proof_attempts.proof_requests.proof_alone.Steps.{Step, Tells, Comes, Misses, Says, Says_nothing, Asks, Refuses, Shows, Begins_tick, Numbers}
-use Rattle.proof_following.proofs.proof_ends_Walking.{ShowsOpen}
+use Rattle.proof_choice.proofs.proof_ends_Walking.{ShowsOpen}
+use Rattle.proof_noting.specs.Following.{Outset}
 use Rattle.proof_noting.specs.Ground.{GroundAlong}
 use Rattle.proof_noting.specs.Steps.{IsBeside, StepFollows, first_of}
 use Rattle.proof_noting.proofs.Begun.{pumps}
@@ -16,7 +16,7 @@ use Rattle.proof_noting.proofs.Others.{begins, comes, misses, numbers, tells}
 use Rattle.proof_noting.proofs.Rested.{asks, fits_asked, opens, rests, sleeps, submits, whole}
 use Rattle.proof_noting.proofs.beside.notes_go_beside.Goals as goal
 
-steps : (key : List ℕ) (taken : List Entry → Carried → List Told) (from : Start) → ShowsOpen → GroundAlong taken (first_of key) → (here next : Phase) (past : List Entry) (m : HostMachine) (step : Step) → IsBeside step
+steps : (key : List ℕ) (taken : List Entry → Carried → List Told) (from : Outset) → ShowsOpen → GroundAlong taken (first_of key) → (here next : Phase) (past : List Entry) (m : HostMachine) (step : Step) → IsBeside step
     → StepFollows key taken from here past m step next
 steps key taken from shows along here next past m (Tells e) is = tells key taken from shows along here next past m e
 steps key taken from shows along here next past m (Comes unit) is = comes key taken from shows along here next past m unit

@@ -3,14 +3,14 @@ use Rattle.std.proofs.Common.{ℕ, List}
 use Rattle.zw_text.specs.declared.entry.Entry.{Entry}
 use Rattle.host_heard.specs.declared.told.Told.{Told}
 use Rattle.law_transcript.specs.Units.{Carried}
-use Rattle.proof_hearing.specs.proof_queue.proof_attempts.proof_requests.law_host.Notes.{Start}
+use Rattle.proof_noting.specs.Following.{Outset}
 use Rattle.proof_noting.specs.Ground.{ErrandsAlong, GroundAlong}
 use Rattle.proof_noting.specs.Parts.{Parts}
 use Rattle.proof_noting.specs.Steps.{first_of}
 use Rattle.proof_noting.proofs.Grounding.{grounded}
 use Rattle.proof_noting.proofs.noting.notes_go_on.Goals as goal
 
-module _ (c : goal.After-notes_go_with_ticks) (key : List ℕ) (taken : List Entry → Carried → List Told) (from : Start) (errands : ErrandsAlong key) where
+module _ (c : goal.After-notes_go_with_ticks) (key : List ℕ) (taken : List Entry → Carried → List Told) (from : Outset) (errands : ErrandsAlong key) where
   ground : GroundAlong taken (first_of key)
   ground =
       grounded key taken (c.hosts_count_attempts.ensures.grounds _ taken) (c.hosts_count_attempts.ensures.known _ taken) (c.hosts_know_what_they_choose.ensures _ taken) errands

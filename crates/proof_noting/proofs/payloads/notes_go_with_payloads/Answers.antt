@@ -24,7 +24,8 @@ module _ (c : goal.After-hosts_show_open_sessions) (key : List ℕ) (taken : Lis
   queues = λ past m f rest run careful heeds takes now may. c.hosts_queue_as_told.ensures.judges (keys_of key) taken past m f rest run careful heeds takes now may
 
 pub returns-clause-judged : goal.returns-clause-judged
-returns-clause-judged c = λ key taken from ground next past told m item rest behind brings. item_judged key taken from ground c.hosts_show_open_sessions.ensures.opened (queues c key taken) next past told m item rest behind brings
+returns-clause-judged c = λ key taken from ground next past told m item rest behind brings.
+    item_judged key taken from ground c.hosts_show_open_sessions.ensures.opened (queues c key taken) next past told m item rest behind brings
 
 pub returns-clause-event : goal.returns-clause-event
 returns-clause-event c = λ key taken from ground next past told m one left sure may it.

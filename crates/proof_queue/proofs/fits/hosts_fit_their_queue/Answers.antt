@@ -1,7 +1,7 @@
 -- By the messages that are chosen along the run.
 use Rattle.std.specs.Prelude.{Some, []}
-use Rattle.world_model.specs.State.{first_machine}
-use Rattle.world_lines.specs.Spoken.{transcript_of}
+use Rattle.proof_attempts.specs.world_model.State.{first_machine}
+use Rattle.proof_attempts.specs.world_lines.Spoken.{transcript_of}
 use Rattle.proof_attempts.specs.proof_requests.law_host.Heard.{heard_by_host}
 use Rattle.proof_attempts.specs.proof_requests.proof_alone.State.{first_alone}
 use Rattle.proof_queue.proofs.fits.hosts_fit_their_queue.Goals as goal

@@ -5,7 +5,7 @@ use Rattle.s0_crypto.specs.declared.key_pair.Keys.{Keys}
 use Rattle.zw_text.specs.declared.entry.Entry.{Entry}
 use Rattle.law_time.specs.Moments.{Allows}
 use Rattle.law_time.specs.Waking.{may_wake}
-use Rattle.proof_host.specs.Facts.{Facts}
+use Rattle.proof_attempts.specs.proof_host.Facts.{Facts}
 use Rattle.proof_attempts.specs.proof_requests.law_host.Heard.{listing_heard}
 use Rattle.proof_attempts.specs.proof_requests.proof_alone.State.{HostMachine, first_alone}
 use Rattle.proof_attempts.specs.proof_requests.proof_alone.Phases.{Phase, Open}

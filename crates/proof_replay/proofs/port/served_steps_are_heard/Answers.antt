@@ -11,7 +11,7 @@ returns-clause-first c =
 
 pub returns-clause-more : goal.returns-clause-more
 returns-clause-more c = λ keys number told past before place opens adds whole steps last outs orderly ran.
-    hears_more c.hosts_keep_laws.ensures c.hosts_are_legal.ensures c.hosts_record_what_is_shown.ensures.open c.hosts_listen_as_told.ensures.run
+    hears_more c.hosts_keep_laws.ensures c.hosts_are_legal.ensures c.hosts_are_legal_from_starts.ensures c.hosts_record_what_is_shown.ensures.open c.hosts_listen_as_told.ensures.run
     (obeys c.hosts_obey_the_line.ensures.first c.hosts_obey_the_line.ensures.opened c.hosts_obey_the_line.ensures.each c.hosts_obey_the_line.ensures.units) keys number told past before place opens adds whole steps last outs orderly ran
 
 pub returns-clause-runs : goal.returns-clause-runs

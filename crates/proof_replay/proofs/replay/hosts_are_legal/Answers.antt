@@ -1,19 +1,15 @@
 -- By the messages that the host took up; with the laws that hold whatever these are.
-use Rattle.std.proofs.Common.{[], refl, subst}
-use Rattle.std.specs.Prelude.{Some}
-use Rattle.s0_crypto.specs.declared.key_pair.Keys.{Keys}
-use Rattle.host_core.specs.Network.{keys_of}
-use Rattle.proof_asking.specs.proof_requests.proof_alone.State.{first_alone}
-use Rattle.proof_asking.specs.proof_requests.proof_alone.Careful.{RunCarefully}
+use Rattle.std.proofs.Common.{refl}
+use Rattle.port_run.specs.host_core.Network.{keys_of}
 use Rattle.proof_replay.specs.Laws.{HostsKeepLaws}
 use Rattle.proof_replay.proofs.replay.hosts_are_legal.Goals as goal
 
 pub returns : goal.returns
-returns c = λ keys whole here heard m careful rests fine link reads key same.
-    let alone : RunCarefully (first_alone (keys_of key) (Some [])) here heard m = subst (λ (k : Keys). RunCarefully (first_alone k (Some [])) here heard m) same careful in
-    let laws : HostsKeepLaws (keys_of key) whole heard m.records = c.hosts_keep_laws.ensures (keys_of key) whole here heard m alone rests fine link in
-    let (taken, so, as_told) = c.hosts_go_by_messages.ensures (keys_of key) here heard m alone.0 in
-    let noted = c.hosts_note_what_happens.ensures key taken whole here heard m alone.0 alone.1 so as_told reads rests (c.errands_are_carried.ensures.told key) in
+returns c = λ key whole heard told alone.
+    let laws : HostsKeepLaws (keys_of key) whole heard told = c.hosts_keep_laws.ensures (keys_of key) whole heard told alone in
+    let (run, careful) = alone.run in
+    let (taken, so, as_told) = c.hosts_go_by_messages.ensures (keys_of key) alone.here heard alone.last run in
+    let noted = c.hosts_note_what_happens.ensures key taken whole alone.here heard alone.last run careful so as_told alone.rests (c.errands_are_carried.ensures.told key) in
     record {
       taken = taken;
       legal = record {
@@ -26,7 +22,7 @@ returns c = λ keys whole here heard m careful rests fine link reads key same.
         stores = laws.said.stores;
         values = laws.said.values;
         sends = laws.sends key refl;
-        prompt = c.runs_are_prompt.ensures (keys_of key) taken whole here heard m alone.0 alone.1 so as_told rests fine;
+        prompt = c.runs_are_prompt.ensures (keys_of key) taken whole alone.here heard alone.last run careful so as_told alone.rests alone.for_host;
         records_kept = laws.said.records_kept;
       };
       heeded = noted.heeded;

@@ -2,7 +2,7 @@
 use Rattle.std.proofs.Common.{ℕ, List}
 use Rattle.std.specs.Prelude.{Option}
 use Rattle.s0_crypto.specs.declared.key_pair.Keys.{Keys}
-use Rattle.device_sim.specs.State.{State}
+use Rattle.world_model.specs.device_sim.State.{State}
 use Rattle.zw_text.specs.declared.line.Line.{Line}
 use Rattle.world_model.specs.State.{first_machine}
 use Rattle.world_model.specs.Events.{Event}

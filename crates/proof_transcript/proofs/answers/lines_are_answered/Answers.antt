@@ -2,7 +2,7 @@
 use Rattle.std.proofs.Common.{◌≡◌, ℕ, true, false, List, [], Option, Some, refl, sym, subst}
 use Rattle.s0_crypto.specs.declared.key_pair.Keys.{Keys}
 use Rattle.device_sim.specs.State.{State}
-use Rattle.host_model.specs.State.{first_host}
+use Rattle.proof_air.specs.host_model.State.{first_host}
 use Rattle.host_keep.specs.Kept.{first_kept, kept_of}
 use Rattle.law_host.specs.law_transcript.Lists.{EachAfter}
 use Rattle.law_host.specs.law_transcript.Nodes.{listing_of, always}

@@ -1,7 +1,7 @@
 use Rattle.std.proofs.Common.{sym, subst}
 use Rattle.host_requests.specs.State.{RequestsState}
-use Rattle.host_model.specs.State.{first_host}
-use Rattle.host_model.specs.Opening.{restored_all}
+use Rattle.proof_walk.specs.host_model.State.{first_host}
+use Rattle.proof_walk.specs.host_model.Opening.{restored_all}
 use Rattle.proof_work.specs.Line.{IsOnLine}
 use Rattle.proof_work.proofs.Starting.{all_requests}
 use Rattle.proof_work.proofs.OnLine.{event_kept, items_kept}

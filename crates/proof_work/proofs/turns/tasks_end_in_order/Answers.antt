@@ -1,7 +1,7 @@
 use Rattle.std.proofs.Common.{List, ◌++◌, ap, sym, ◌∙◌, append-nil}
 use Rattle.host_requests.specs.declared.task.Task.{Task}
-use Rattle.host_model.specs.State.{first_host}
-use Rattle.host_model.specs.Did.{after_all}
+use Rattle.proof_walk.specs.host_model.State.{first_host}
+use Rattle.proof_walk.specs.host_model.Did.{after_all}
 use Rattle.proof_work.specs.Tasks.{ended_all}
 use Rattle.proof_work.proofs.Tasks.{tasks_go, all_tasks_go, rests_without}
 use Rattle.proof_work.proofs.turns.tasks_end_in_order.Goals as goal

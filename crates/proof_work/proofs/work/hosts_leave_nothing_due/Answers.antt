@@ -1,7 +1,7 @@
 -- A pump after any events.
-use Rattle.host_model.specs.State.{first_host}
-use Rattle.host_model.specs.Did.{after_all}
-use Rattle.host_model.specs.Opening.{opened}
+use Rattle.proof_walk.specs.host_model.State.{first_host}
+use Rattle.proof_walk.specs.host_model.Did.{after_all}
+use Rattle.proof_walk.specs.host_model.Opening.{opened}
 use Rattle.proof_work.proofs.Pumping.{pumped}
 use Rattle.proof_work.proofs.work.hosts_leave_nothing_due.Goals as goal
 

@@ -19,6 +19,6 @@ returns c =
     c.in_ok-append_present-2.ensures
     ∙ ap (λ (x : List ℕ). x ++ present (take (length c.args.places.now - end) (drop end c.args.places.now)))
     (c.in_ok-extend.ensures.ok ∙ ap (λ (x : List ℕ). x ++ c.args.payload.now)
-    (c.in_ok-append_present.ensures ∙ ap (λ (x : List ℕ). x ++ present (take c.args.offset c.args.places.now)) c.new-datagram.ensures))
+    (c.in_ok-append_present.ensures ∙ ap (λ (x : List ℕ). x ++ present (take c.args.offset c.args.places.now)) (c.reserve.ensures ∙ c.new-datagram.ensures)))
     ∙ ap (λ (x : List (Option ℕ)). (present (take c.args.offset c.args.places.now) ++ c.args.payload.now) ++ present x) rest in
     written_bytes c.args.places.now c.args.offset c.args.payload.now around.0 around.1 ∙ ap (map Some) (sym bytes)

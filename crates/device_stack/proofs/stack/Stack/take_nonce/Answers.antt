@@ -7,8 +7,8 @@ use Rattle.device_kinds.proofs.SizeLemmas.{sealed_payload, only_payload}
 use Rattle.device_stack.proofs.NonceLemmas.{takes_as}
 use Rattle.device_stack.proofs.stack.Stack.take_nonce.Goals as goal
 
-pub payload-requires : goal.payload-requires
-payload-requires c =
+pub fitting-requires : goal.fitting-requires
+fitting-requires c =
     let s : SealsPending c.self.inside.sealing c.keys.result c.args.drawn c.args.nonce c.in-Some.message c.offer.new.self =
     c.in_ok-message.ensures.sealed c.in-Some.message (ap Ok c.in-Some.is) in
     let p = sealed_payload c.keys.result c.args.drawn c.args.nonce c.self.inside.sealing.ends s.plain c.in-Some.message c.nonce_len-eight.ensures (c.self.invariant s.plain s.was_pending) s.seals in
@@ -33,8 +33,8 @@ returns-clause-replies c =
     let s : SealsPending c.self.inside.sealing c.keys.result c.args.drawn c.args.nonce c.in-Some.message c.offer.new.self =
     c.in_ok-message.ensures.sealed c.in-Some.message (ap Ok c.in-Some.is) in
     c.push.ensures
-    ∙ ap (λ (o : List (List ℕ)). o ++ c.payload.result ∷ []) c.requires
-    ∙ ap (λ (b : List ℕ). b ∷ []) (c.payload.ensures ∙ c.as_slice.ensures)
+    ∙ ap (λ (o : List (List ℕ)). o ++ c.fitting.result ∷ []) c.requires
+    ∙ ap (λ (b : List ℕ). b ∷ []) (c.fitting.ensures ∙ c.as_slice.ensures)
     ∙ ap (λ (o : Outcome). o.replies) (sym (takes_as (the_view c.self.inside) c.keys.result c.args.nonce c.args.drawn c.in-Some.message c.offer.new.self
     c.keys.ensures s))
     ∙ ap (λ (d : State). (takes_nonce d c.args.nonce c.args.drawn).replies) c.self.view_is
@@ -44,5 +44,5 @@ returns-clause-sizes c =
     let s : SealsPending c.self.inside.sealing c.keys.result c.args.drawn c.args.nonce c.in-Some.message c.offer.new.self =
     c.in_ok-message.ensures.sealed c.in-Some.message (ap Ok c.in-Some.is) in
     only_payload c.in-Some.message c.push.new.self
-    (c.push.ensures ∙ ap (λ (o : List (List ℕ)). o ++ c.payload.result ∷ []) c.requires ∙ ap (λ (b : List ℕ). b ∷ []) (c.payload.ensures ∙ c.as_slice.ensures))
+    (c.push.ensures ∙ ap (λ (o : List (List ℕ)). o ++ c.fitting.result ∷ []) c.requires ∙ ap (λ (b : List ℕ). b ∷ []) (c.fitting.ensures ∙ c.as_slice.ensures))
     (sealed_payload c.keys.result c.args.drawn c.args.nonce c.self.inside.sealing.ends s.plain c.in-Some.message c.nonce_len-eight.ensures (c.self.invariant s.plain s.was_pending) s.seals)

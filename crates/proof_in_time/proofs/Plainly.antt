@@ -1,0 +1,176 @@
+-- What is on its way to the host of these nodes asks it for nothing: so it comes to no task of its own as it judges that.
+use Rattle.std.proofs.Common.{◌≡◌, ◌≤◌, ℕ, ◌==◌, nat_lt, inl, inr, Bool, true, false, if◌then◌else◌, List, [], ◌∷◌, length, refl, sym, ap, ◌∙◌, subst, arith}
+use Rattle.std.proofs.lemmas.Bool.{cases_Bool, eq-eqb, eqb-true}
+use Rattle.std.specs.Prelude.{◌⊎◌, Option, Some, None, slice_get}
+use Rattle.std.specs.List.{AllByRecursion}
+use Rattle.zw_base.proofs.Each.{all-append}
+use Rattle.zw_base.specs.declared.property.Setting.{Setting}
+use Rattle.class_info.specs.InfoSpelling.{form}
+use Rattle.class_info.specs.Values.{status_byte}
+use Rattle.class_info.specs.declared.message.InfoMessage.TheVariants.{WakeUpNotification}
+use Rattle.class_info.specs.declared.report_status.ReportStatus.{ReportStatus}
+use Rattle.supervision.specs.Host.{told_of}
+use Rattle.supervision.specs.declared.host_node.Told.{Told as TheTold}
+use Rattle.supervision.specs.declared.host_node.Told.TheVariants as told
+use Rattle.chip_sim.specs.Nodes.{is_marked}
+use Rattle.device_kinds.specs.Kind.{listens, lists}
+use Rattle.device_sim.specs.Event.{DeviceEvent, Hears, Ticks, Wakes, device_replies, outcome_of}
+use Rattle.device_sim.specs.State.{State}
+use Rattle.device_stack.specs.State.{silent}
+use Rattle.device_stack.specs.Ticking.{woken}
+use Rattle.host_heard.specs.Telling.{heard_at}
+use Rattle.host_heard.specs.declared.payload.Heard.{Heard}
+use Rattle.host_heard.specs.declared.payload.Heard.TheVariants.{Messages}
+use Rattle.host_heard.specs.declared.told.Told.{Told}
+use Rattle.host_heard.specs.declared.told.Told.TheVariants.{Report, NonceGet, NonceReport, Notification, SegmentRequest, Values}
+use Rattle.host_keep.specs.declared.final_status.FinalStatus.{FinalStatus}
+use Rattle.host_requests.specs.Events.{RequestsEvent}
+use Rattle.host_requests.specs.Events.RequestsEvent.{Pushes, PushesInterview, PushesProbe}
+use Rattle.host_model.specs.After.{after}
+use Rattle.host_model.specs.Events.{HostEvent, Finishes, Gives, Has_no_room, Hears_value, Is_unkept, Notifies, Offers, Queues, Queues_interview, Queues_no_more, Queues_probe, Reports_old, Requests_do, Resends, Takes_nonce, Unreads, Works}
+use Rattle.host_model.specs.State.{HostState, node_of}
+use Rattle.host_model.specs.Taking.{FinalEvents, IsKeptOr, IsTaken, NonceReportEvents, PayloadEvents, ReportEvents, is_secure, value_event, value_events}
+use Rattle.value_store.specs.Values.{count_with}
+use Rattle.world_model.specs.State.{Machine}
+use Rattle.proof_messages.specs.Asking.{takes_openly}
+use Rattle.proof_messages.specs.Reporting.{IsPlainTold, TellsPlainly}
+use Rattle.proof_course_plain.proofs.Replies.{one_place, one_stands}
+use Rattle.proof_answered.specs.proof_calm.proof_work.Doing.{IsTold}
+use Rattle.proof_answered.specs.Outward.{AllListen}
+use Rattle.proof_answered.specs.Workers.{IsFromSaying}
+use Rattle.proof_answered.proofs.Judging.{EachFollows}
+use Rattle.proof_answered.proofs.Speaking.{SpeakSo}
+use Rattle.proof_answered.proofs.Works.{ticks_say}
+use Rattle.proof_in_time.specs.InStep.{HasInStep}
+
+-- ---- events by which no task comes to wait
+
+abbrev pub AsksNoTask : RequestsEvent → Type 0
+AsksNoTask (Pushes task) = ⊥
+AsksNoTask (PushesInterview n) = ⊥
+AsksNoTask PushesProbe = ⊥
+AsksNoTask event = Unit {0}
+
+abbrev pub QueuesNone : HostEvent → Type 0
+QueuesNone (Queues task) = ⊥
+QueuesNone (Queues_interview n) = ⊥
+QueuesNone Queues_probe = ⊥
+QueuesNone (Requests_do event moment) = AsksNoTask event
+QueuesNone (Offers n) = ⊥
+QueuesNone (Gives n drawn) = ⊥
+QueuesNone (Resends n payload) = ⊥
+QueuesNone (Queues_no_more n) = ⊥
+QueuesNone event = Unit {0}
+
+abbrev QueueNone : List HostEvent → Type 0
+QueueNone events = AllByRecursion QueuesNone events
+
+no_event : (events : List HostEvent) → events ≡ [] → QueueNone events
+no_event events are = subst QueueNone (sym are) tt
+
+one_event : (event : HostEvent) (events : List HostEvent) → QueuesNone event → events ≡ event ∷ [] → QueueNone events
+one_event event events none are = subst QueueNone (sym are) (none, tt)
+
+kept_event : (kept unkept : HostEvent) (events : List HostEvent) → QueuesNone kept → QueuesNone unkept → IsKeptOr kept unkept events → QueueNone events
+kept_event kept unkept events first other (inl are) = one_event kept events first are
+kept_event kept unkept events first other (inr are) = one_event unkept events other are
+
+-- ---- a payload that tells plainly
+
+module _ (n : ℕ) where
+  final_none : (session id : ℕ) (command : Option ℕ) (status : Option FinalStatus) (wake : Bool) (events : List HostEvent) → FinalEvents n session id command status wake events → QueueNone events
+  final_none session id (Some command) (Some status) wake events is = kept_event (Finishes n session id command status wake) (Is_unkept n) events tt tt is
+  final_none session id (Some command) None wake events is = no_event events is
+  final_none session id None (Some status) wake events is = no_event events is
+  final_none session id None None wake events is = no_event events is
+
+  report_none : (h : HostState) (id : ℕ) (status : ReportStatus) (wake : Bool) (it : TheTold) (events : List HostEvent) → ReportEvents h n id status wake it events → QueueNone events
+  report_none h id status wake told.Old events is = one_event (Reports_old n id) events tt is
+  report_none h id status wake told.Working events is = one_event (Works n id) events tt is
+  report_none h id status wake (told.Final session) events is = final_none session id _ _ wake events is
+
+  plain_none : (h : HostState) (payload : List ℕ) (id : ℕ) (status : ReportStatus) (wake : Bool) (events : List HostEvent) → IsTaken h n payload false (Report id status wake) events → QueueNone events
+  plain_none h payload id status wake events is = elim (cases_Bool (is_secure (node_of h n).classes)) [
+    | inl secure ↦ one_event (Unreads n payload) events tt (rw secure at is)
+    | inr not_secure ↦ report_none h id status wake (told_of (node_of h n).book id (status_byte status)) events (rw not_secure at is)
+  ]
+
+  nonce_none : (h : HostState) (nonce : List ℕ) (count : Option ℕ) (events : List HostEvent) → NonceReportEvents h n nonce count events → QueueNone events
+  nonce_none h nonce None events is = no_event events is
+  nonce_none h nonce (Some seen) events is = kept_event (Takes_nonce n seen is.1) (Is_unkept n) events tt tt is.3
+
+  value_none : (b : Bool) (s : Setting) → QueuesNone (if b then Has_no_room n s.property else Hears_value n s)
+  value_none true s = tt
+  value_none false s = tt
+
+  values_none : (h : HostState) (settings : List Setting) → QueueNone (value_events h n settings)
+  values_none h [] = tt
+  values_none h (s ∷ more) = (value_none (nat_lt 512 (count_with h.store n (s.property ∷ []))) s, values_none (after h (value_event h n s)) more)
+
+  told_none : (h : HostState) (payload : List ℕ) (message : Told) (events : List HostEvent) → IsPlainTold message → IsTaken h n payload false message events → QueueNone events
+  told_none h payload (Report id status wake) events plain is = plain_none h payload id status wake events is
+  told_none h payload NonceGet events plain is = absurd plain
+  told_none h payload (NonceReport nonce) events plain is = nonce_none h nonce _ events is
+  told_none h payload Notification events plain is = one_event (Notifies n) events tt is
+  told_none h payload (SegmentRequest id offset) events plain is = absurd plain
+  told_none h payload (Values settings) events plain is = subst QueueNone (sym is) (values_none h settings)
+
+  payload_none : (h : HostState) (payload : List ℕ) (events : List HostEvent) → TellsPlainly payload → PayloadEvents h n payload (heard_at payload) events → QueueNone events
+  payload_none h payload events tells is = by (subst (λ (x : Heard). PayloadEvents h n payload x events) tells.heard is)
+    where
+      by : PayloadEvents h n payload (Messages (tells.told ∷ [])) events → QueueNone events
+      by (first, rest, are, taken, none) = subst QueueNone (sym are) (all-append QueuesNone first rest (told_none h payload tells.told first tells.plain taken) (no_event rest none))
+
+requests_none : (event : RequestsEvent) → IsTold event → AsksNoTask event
+requests_none (Pushes task) is = absurd is
+requests_none (PushesInterview n) is = absurd is
+requests_none PushesProbe is = absurd is
+requests_none event is = tt
+
+pub each_none : (these joined : List Bool) → EachFollows QueuesNone (IsFromSaying these TellsPlainly) joined
+each_none these joined = record { hears = λ item. tt; told = requests_none; brings = λ h n payload events member says is. payload_none n h payload events (says n payload refl).1 is }
+
+-- ---- the devices of these nodes
+
+-- what is proved of a device
+abbrev pub Tells : Type 0
+Tells = (device : State) (payload drawn : List ℕ) → takes_openly device.kind ≡ true → lists device.kind 0x55 ≡ false → AllByRecursion TellsPlainly (device_replies device (Hears payload drawn))
+
+none_said : (device : State) (event : DeviceEvent) → device_replies device event ≡ [] → AllByRecursion TellsPlainly (device_replies device event)
+none_said device event none = subst (AllByRecursion TellsPlainly) (sym none) tt
+
+wakes_silent : (device : State) → listens device.kind ≡ true → device_replies device Wakes ≡ []
+unfolding device_replies outcome_of woken
+wakes_silent device hears =
+    subst (λ (b : Bool). (if b then silent device else record { device = record device { awake = true; active_at = device.clock }; replies = form WakeUpNotification ∷ [] }).replies ≡ []) (sym hears) refl
+
+ticks_silent : (device : State) (drawn : List ℕ) → device.work_left ≡ 0 → device_replies device (Ticks drawn) ≡ []
+ticks_silent device drawn none = by (ticks_say device drawn)
+  where
+    by : (device_replies device (Ticks drawn) ≡ []) ⊎ ((device.work_left ≡ 1) × (length (device_replies device (Ticks drawn)) ≤ 1)) → device_replies device (Ticks drawn) ≡ []
+    by (inl silent) = silent
+    by (inr (one, few)) = absurd (omega (arith, one, none))
+
+module _ (these : List Bool) (m : Machine) (steps : (n : ℕ) → is_marked these n ≡ true → HasInStep n m) where
+  at_rest : (place : ℕ) (device : State) → is_marked these device.node ≡ true → slice_get m.outside.devices place ≡ Some device → device.work_left ≡ 0
+  at_rest place device marked there = by (place == is.place) refl
+    where
+      is : HasInStep device.node m
+      is = steps device.node marked
+
+      by : (b : Bool) → (place == is.place) ≡ b → device.work_left ≡ 0
+      by true same = ap (λ (d : State). d.work_left) (one_stands m.outside.devices place is.place device is.device there is.stands (eqb-true place is.place same)) ∙ is.plain.is_done.no_work
+      by false other = (is.others place device there refl (λ e. let wrong : true ≡ false = sym (eq-eqb place is.place e) ∙ other in cc)).no_work
+
+  pub speak_so : Tells → AllListen these m → SpeakSo these TellsPlainly m.outside.devices
+  speak_so tells listen = record {
+    heard = λ node place device payload drawn marked first there.
+        let is = steps node marked in
+        let same : is.device ≡ device = one_stands m.outside.devices is.place place is.device device is.stands there (one_place node m.outside.devices is.place place is.first first) in
+        subst (λ (d : State). AllByRecursion TellsPlainly (device_replies d (Hears payload drawn))) same (tells is.device payload drawn is.plain.openly is.plain.whole);
+    woken = λ node place device marked first there.
+        let is = listen.nodes node marked in
+        let same : is.device ≡ device = one_stands m.outside.devices is.place place is.device device is.stands there (one_place node m.outside.devices is.place place is.first first) in
+        subst (λ (d : State). AllByRecursion TellsPlainly (device_replies d Wakes)) same (none_said is.device Wakes (wakes_silent is.device is.is_up.is_listening));
+    ticked = λ place device drawn marked there. none_said device (Ticks drawn) (ticks_silent device drawn (at_rest place device marked there));
+  }

@@ -1,6 +1,0 @@
-use Rattle.std.proofs.Common.{◌≡◌, ◌++◌, map, take}
-use Rattle.world_model.specs.Table.{value_entry}
-use Rattle.run_replay.proofs.table.list_all.Given as goal
-
-abbrev pub invariant-loop-one : goal.invariant-loop-one
-invariant-loop-one l = l.out.items ≡ l.fn.out.items ++ map (value_entry l.fn.node) (take l.one-index l.held.items)
