@@ -69,11 +69,12 @@ pub fn worked_run()
 }
 
 /// With the records of another order it is not, no transcript is in which the chip answers a frame that never came, and no whole run that ends with a
-/// unit of which it is to be told that it was lost.
+/// unit of which it is to be told that it was lost, or with a session that has begun and whose message was not sent.
 pub fn rejected_run()
     ensures records { (after : List State) → IsLegal [] (the_switch ∷ []) after true plain_exchange (Some (map record_text ordered_otherwise)) → ⊥ }
     ensures line { (after : List State) → IsLegal [] (the_switch ∷ []) after false answered_nothing None → ⊥ }
     ensures end { (after : List State) → IsLegal [] (the_switch ∷ []) after true loss_untold None → ⊥ }
+    ensures host { (after : List State) → IsLegal [] (the_switch ∷ []) after true begun_silently None → ⊥ }
 {
     rejected_records();
     rejected_links();

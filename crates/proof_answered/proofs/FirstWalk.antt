@@ -208,8 +208,8 @@ pub record IsOfStretch (Is : List Entry → Type 0) : Type 0 where
   pub before : (past told : List Entry) → Is (past ++ told) → Is past
   pub stretched : (past : List Entry) → Is past → IsStretched past
 
-module _ (air : Airs) (Has : Machine → Event → Type 0) (Is : List Entry → Type 0) (of_stretch : IsOfStretch Is) (Ground : Phase → List Entry → Machine → Type 0) (walk : WalkWhere Has AsksNothing Ground)
-    (says : (here : Phase) (past : List Entry) (m : Machine) → Ground here past m → Is past → Knows here past m × AllSayHeard (unheard m.outside.outer)) where
+module _ (air : Airs) (Has : Machine → Event → Type 0) (Is : List Entry → Type 0) (of_stretch : IsOfStretch Is) (theirs : Machine → List Bool) (Ground : Phase → List Entry → Machine → Type 0) (walk : WalkWhere Has AsksNothing Ground)
+    (says : (here : Phase) (past : List Entry) (m : Machine) → Ground here past m → Is past → Knows (theirs m) here past m × AllSayHeard (unheard m.outside.outer)) where
   does_all : (here next : Phase) (past : List Entry) (m : Machine) (event : Event) → Goes here m event next → May m event → IsInTime m event → Is (past ++ entries m event) → KnowFirst Is Ground here past m → AllFirst (happens m event).host.state
   does_all here next past m event goes may in_time is known =
       let before = of_stretch.before past (entries m event) is in
@@ -230,8 +230,8 @@ module _ (air : Airs) (Has : Machine → Event → Type 0) (Is : List Entry → 
 abbrev HasNothing : Machine → Event → Type 0
 HasNothing m event = Unit {0}
 
-module _ (air : Airs) (Is : List Entry → Type 0) (of_stretch : IsOfStretch Is) (Ground : Phase → List Entry → Machine → Type 0) (walk : Walk AsksNothing Ground)
-    (says : (here : Phase) (past : List Entry) (m : Machine) → Ground here past m → Is past → Knows here past m × AllSayHeard (unheard m.outside.outer)) where
+module _ (air : Airs) (Is : List Entry → Type 0) (of_stretch : IsOfStretch Is) (theirs : Machine → List Bool) (Ground : Phase → List Entry → Machine → Type 0) (walk : Walk AsksNothing Ground)
+    (says : (here : Phase) (past : List Entry) (m : Machine) → Ground here past m → Is past → Knows (theirs m) here past m × AllSayHeard (unheard m.outside.outer)) where
   pub first_walk_freely : WalkWhere IsInTime AsksNothing (KnowFirst Is Ground)
   first_walk_freely = record {
     said = on.said;
@@ -243,7 +243,7 @@ module _ (air : Airs) (Is : List Entry → Type 0) (of_stretch : IsOfStretch Is)
       ground = record { said = walk.said; event = λ here next past m event goes may has known. walk.event here next past m event goes may known; turn = walk.turn }
 
       on : WalkWhere (AndInTime HasNothing) AsksNothing (KnowFirst Is Ground)
-      on = first_walk air HasNothing Is of_stretch Ground ground says
+      on = first_walk air HasNothing Is of_stretch theirs Ground ground says
 
 -- a stretch whatever its lines ask for
 pub any_stretch : IsOfStretch IsStretched

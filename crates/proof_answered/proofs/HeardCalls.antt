@@ -41,7 +41,7 @@ use Rattle.world_model.specs.State.{Machine}
 use Rattle.world_model.specs.Events.{Event, Outside_does, happens, entries, May}
 use Rattle.proof_calm.specs.proof_work.Phases.{AsksNothing}
 use Rattle.proof_calm.specs.proof_work.proof_walk.Phases.{Phase, Goes}
-use Rattle.proof_calm.specs.proof_work.proof_walk.Walk.{Walk, WalkWhere}
+use Rattle.proof_calm.specs.proof_work.proof_walk.Walk.{WalkWhere}
 use Rattle.proof_calm.proofs.Times.{does_chip}
 use Rattle.proof_calm.proofs.Arrivals.{IsTold, told_then}
 use Rattle.proof_calm.proofs.proof_traffic_Parts.{Airs}
@@ -53,7 +53,8 @@ use Rattle.proof_calm.proofs.Counting.{outs_all}
 use Rattle.proof_calm.proofs.Pending.{line_of}
 use Rattle.proof_calm.proofs.Unmarked.{nothing_asked}
 use Rattle.proof_answered.specs.Few.{IsStretched, KnowFew, Knows}
-use Rattle.proof_answered.specs.Heard.{AllSayHeard, IsHeardThen, KnowHeard, SaysHeard}
+use Rattle.proof_answered.specs.Heard.{AllSayHeard, IsHeardFor, IsHeardThen, KnowHeard, SaysHeard}
+use Rattle.proof_answered.specs.Outward.{IsSentTo}
 use Rattle.proof_answered.proofs.Unheard.{all_behind, all_piled, chip_is, event_says, given_says, of_port, on_port}
 use Rattle.proof_answered.proofs.Walking.{stretched_before}
 
@@ -181,21 +182,21 @@ frame_heard m drawn route may heard given later routed all =
 -- ---- the walk
 
 module _ (air : Airs) where
-  module _ (few : Walk AsksNothing KnowFew) where
-    does_all : (here next : Phase) (past : List Entry) (m : Machine) (event : Event) → Goes here m event next → May m event → IsHeardThen m event → IsStretched (past ++ entries m event) → KnowHeard here past m
-        → Knows next (past ++ entries m event) (happens m event) × AllSayHeard (unheard (happens m event).outside.outer)
+  module _ (these : List Bool) (few : WalkWhere (IsSentTo these) AsksNothing (KnowFew these)) where
+    does_all : (here next : Phase) (past : List Entry) (m : Machine) (event : Event) → Goes here m event next → May m event → IsHeardFor these m event → IsStretched (past ++ entries m event) → KnowHeard these here past m
+        → Knows these next (past ++ entries m event) (happens m event) × AllSayHeard (unheard (happens m event).outside.outer)
     does_all here next past m event goes may heard is known =
         let before = stretched_before past (entries m event) is in
         let at = known before in
         let tied = at.0.tied before.quiet in
-        let later = (few.event here next past m event goes may (λ stretched. at.0)).1 is in
+        let later = (few.event here next past m event goes may heard.0 (λ stretched. at.0)).1 is in
         let next_tied = later.tied is.quiet in (
           later,
           event_says SaysHeard AllSayHeard (all_piled SaysHeard) air answer_heard (all_behind SaysHeard) here next m event goes may (tied.0, tied.2, tied.3, tied.6)
-              (λ drawn route is given later_given. frame_heard m drawn route (subst (May m) is may) (subst (IsHeardThen m) is heard) given later_given tied.3 at.1) tied.1 at.1 next_tied.0,
+              (λ drawn route is given later_given. frame_heard m drawn route (subst (May m) is may) (subst (IsHeardThen m) is heard.1) given later_given tied.3 at.1) tied.1 at.1 next_tied.0,
         )
 
-    pub heard_walk : WalkWhere IsHeardThen AsksNothing KnowHeard
+    pub heard_walk : WalkWhere (IsHeardFor these) AsksNothing (KnowHeard these)
     heard_walk = record {
       said = λ past m words line read known. (
         tt,

@@ -11,6 +11,7 @@ pub mod AttemptEnds
 pub mod FirstWalk
 pub mod TurnOrder
 pub mod Staffing
+pub mod Networked
 pub mod Speaking
 pub mod Staffed
 pub mod Beginning

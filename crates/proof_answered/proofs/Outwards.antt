@@ -1,5 +1,5 @@
 -- Where the devices of all joined nodes listen, each frame of the host on the air is for one of these, at each phase of quiet lines and ticks.
-use Rattle.std.proofs.Common.{◌≡◌, ◌≤◌, ◌<◌, ℕ, zero, suc, ◌+◌, ◌-◌, ◌&&◌, Bool, true, false, nat_lt, if◌then◌else◌, List, [], ◌∷◌, ◌++◌, length, refl, sym, ap, ◌∙◌, subst, append_assoc, arith}
+use Rattle.std.proofs.Common.{◌≡◌, ◌≤◌, ◌<◌, ℕ, zero, suc, ◌+◌, ◌-◌, Bool, true, false, nat_lt, if◌then◌else◌, List, [], ◌∷◌, ◌++◌, length, refl, sym, ap, ◌∙◌, subst, append_assoc, arith}
 use Rattle.std.proofs.lemmas.List.{append-nil}
 use Rattle.std.specs.Prelude.{◌||◌, Option, Some, None, option_map, slice_get}
 use Rattle.std.specs.Option.{is_none, unwrap_or}
@@ -15,11 +15,10 @@ use Rattle.serial_frame.specs.declared.item.Item.{Item}
 use Rattle.serial_frame.specs.declared.item.Item.TheVariants.{Good, Refused}
 use Rattle.serial_frame.specs.declared.item.Refusal.TheVariants.{Aborted, BadKind, BadLength, BadSum, Stray}
 use Rattle.serial_frame.specs.declared.unit.Unit.TheVariants.{Ack, Can, Framed, Nak}
-use Rattle.route_table.specs.Network.{Network}
 use Rattle.route_table.specs.declared.route.Route.{Route}
 use Rattle.chip_functions.specs.declared.request.Request.{Request}
 use Rattle.chip_functions.specs.declared.request.Request.TheVariants.{AddNode, GetCapabilities, GetInitData, GetNodeProtocolInfo, GetRoutingInfo, GetVersion, IsFailedNode, MemoryGetId, RequestNodeInfo, SendData, SendDataAbort}
-use Rattle.chip_sim.specs.Answers.{is_idle, takes}
+use Rattle.chip_sim.specs.Answers.{takes}
 use Rattle.chip_sim.specs.Did.{judged_all}
 use Rattle.chip_sim.specs.Events.{ChipEvent, Judged, after, collides, outs}
 use Rattle.chip_sim.specs.Nodes.{is_marked}
@@ -50,7 +49,8 @@ use Rattle.proof_device.specs.GoingOn.{AreSame, GoOn}
 use Rattle.proof_calm.specs.proof_work.Phases.{AsksNothing}
 use Rattle.proof_calm.specs.proof_work.proof_walk.Outside.{CoversOuter}
 use Rattle.proof_calm.specs.proof_work.proof_walk.Phases.{Phase, Between, Said_line, Begun, Doing, To_tick, Ticked, Arriving, Giving, Ticking_devices, Ticking_chip, Ticking_decoder, Ticking_host, Sleeping, Submitting, Moving, Moved, Goes, Turns}
-use Rattle.proof_calm.specs.proof_work.proof_walk.Walk.{Walk, WalkWhere}
+use Rattle.proof_calm.specs.proof_work.proof_walk.Walk.{WalkWhere}
+use Rattle.proof_calm.proofs.Aloft.{next_all}
 use Rattle.proof_calm.proofs.Times.{does_chip}
 use Rattle.proof_calm.specs.proof_traffic.Flights.{Fly, flown_now}
 use Rattle.proof_calm.specs.proof_traffic.OnAir.{fed_chip, on_air}
@@ -62,17 +62,14 @@ use Rattle.proof_calm.proofs.ChipNotices.{AreSaid, IsSaid, entered_leaves, given
 use Rattle.proof_calm.proofs.Flights.{flights_are}
 use Rattle.proof_calm.proofs.proof_traffic_Parts.{Airs}
 use Rattle.proof_calm.specs.Awaited.{Awaits, AwaitsAt}
-use Rattle.proof_calm.specs.Live.{HasLive, IsLive}
+use Rattle.proof_calm.specs.Live.{AreAskedFor, AsksFor, HasLive, IsAskedFor, IsLive, IsLiveOf}
 use Rattle.proof_calm.specs.Marks.{IsQuietEvent}
-use Rattle.proof_calm.specs.Networks.{Members, members}
 use Rattle.proof_calm.specs.Tied.{unheard}
 use Rattle.proof_calm.proofs.Peopled.{covers_of}
-use Rattle.proof_calm.proofs.Links.{event_members}
-use Rattle.proof_calm.proofs.Routed.{judged_of}
 use Rattle.proof_calm.proofs.Unmarked.{nothing_asked}
 use Rattle.proof_answered.specs.Few.{IsStretched, Knows}
-use Rattle.proof_answered.specs.Heard.{AllSayHeard, IsHeardThen, KnowHeard}
-use Rattle.proof_answered.specs.Outward.{AllGoTo, AllListen, EachGoesTo, GoesTo, IsFor, IsOf, IsSentTo, KnowListening, KnowNetwork}
+use Rattle.proof_answered.specs.Heard.{AllSayHeard, IsHeardFor, IsHeardThen, KnowHeard}
+use Rattle.proof_answered.specs.Outward.{AllGoTo, AllListen, EachGoesTo, GoesTo, IsFor, IsOf, IsSentTo, KnowListening}
 use Rattle.proof_answered.proofs.Flying.{chip_counts}
 use Rattle.proof_answered.proofs.Listeners.{all_stay, listener_hears}
 use Rattle.proof_answered.proofs.Walking.{stretched_before}
@@ -114,19 +111,9 @@ answer_to these c (Refused (BadSum want got)) = (tt, tt)
 answer_to these c (Refused (BadKind x)) = (tt, tt)
 answer_to these c (Refused Aborted) = tt
 
-takes_marked : (idle joined few : Bool) → (idle && (joined && few)) ≡ true → joined ≡ true
-takes_marked true true few is = refl
-takes_marked true false few is = absurd cc
-takes_marked false joined few is = absurd cc
-
--- what is asked is to send to one of these, where the chip takes it
-abbrev IsAskedFor : List Bool → ChipState → Option Request → Type 0
-IsAskedFor these s (Some (SendData n payload options id)) = takes s n payload ≡ true → is_marked these n ≡ true
-IsAskedFor these s request = Unit {0}
-
-abbrev IsFrameFor : List Bool → ChipState → Option FrameParts → Type 0
-IsFrameFor these s None = Unit {0}
-IsFrameFor these s (Some f) = IsAskedFor these s (asked f)
+abbrev IsFrameFor : List Bool → Option FrameParts → Type 0
+IsFrameFor these None = Unit {0}
+IsFrameFor these (Some f) = AsksFor these (asked f)
 
 module _ (these : List Bool) (s : ChipState) where
   given_to : (reply : Option FrameParts) → AllGoTo these (given_outs s reply)
@@ -138,8 +125,8 @@ module _ (these : List Bool) (s : ChipState) where
   data_to true n payload (Some route) marked = (marked refl, tt)
   data_to false n payload way marked = tt
 
-  performed_to : (request : Request) (way : Option Route) → IsAskedFor these s (Some request) → AllGoTo these (performed_outs request s way)
-  performed_to (SendData n payload options id) way is_for = data_to (takes s n payload) n payload way is_for
+  performed_to : (request : Request) (way : Option Route) → AsksFor these (Some request) → AllGoTo these (performed_outs request s way)
+  performed_to (SendData n payload options id) way is_for = data_to (takes s n payload) n payload way (λ taken. is_for)
   performed_to (RequestNodeInfo n) way is_for = (tt, tt)
   performed_to GetInitData way is_for = tt
   performed_to GetCapabilities way is_for = tt
@@ -151,51 +138,31 @@ module _ (these : List Bool) (s : ChipState) where
   performed_to (IsFailedNode n) way is_for = tt
   performed_to (GetRoutingInfo n x y z) way is_for = tt
 
-  requested_to : (request : Option Request) (way : Option Route) → IsAskedFor these s request → AllGoTo these (requested_outs request s way)
+  requested_to : (request : Option Request) (way : Option Route) → AsksFor these request → AllGoTo these (requested_outs request s way)
   requested_to None way is_for = tt
   requested_to (Some request) way is_for = all-append (GoesTo these) (given_outs s (reply_to s request)) (performed_outs request s way) (given_to (reply_to s request)) (performed_to request way is_for)
 
-  judged_to : (frame : Option FrameParts) (way : Option Route) → IsFrameFor these s frame → AllGoTo these (judged_outs frame s way)
+  judged_to : (frame : Option FrameParts) (way : Option Route) → IsFrameFor these frame → AllGoTo these (judged_outs frame s way)
   judged_to None way is_for = all_said_to these _ (written_said (next_at s.port.side.turn s.port.waiting))
   judged_to (Some f) way is_for = requested_to (asked f) way is_for
 
-item_to : (these : List Bool) (s : ChipState) (item : Item) (way : Option Route) → IsFrameFor these (heard s item) (passed (collides s) item) → AllGoTo these (outs s (Judged item way))
+item_to : (these : List Bool) (s : ChipState) (item : Item) (way : Option Route) → IsFrameFor these (passed (collides s) item) → AllGoTo these (outs s (Judged item way))
 item_to these s item way is_for =
     all-append (GoesTo these) (answer_outs (collides s) item) (judged_outs (passed (collides s) item) (heard s item) way) (answer_to these (collides s) item) (judged_to these (heard s item) (passed (collides s) item) way is_for)
 
--- so where the chip takes payloads for joined nodes alone
-request_joined : (s : ChipState) (request : Option Request) → IsAskedFor s.joined s request
-request_joined s None = tt
-request_joined s (Some (SendData n payload options id)) = λ taken. takes_marked (is_idle s.sending) (is_marked s.joined n) _ taken
-request_joined s (Some request) = tt
+-- of an item, where it is asked for these alone
+item_for : (these : List Bool) (c : Bool) (item : Item) → IsAskedFor these item → IsFrameFor these (passed c item)
+item_for these true item only = tt
+item_for these false (Good (Framed f)) only = only
+item_for these false (Good Ack) only = tt
+item_for these false (Good Nak) only = tt
+item_for these false (Good Can) only = tt
+item_for these false (Refused r) only = tt
 
-frame_joined : (s : ChipState) (frame : Option FrameParts) → IsFrameFor s.joined s frame
-frame_joined s None = tt
-frame_joined s (Some f) = request_joined s (asked f)
-
--- an acknowledgement puts nothing on the air, and a frame what it asks for
-pub acks_to : (these : List Bool) (s : ChipState) (way : Option Route) → AllGoTo these (outs s (Judged (Good Ack) way))
-acks_to these s way = item_to these s (Good Ack) way (by (collides s))
-  where
-    by : (b : Bool) → IsFrameFor these (heard s (Good Ack)) (passed b (Good Ack))
-    by true = tt
-    by false = tt
-
-pub asks_to : (these : List Bool) (s : ChipState) (frame : FrameParts) (way : Option Route) → ((n : ℕ) (payload : List ℕ) (options id : ℕ) → asked frame ≡ Some (SendData n payload options id) → is_marked these n ≡ true)
-    → AllGoTo these (outs s (Judged (Good (Framed frame)) way))
-asks_to these s frame way marked = item_to these s (Good (Framed frame)) way (by (collides s))
-  where
-    hs : ChipState
-    hs = heard s (Good (Framed frame))
-
-    of : (request : Option Request) → asked frame ≡ request → IsAskedFor these hs request
-    of None is = tt
-    of (Some (SendData n payload options id)) is = λ taken. marked n payload options id is
-    of (Some request) is = tt
-
-    by : (b : Bool) → IsFrameFor these hs (passed b (Good (Framed frame)))
-    by true = tt
-    by false = of (asked frame) refl
+-- and of all
+each_for : (these : List Bool) (s : ChipState) (ways : List (Item × Option Route)) → AreAskedFor these ways → EachGoesTo these s ways
+each_for these s [] only = tt
+each_for these s (way ∷ ways) only = (item_to these s way.0 way.1 (item_for these (collides s) way.0 only.0), each_for these (after s (Judged way.0 way.1)) ways only.1)
 
 -- ---- frames more
 
@@ -257,27 +224,18 @@ module _ (airs : Airs) (these : List Bool) (many : length these ≡ 233) where
   unfolding chip_does
   does_add log flights o event goes fly = all_add log flights (with_chip o (after o.chip.state event)) (outs o.chip.state event) goes fly
 
-  pub judges_add : (log : List Mark) (flights : List Flown) (o : OuterState) (ways : List (Item × Option Route)) → EachGoesTo these o.chip.state ways → Fly log flights o.air.frames
+  judges_to : (log : List Mark) (flights : List Flown) (o : OuterState) (ways : List (Item × Option Route)) → EachGoesTo these o.chip.state ways → Fly log flights o.air.frames
       → Adds (IsSentFor these) log flights (each chip_does o (judged_all ways)).outer.air.frames
-  judges_add log flights o [] goes fly = adds_none (IsSentFor these) log flights o.air.frames fly
-  judges_add log flights o (way ∷ ways) goes fly =
+  judges_to log flights o [] goes fly = adds_none (IsSentFor these) log flights o.air.frames fly
+  judges_to log flights o (way ∷ ways) goes fly =
       let p : OuterState = (chip_does o (Judged way.0 way.1)).outer in
       let one = does_add log flights o (Judged way.0 way.1) goes.0 fly in
       let later : EachGoesTo these p.chip.state ways = subst (λ (s : ChipState). EachGoesTo these s ways) (sym (does_chip o (Judged way.0 way.1))) goes.1 in
-      adds_both (IsSentFor these) log flights p.air.frames (each chip_does p (judged_all ways)).outer.air.frames one (judges_add (log ++ one.more) (flights ++ one.added) p ways later one.fly)
+      adds_both (IsSentFor these) log flights p.air.frames (each chip_does p (judged_all ways)).outer.air.frames one (judges_to (log ++ one.more) (flights ++ one.added) p ways later one.fly)
 
--- the chip takes payloads for joined nodes alone
-each_to : (s : ChipState) (ways : List (Item × Option Route)) → EachGoesTo s.joined s ways
-each_to s [] = tt
-each_to s (way ∷ ways) =
-    let next : ChipState = after s (Judged way.0 way.1) in
-    let still : next.joined ≡ s.joined = ap (λ (of : Network × List Bool). of.1) (judged_of (passed (collides s) way.0) (heard s way.0)) in
-    (item_to s.joined s way.0 way.1 (frame_joined (heard s way.0) (passed (collides s) way.0)), subst (λ (l : List Bool). EachGoesTo l next ways) still (each_to next ways))
-
-sent_to_joined : (m : Machine) (event : Event) → IsSentTo m.outside.outer.chip.state.joined m event
-sent_to_joined m (Outside_does (Chip_takes count rest ways)) = each_to m.outside.outer.chip.state ways
-sent_to_joined m (Outside_does event) = tt
-sent_to_joined m event = tt
+  pub judges_add : (log : List Mark) (flights : List Flown) (o : OuterState) (ways : List (Item × Option Route)) → AreAskedFor these ways → Fly log flights o.air.frames
+      → Adds (IsSentFor these) log flights (each chip_does o (judged_all ways)).outer.air.frames
+  judges_add log flights o ways only fly = judges_to log flights o ways (each_for these o.chip.state ways only) fly
 
 -- ---- each event
 
@@ -340,7 +298,7 @@ module _ (these : List Bool) where
     entered_for : (x : Outcome) → AreFor x.outer → (told : List Entry) → AreFor (has_entered x.outer told)
     entered_for x are told = same_for x.outer (has_entered x.outer told) (entered_leaves x.outer told).air are
 
-    takes_for : (count : ℕ) (rest : Rest) (ways : List (Item × Option Route)) → EachGoesTo these m.outside.outer.chip.state ways → AreFor (outcome m.outside (Chip_takes count rest ways)).outer
+    takes_for : (count : ℕ) (rest : Rest) (ways : List (Item × Option Route)) → AreAskedFor these ways → AreFor (outcome m.outside (Chip_takes count rest ways)).outer
     unfolding outcome
     takes_for count rest ways sent =
         let o : OuterState = m.outside.outer in
@@ -389,21 +347,17 @@ module _ (these : List Bool) where
 -- ---- so the device of each hears it
 
 -- none is lost, and no hop of it is dead
-pub next_is_live : (o : OuterState) → HasLive o → (frame : Flown) → next_of o.air.frames ≡ Some frame → IsLive o.air.network frame
-next_is_live o live frame next = by (nat_lt o.air.frames.landed o.air.frames.sent) next
-  where
-    by : (b : Bool) → (if b then slice_get o.air.frames.frames (o.air.frames.landed - (o.air.frames.sent - length o.air.frames.frames)) else None) ≡ Some frame → IsLive o.air.network frame
-    by true found = all-get (IsLive o.air.network) o.air.frames.frames (o.air.frames.landed - (o.air.frames.sent - length o.air.frames.frames)) frame live.fly found
-    by false found = absurd cc
+pub next_is_live : (these : List Bool) (o : OuterState) → HasLive these o → (frame : Flown) → next_of o.air.frames ≡ Some frame → (frame.heading ≡ Homeward → is_marked these frame.node ≡ true) → IsLive o.air.network frame
+next_is_live these o live frame next home = next_all (IsLiveOf these o.air.network) o.air.frames frame live.sized next live.fly home
 
-heard_then : (airs : Airs) (m : Machine) (event : Event) → Awaits m → HasLive m.outside.outer → (these : List Bool) → AllListen these m → IsHeardThen m event
-heard_then airs m (Outside_does (Arrives drawn route)) is live these listen = λ frame next out.
+heard_then : (airs : Airs) (these : List Bool) (m : Machine) (event : Event) → Awaits m → HasLive these m.outside.outer → AllListen these m → IsHeardThen m event
+heard_then airs these m (Outside_does (Arrives drawn route)) is live listen = λ frame next out.
     let first = next_flight airs is.log (on_air m.outside.outer.air.frames) m.outside.outer.air.frames frame is.follows.fly next in
     let marked : is_marked these frame.node ≡ true = (subst (AllByRecursion (IsFor these)) first.1 listen.frames).0 out in
     let listener = listen.nodes frame.node marked in
-    (listener.place, listener_hears m.outside.outer.air.network m.outside.devices frame listener out (next_is_live m.outside.outer live frame next))
-heard_then airs m (Outside_does event) is live these listen = tt
-heard_then airs m event is live these listen = tt
+    (listener.place, listener_hears m.outside.outer.air.network m.outside.devices frame listener out (next_is_live these m.outside.outer live frame next (λ home. marked)))
+heard_then airs these m (Outside_does event) is live listen = tt
+heard_then airs these m event is live listen = tt
 
 -- ---- from phase to phase
 
@@ -435,15 +389,15 @@ module _ (airs : Airs) (go : (m : Machine) (event : Event) → GoOn m.outside.de
           nodes = λ node marked. all_stay node m.outside.devices n.outside.devices (go m event) (same_nodes m.outside.devices n.outside.devices (go m event)) (listen.nodes node marked);
         }
 
-    module _ (heard : WalkWhere IsHeardThen AsksNothing KnowHeard) where
-      does_all : (here next : Phase) (past : List Entry) (m : Machine) (event : Event) → Goes here m event next → May m event → IsSentTo these m event → IsStretched (past ++ entries m event) → KnowListening these here past m
-          → (Knows next (past ++ entries m event) (happens m event) × AllSayHeard (unheard (happens m event).outside.outer)) × AllListen these (happens m event)
-      does_all here next past m event goes may sent is known =
+    module _ (heard : WalkWhere (IsHeardFor these) AsksNothing (KnowHeard these)) where
+      pub hears_on : (here next : Phase) (past : List Entry) (m : Machine) (event : Event) → Goes here m event next → May m event → IsSentTo these m event → IsStretched (past ++ entries m event) → KnowListening these here past m
+          → (Knows these next (past ++ entries m event) (happens m event) × AllSayHeard (unheard (happens m event).outside.outer)) × AllListen these (happens m event)
+      hears_on here next past m event goes may sent is known =
           let before = stretched_before past (entries m event) is in
           let at = known before in
           let tied = at.0.0.tied before.quiet in
           let awaits : Awaits m = awaits_of here m tied.1 in (
-            (heard.event here next past m event goes may (heard_then airs m event awaits tied.7.live these at.1) (λ stretched. at.0)).1 is,
+            (heard.event here next past m event goes may (sent, heard_then airs these m event awaits tied.7.live at.1) (λ stretched. at.0)).1 is,
             listens_on m event (covers_of here next m event goes tied.0) may sent awaits at.1,
           )
 
@@ -456,29 +410,6 @@ module _ (airs : Airs) (go : (m : Machine) (event : Event) → GoOn m.outside.de
       pub listening_walk : WalkWhere (IsSentTo these) AsksNothing (KnowListening these)
       listening_walk = record {
         said = λ past m words line read known. (tt, said_on past m words line read known);
-        event = λ here next past m event goes may sent known. (nothing_asked past (entries m event), λ is. does_all here next past m event goes may sent is known);
+        event = λ here next past m event goes may sent known. (nothing_asked past (entries m event), λ is. hears_on here next past m event goes may sent is known);
         turn = turns_on;
       }
-
-  -- where these are all joined nodes
-  module _ (heard : WalkWhere IsHeardThen AsksNothing KnowHeard) where
-    network_on : (here next : Phase) (past : List Entry) (m : Machine) (event : Event) → Goes here m event next → May m event → KnowNetwork here past m → KnowNetwork next (past ++ entries m event) (happens m event)
-    network_on here next past m event goes may known is =
-        let before = stretched_before past (entries m event) is in
-        let at = known before in
-        let tied = at.0.0.tied before.quiet in
-        let awaits : Awaits m = awaits_of here m tied.1 in
-        let joined : (happens m event).outside.outer.chip.state.joined ≡ m.outside.outer.chip.state.joined =
-        ap (λ (them : Members). them.of_chip) (event_members (members m.outside.outer) m event (covers_of here next m event goes tied.0) may refl) in
-        let all = does_all m.outside.outer.chip.state.joined awaits.follows.joined heard here next past m event goes may (sent_to_joined m event) is known in
-        (all.0, subst (λ (l : List Bool). AllListen l (happens m event)) (sym joined) all.1)
-
-    pub network_walk : Walk AsksNothing KnowNetwork
-    network_walk = record {
-      said = λ past m words line read known. (
-        tt,
-        λ is. let at = known (stretched_before past (entry.Said words ∷ []) is) in ((heard.said past m words line read (λ stretched. at.0)).1 is, at.1),
-      );
-      event = λ here next past m event goes may known. (nothing_asked past (entries m event), network_on here next past m event goes may known);
-      turn = λ here next past m turns known is. let at = known is in (heard.turn here next past m turns (λ stretched. at.0) is, at.1);
-    }

@@ -51,12 +51,13 @@ use Rattle.proof_calm.specs.Calls.{answer_taken}
 use Rattle.proof_calm.specs.Marks.{IsQuietEvent}
 use Rattle.proof_calm.specs.Resting.{LineAt}
 use Rattle.proof_calm.specs.Routed.{IsRouted}
+use Rattle.proof_calm.specs.Live.{AreAskedFor}
 use Rattle.proof_calm.specs.Tied.{RoomAt, TieAt, unheard}
 use Rattle.proof_calm.proofs.Calm.{Calm, does_calm, enters_calm, takes_calm}
 use Rattle.proof_calm.proofs.ChipNotices.{arrived_air, entered_leaves, given_first}
 use Rattle.proof_calm.proofs.Flights.{flights_are}
 use Rattle.proof_calm.proofs.proof_traffic_Parts.{Airs}
-use Rattle.proof_answered.specs.Outward.{EachGoesTo, IsOfSaying, IsSentTo}
+use Rattle.proof_answered.specs.Outward.{IsOfSaying, IsSentTo}
 use Rattle.proof_answered.specs.Workers.{IsAway, IsCalledFor, IsFromSaying, IsLineFor}
 use Rattle.proof_answered.proofs.Flying.{chip_counts}
 use Rattle.proof_answered.proofs.Outwards.{Adds, IsSentFor, adds_both, adds_none, adds_weaker, judges_add, marked_within, next_flight}
@@ -298,7 +299,7 @@ module _ (airs : Airs) (these : List Bool) (Says : List ℕ → Type 0) (many : 
         (λ device there.
         inl (subst (λ (n : ℕ). is_marked these n ≡ true) (sym (place_is node m.outside.devices place device first there)) marked, speak.woken node place device marked first there))
 
-    takes_of : (count : ℕ) (rest : Rest) (ways : List (Item × Option Route)) → EachGoesTo these m.outside.outer.chip.state ways → AreOf (outcome m.outside (Chip_takes count rest ways)).outer
+    takes_of : (count : ℕ) (rest : Rest) (ways : List (Item × Option Route)) → AreAskedFor these ways → AreOf (outcome m.outside (Chip_takes count rest ways)).outer
     unfolding outcome
     takes_of count rest ways sent =
         let o : OuterState = m.outside.outer in

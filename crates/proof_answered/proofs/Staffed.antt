@@ -185,7 +185,7 @@ module _ (airs : Airs) (same : Same) (these : List Bool) (many : length these �
         let next_tied = (later.0 is.stretched).0.0.tied is.stretched.quiet in
         let awaits : Awaits m = awaits_of here m tied.1 in
         let covers = covers_of here next m event goes tied.0 in
-        let sent : IsSentTo these m event = sent_on these here next m event goes may tied.0 tied.6 (at.0.1 before.stretched) in
+        let sent : IsSentTo these m event = sent_on these here next m event goes may tied.0 tied.6 (at.0.1 before.stretched).request in
         let frames = all-weaker (IsOf these) (IsOfSaying these AnyText) (λ frame of. (of, λ home. tt)) (on_air m.outside.outer.air.frames) speak.frames in
         let pending = all-weaker (IsFrom these) (IsFromSaying these AnyText) (λ frame from n payload is. (from n payload is, tt)) (unheard m.outside.outer) speak.pending in
         let next_is = next_is_so airs these AnyText many m awaits frames in

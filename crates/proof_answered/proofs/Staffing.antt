@@ -1,6 +1,6 @@
 -- A host that has to do with some nodes alone: what it judges and submits is for these, and so is what the chip puts on the air.
-use Rattle.std.proofs.Common.{◌≡◌, ◌≤◌, ℕ, suc, ◌&&◌, Bool, true, false, inl, inr, List, [], ◌∷◌, ◌++◌, map, length, sym, ap, ◌∙◌, subst, arith}
-use Rattle.std.specs.Prelude.{◌⊎◌, Option, Some, ◌==◌}
+use Rattle.std.proofs.Common.{◌≡◌, ◌≤◌, ℕ, suc, ◌&&◌, Bool, true, false, inl, inr, List, [], ◌∷◌, ◌++◌, map, length, sym, ap, ◌∙◌, subst, arith, refl}
+use Rattle.std.specs.Prelude.{◌⊎◌, Option, Some, None, ◌==◌}
 use Rattle.std.specs.Option.{is_some}
 use Rattle.std.specs.List.{AllByRecursion}
 use Rattle.zw_base.proofs.Each.{all-both, all-left, all-right}
@@ -14,8 +14,8 @@ use Rattle.serial_frame.specs.declared.unit.Unit.TheVariants.{Ack, Framed}
 use Rattle.serial_link.specs.declared.turn.Turn.{Turn}
 use Rattle.serial_link.specs.declared.turn.Turn.TheVariants.{Idle as no_turn, Copied}
 use Rattle.route_table.specs.declared.route.Route.{Route}
+use Rattle.chip_functions.specs.declared.request.Request.{Request as ChipRequest}
 use Rattle.chip_functions.specs.declared.request.Request.TheVariants.{SendData}
-use Rattle.chip_sim.specs.Events.{Judged, after as after_chip_event}
 use Rattle.chip_sim.specs.Nodes.{is_marked}
 use Rattle.chip_sim.specs.Requests.{asked}
 use Rattle.chip_sim.specs.State.{ChipState}
@@ -43,6 +43,7 @@ use Rattle.proof_calm.specs.Known.{AsksToSend, IsPurposeFor, IsRequestFor, IsTas
 use Rattle.proof_calm.specs.Passes.{ChipMayTake, IsPlain, OnLine, frames_in}
 use Rattle.proof_calm.specs.Resting.{CanMove, IsEffect, IsGiven, LineAt}
 use Rattle.proof_calm.specs.Settling.{Line as TheLine, Free, Asks, Heard, Heard_asks, Sent, Sent_asks, HasMoved, IsDone, Moves}
+use Rattle.proof_calm.specs.Live.{AreAskedFor, AsksFor}
 use Rattle.proof_calm.specs.Tied.{All, Answers, At_chip, Brings, Called, Informs, IsNodeTick, IsPeopled, LeaveIt, LeavesIt, Nodes, Nowhere, On_way, Request, Tied, TiedInTick, TickLeft, TieAt, TieOf, on_line, unheard}
 use Rattle.proof_calm.proofs.ChipPart.{two_ways}
 use Rattle.proof_calm.proofs.ChipTurns.{one_way}
@@ -58,9 +59,8 @@ use Rattle.proof_calm.proofs.Reading.{fed_units}
 use Rattle.proof_calm.proofs.Requested.{moved_frames}
 use Rattle.proof_calm.proofs.Serving.{Payloads, next_asks, no_more_named, none_works}
 use Rattle.proof_calm.proofs.Unmarked.{nothing_asked}
-use Rattle.proof_answered.specs.Outward.{EachGoesTo, IsSentTo, KnowListening}
+use Rattle.proof_answered.specs.Outward.{IsSentTo, KnowListening}
 use Rattle.proof_answered.specs.Workers.{AllFrom, IsFrom, IsStill, IsWorkFor, KnowsWorkers, KnowWorkers}
-use Rattle.proof_answered.proofs.Outwards.{acks_to, asks_to}
 use Rattle.proof_answered.proofs.Walking.{stretched_before}
 
 -- ---- a node for which nothing is to be done
@@ -74,8 +74,9 @@ still_so = record {
   waits = λ n ticks still. record { idle = still.idle; none_waits = still.none_waits; rests = still.rests };
 }
 
-none_wants : (a b c d e f g : Bool) → (a && b) ≡ false → (a && b && c && d && e && f && g) ≡ true → ⊥
-none_wants true true c d e f g none wants = absurd (let no : true ≡ false = none in cc)
+none_wants : (a b c d e f g : Bool) → (a && b && c) ≡ false → (a && b && c && d && e && f && g) ≡ true → ⊥
+none_wants true true true d e f g none wants = absurd (let no : true ≡ false = none in cc)
+none_wants true true false d e f g none wants = absurd (let no : false ≡ true = wants in cc)
 none_wants true false c d e f g none wants = absurd (let no : false ≡ true = wants in cc)
 none_wants false b c d e f g none wants = absurd (let no : false ≡ true = wants in cc)
 
@@ -249,11 +250,11 @@ module _ (payloads : Payloads) (these : List Bool) where
   work_be : (m : Machine) (event is : Event) → event ≡ is → IsWorkFor these m event → IsWorkFor these m is
   work_be m event is same work = subst (IsWorkFor these m) same work
 
-  submits_named : (m : Machine) (event : HostEvent) → IsNext m.host.state event → May m (Host_does event) → m.host.state.requests.owes ≡ false → IsPeopled m → Knows m → IsNamed these event
+  submits_named : (m : Machine) (event : HostEvent) → IsNext m.host.state event → May m (Host_does event) → m.host.state.requests.owes ≡ false → IsPeopled these m → Knows m → IsNamed these event
   unfolding May
   submits_named m event next may paid is knows = (next_asks IsStill still_rests these m.host.state knows payloads is.facts is.fits event paid next may.0).1
 
-  staffed_on : (air : Airs) (here next : Phase) (m : Machine) (event : Event) → Goes here m event next → May m event → IsWorkFor these m event → LineAt here m → TieAt here m → IsPeopled m → Knows m → Knows (happens m event)
+  staffed_on : (air : Airs) (here next : Phase) (m : Machine) (event : Event) → Goes here m event next → May m event → IsWorkFor these m event → LineAt here m → TieAt here m → IsPeopled these m → Knows m → Knows (happens m event)
   staffed_on air (Said_line line) next m event (is, to) may work line_at tie at knows = staffed_as m event _ is (outer_staffed m Begins_line knows)
   staffed_on air (Doing line (first ∷ left)) next m event (is, to) may work line_at tie at knows =
       staffed_as m event first is (effect_staffed m first line_at.0.0 (work_be m event first is work) (may_be m event first is may) knows)
@@ -298,23 +299,26 @@ request_marked these k s frame pending for_these tie n payload options id is_ask
         subst (λ (j : ℕ). is_marked these j ≡ true) (sym same)
         (purpose_asks these u.purpose k.3 asks.node asks.payload (subst (IsRequestFor these) of.under_way for_these) asks.is)
 
-module _ (these : List Bool) (s : ChipState) where
-  ack_sent : (ways : List (Item × Option Route)) → map (λ (w : Item × Option Route). w.0) ways ≡ Good Ack ∷ [] → EachGoesTo these s ways
-  ack_sent ways are = let one = one_way ways (Good Ack) are in subst (EachGoesTo these s) (sym one.1) (acks_to these s one.0, tt)
+asks_of : (these : List Bool) (request : Option ChipRequest) → ((n : ℕ) (payload : List ℕ) (options id : ℕ) → request ≡ Some (SendData n payload options id) → is_marked these n ≡ true) → AsksFor these request
+asks_of these None marked = tt
+asks_of these (Some (SendData n payload options id)) marked = marked n payload options id refl
+asks_of these (Some request) marked = tt
+
+module _ (these : List Bool) where
+  ack_sent : (ways : List (Item × Option Route)) → map (λ (w : Item × Option Route). w.0) ways ≡ Good Ack ∷ [] → AreAskedFor these ways
+  ack_sent ways are = let one = one_way ways (Good Ack) are in subst (AreAskedFor these) (sym one.1) (tt, tt)
 
   module _ (frame : FrameParts) (marked : (n : ℕ) (payload : List ℕ) (options id : ℕ) → asked frame ≡ Some (SendData n payload options id) → is_marked these n ≡ true) where
-    frame_sent : (ways : List (Item × Option Route)) → map (λ (w : Item × Option Route). w.0) ways ≡ Good (Framed frame) ∷ [] → EachGoesTo these s ways
-    frame_sent ways are = let one = one_way ways (Good (Framed frame)) are in subst (EachGoesTo these s) (sym one.1) (asks_to these s frame one.0 marked, tt)
+    frame_sent : (ways : List (Item × Option Route)) → map (λ (w : Item × Option Route). w.0) ways ≡ Good (Framed frame) ∷ [] → AreAskedFor these ways
+    frame_sent ways are = let one = one_way ways (Good (Framed frame)) are in subst (AreAskedFor these) (sym one.1) (asks_of these (asked frame) marked, tt)
 
-    ack_frame_sent : (ways : List (Item × Option Route)) → map (λ (w : Item × Option Route). w.0) ways ≡ Good Ack ∷ Good (Framed frame) ∷ [] → EachGoesTo these s ways
-    ack_frame_sent ways are =
-        let two = two_ways ways (Good Ack) (Good (Framed frame)) are in
-        subst (EachGoesTo these s) (sym two.2) (acks_to these s two.0, (asks_to these (after_chip_event s (Judged (Good Ack) two.0)) frame two.1 marked, tt))
+    ack_frame_sent : (ways : List (Item × Option Route)) → map (λ (w : Item × Option Route). w.0) ways ≡ Good Ack ∷ Good (Framed frame) ∷ [] → AreAskedFor these ways
+    ack_frame_sent ways are = let two = two_ways ways (Good Ack) (Good (Framed frame)) are in subst (AreAskedFor these) (sym two.2) (tt, (asks_of these (asked frame) marked, tt))
 
-part_sent : (these : List Bool) (m : Machine) (line : TheLine m) (rest : Rest) (ways : List (Item × Option Route)) → Moves line → ChipMayTake m rest ways → TieOf true m (on_line m.host.state.side.turn) → KnowsWorkers these m.host.state
-    → EachGoesTo these m.outside.outer.chip.state ways
+part_sent : (these : List Bool) (m : Machine) (line : TheLine m) (rest : Rest) (ways : List (Item × Option Route)) → Moves line → ChipMayTake m rest ways → TieOf true m (on_line m.host.state.side.turn) → IsRequestFor these m.host.state.requests.under_way
+    → AreAskedFor these ways
 unfolding May MayOutside
-part_sent these m line rest ways moves may tie knows = by line moves
+part_sent these m line rest ways moves may tie for_these = by line moves
   where
     o : OuterState
     o = m.outside.outer
@@ -326,38 +330,38 @@ part_sent these m line rest ways moves may tie knows = by line moves
     items = map (λ (w : Item × Option Route). w.0) ways
 
     marked : (frame : FrameParts) → m.host.state.side.turn ≡ Copied frame 1 0 → (n : ℕ) (payload : List ℕ) (options id : ℕ) → asked frame ≡ Some (SendData n payload options id) → is_marked these n ≡ true
-    marked frame turn = request_marked these (kept m.host.state) s frame (unheard o) knows.request (subst (λ (t : Turn). TieBy true (kept m.host.state) s (unheard o) (on_line t)) turn tie)
+    marked frame turn = request_marked these (kept m.host.state) s frame (unheard o) for_these (subst (λ (t : Turn). TieBy true (kept m.host.state) s (unheard o) (on_line t)) turn tie)
 
-    by : (at : TheLine m) → Moves at → EachGoesTo these s ways
+    by : (at : TheLine m) → Moves at → AreAskedFor these ways
     by (Free at) moves = absurd moves
     by (Asks frame fits at) moves =
         let fed = fed_units (Framed frame) [] o.to_chip.bytes o.chip.decoder rest items (fits, tt) at.at_chip.decoder at.at_chip.up_bytes may.1.feeds in
-        frame_sent these s frame (marked frame at.at_host.turn_is) ways fed.0
+        frame_sent these frame (marked frame at.at_host.turn_is) ways fed.0
     by (Heard first ticks frames at) moves =
         let fed = fed_units Ack [] o.to_chip.bytes o.chip.decoder rest items (tt, tt) at.at_chip.decoder at.at_chip.up_bytes may.1.feeds in
-        ack_sent these s ways fed.0
+        ack_sent these ways fed.0
     by (Heard_asks frame first ticks frames fits at) moves =
         let fed = fed_units Ack (Framed frame ∷ []) o.to_chip.bytes o.chip.decoder rest items (tt, (fits, tt)) at.at_chip.decoder at.at_chip.up_bytes may.1.feeds in
-        ack_frame_sent these s frame (marked frame at.at_host.turn_is) ways fed.0
+        ack_frame_sent these frame (marked frame at.at_host.turn_is) ways fed.0
     by (Sent first ticks frames at) moves =
         let fed = fed_none o.to_chip.bytes o.chip.decoder rest items at.at_chip.decoder at.at_chip.up_bytes may.1.feeds in
-        subst (EachGoesTo these s) (sym (no_ways ways fed.0)) tt
+        subst (AreAskedFor these) (sym (no_ways ways fed.0)) tt
     by (Sent_asks frame first ticks frames fits at) moves =
         let fed = fed_units (Framed frame) [] o.to_chip.bytes o.chip.decoder rest items (fits, tt) at.at_chip.decoder at.at_chip.up_bytes may.1.feeds in
-        frame_sent these s frame (marked frame at.at_host.turn_is) ways fed.0
+        frame_sent these frame (marked frame at.at_host.turn_is) ways fed.0
 
-none_sent : (these : List Bool) (m : Machine) (rest : Rest) (ways : List (Item × Option Route)) → IsDone m → ChipMayTake m rest ways → EachGoesTo these m.outside.outer.chip.state ways
+none_sent : (these : List Bool) (m : Machine) (rest : Rest) (ways : List (Item × Option Route)) → IsDone m → ChipMayTake m rest ways → AreAskedFor these ways
 unfolding May MayOutside
 none_sent these m rest ways done may =
     let o : OuterState = m.outside.outer in
     let at = done.line.at_chip in
     let fed = fed_none o.to_chip.bytes o.chip.decoder rest (map (λ (w : Item × Option Route). w.0) ways) at.decoder at.up_bytes may.1.feeds in
-    subst (EachGoesTo these o.chip.state) (sym (no_ways ways fed.0)) tt
+    subst (AreAskedFor these) (sym (no_ways ways fed.0)) tt
 
 taken_sent : (these : List Bool) (passes : ℕ) (m : Machine) (rest : Rest) (ways : List (Item × Option Route)) → IsDone m ⊎ CanMove passes m → ChipMayTake m rest ways → TieOf true m (on_line m.host.state.side.turn)
-    → KnowsWorkers these m.host.state → EachGoesTo these m.outside.outer.chip.state ways
-taken_sent these passes m rest ways (inl done) may tie knows = none_sent these m rest ways done may
-taken_sent these passes m rest ways (inr can) may tie knows = part_sent these m can.live.line rest ways can.moves may tie knows
+    → IsRequestFor these m.host.state.requests.under_way → AreAskedFor these ways
+taken_sent these passes m rest ways (inl done) may tie for_these = none_sent these m rest ways done may
+taken_sent these passes m rest ways (inr can) may tie for_these = part_sent these m can.live.line rest ways can.moves may tie for_these
 
 -- from phase to phase
 sent_as : (these : List Bool) (m : Machine) (event is : Event) → event ≡ is → IsSentTo these m is → IsSentTo these m event
@@ -370,21 +374,21 @@ effect_sent these m (Outside_does (Cuts size)) is = tt
 effect_sent these m (Outside_does event) is = absurd is
 effect_sent these m event is = tt
 
-pub sent_on : (these : List Bool) (here next : Phase) (m : Machine) (event : Event) → Goes here m event next → May m event → LineAt here m → TieAt here m → KnowsWorkers these m.host.state → IsSentTo these m event
-sent_on these (Said_line line) next m event (is, to) may line_at tie knows = sent_as these m event _ is tt
-sent_on these (Doing line (first ∷ left)) next m event (is, to) may line_at tie knows = sent_as these m event first is (effect_sent these m first line_at.0.0)
-sent_on these (To_tick (suc ticks)) next m event (is, to) may line_at tie knows = sent_as these m event _ is tt
-sent_on these (Arriving (suc frames) ticks) next m event (drawn, route, is, to) may line_at tie knows = sent_as these m event _ is tt
-sent_on these (Giving (suc results) ticks) next m event (route, is, to) may line_at tie knows = sent_as these m event _ is tt
-sent_on these (Ticking_devices place (suc count) ticks) next m event (drawn, route, is, to) may line_at tie knows = sent_as these m event _ is tt
-sent_on these (Ticking_chip ticks) next m event (is, to) may line_at tie knows = sent_as these m event _ is tt
-sent_on these (Ticking_decoder ticks) next m event (is, to) may line_at tie knows = sent_as these m event _ is tt
-sent_on these (Ticking_host (first ∷ events) ticks) next m event (is, to) may line_at tie knows = sent_as these m event _ is tt
-sent_on these (Sleeping passes ticks) next m event (node, wants, is, to) may line_at tie knows = sent_as these m event _ is tt
-sent_on these (Submitting passes ticks) next m event (asked_is, next_is, is, to) may line_at tie knows = sent_as these m event _ is tt
-sent_on these (Moving passes ticks) next m event (rest, ways, is, to) may line_at tie knows = sent_as these m event _ is (taken_sent these passes m rest ways line_at (subst (May m) is may) tie knows)
-sent_on these (Moved b passes ticks) next m event (rest, items, done, is, to) may line_at tie knows = sent_as these m event _ is tt
-sent_on these here next m event goes may line_at tie knows = absurd goes
+pub sent_on : (these : List Bool) (here next : Phase) (m : Machine) (event : Event) → Goes here m event next → May m event → LineAt here m → TieAt here m → IsRequestFor these m.host.state.requests.under_way → IsSentTo these m event
+sent_on these (Said_line line) next m event (is, to) may line_at tie for_these = sent_as these m event _ is tt
+sent_on these (Doing line (first ∷ left)) next m event (is, to) may line_at tie for_these = sent_as these m event first is (effect_sent these m first line_at.0.0)
+sent_on these (To_tick (suc ticks)) next m event (is, to) may line_at tie for_these = sent_as these m event _ is tt
+sent_on these (Arriving (suc frames) ticks) next m event (drawn, route, is, to) may line_at tie for_these = sent_as these m event _ is tt
+sent_on these (Giving (suc results) ticks) next m event (route, is, to) may line_at tie for_these = sent_as these m event _ is tt
+sent_on these (Ticking_devices place (suc count) ticks) next m event (drawn, route, is, to) may line_at tie for_these = sent_as these m event _ is tt
+sent_on these (Ticking_chip ticks) next m event (is, to) may line_at tie for_these = sent_as these m event _ is tt
+sent_on these (Ticking_decoder ticks) next m event (is, to) may line_at tie for_these = sent_as these m event _ is tt
+sent_on these (Ticking_host (first ∷ events) ticks) next m event (is, to) may line_at tie for_these = sent_as these m event _ is tt
+sent_on these (Sleeping passes ticks) next m event (node, wants, is, to) may line_at tie for_these = sent_as these m event _ is tt
+sent_on these (Submitting passes ticks) next m event (asked_is, next_is, is, to) may line_at tie for_these = sent_as these m event _ is tt
+sent_on these (Moving passes ticks) next m event (rest, ways, is, to) may line_at tie for_these = sent_as these m event _ is (taken_sent these passes m rest ways line_at (subst (May m) is may) tie for_these)
+sent_on these (Moved b passes ticks) next m event (rest, items, done, is, to) may line_at tie for_these = sent_as these m event _ is tt
+sent_on these here next m event goes may line_at tie for_these = absurd goes
 
 -- ---- the walk
 
@@ -398,7 +402,7 @@ module _ (airs : Airs) (payloads : Payloads) (these : List Bool) (listening : Wa
         λ is.
             let before = stretched_before past (entries m event) is in
             let tied = (known.0 before).0.0.tied before.quiet in
-            (listening.event here next past m event goes may (sent_on these here next m event goes may tied.0 tied.6 (known.1 before)) known.0).1 is,
+            (listening.event here next past m event goes may (sent_on these here next m event goes may tied.0 tied.6 (known.1 before).request) known.0).1 is,
         λ is.
             let before = stretched_before past (entries m event) is in
             let tied = (known.0 before).0.0.tied before.quiet in

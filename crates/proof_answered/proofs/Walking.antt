@@ -37,7 +37,7 @@ use Rattle.world_model.specs.Events.{Event, Outside_does, Host_does, Host_takes,
 use Rattle.world_model.specs.Lines.{IsEffect as IsLineEffect}
 use Rattle.proof_calm.specs.proof_work.Phases.{AsksNothing}
 use Rattle.proof_calm.specs.proof_work.proof_walk.Phases.{Phase, Between, Said_line, Begun, Doing, To_tick, Ticked, Arriving, Giving, Ticking_devices, Ticking_chip, Ticking_decoder, Ticking_host, Sleeping, Submitting, Moving, Moved, Turns, Goes, after_pump, passes_after}
-use Rattle.proof_calm.specs.proof_work.proof_walk.Walk.{Walk, WalkWhere}
+use Rattle.proof_calm.specs.proof_work.proof_walk.Walk.{WalkWhere}
 use Rattle.world_model.proofs.Hosting.{devices_host-all, routed_still}
 use Rattle.proof_calm.specs.proof_traffic.Facts.{one_if, flying_in}
 use Rattle.proof_calm.specs.proof_traffic.Flights.{Fly}
@@ -51,11 +51,12 @@ use Rattle.proof_calm.proofs.proof_traffic_Parts.{Airs}
 use Rattle.proof_calm.specs.Awaited.{Awaits, AwaitsFrames, AwaitsAt}
 use Rattle.proof_calm.specs.Resting.{IsEffect, LineAt}
 use Rattle.proof_calm.specs.Routed.{IsRouted}
-use Rattle.proof_calm.specs.Tied.{IsOrderly, IsTied, KnowTied, to_arrive}
+use Rattle.proof_calm.specs.Tied.{IsOrderly, IsOrderlyFor, IsTied, KnowTied, to_arrive}
 use Rattle.proof_calm.proofs.Pending.{has_kept}
 use Rattle.proof_calm.proofs.Quiet.{quiet_both}
 use Rattle.proof_calm.proofs.Unmarked.{nothing_asked}
 use Rattle.proof_answered.specs.Few.{WorkApart, work_of, work_at, AreFew, AreArriving, All, Others, HaveArrived, AreTicking, EndedBefore, FewAt, wakes_in, woken_in, IsStretched, Knows, KnowFew}
+use Rattle.proof_answered.specs.Outward.{IsSentTo}
 use Rattle.proof_answered.proofs.Apart.{less_apart, more_apart, set_else, set_here}
 use Rattle.proof_answered.proofs.Flying.{Acts, Arrival, Worked, arrives, chip_counts, takes, ticks, wakes}
 use Rattle.proof_answered.proofs.Works.{ticks_say, ticks_work}
@@ -552,9 +553,9 @@ woken_said words line read =
 
 -- ---- the walk
 
-module _ (airs : Airs) (worked : Worked) (tied : WalkWhere IsOrderly AsksNothing KnowTied) where
-  said_few : (past : List Entry) (m : Machine) (words : List ℕ) (line : Line) → line_of (entry.Said words) ≡ line ∷ [] → IsStretched (past ++ entry.Said words ∷ []) → Knows Between past m
-      → Knows (Said_line line) (past ++ entry.Said words ∷ []) m
+module _ (airs : Airs) (worked : Worked) (these : List Bool) (tied : WalkWhere (IsOrderlyFor these) AsksNothing (KnowTied these)) where
+  said_few : (past : List Entry) (m : Machine) (words : List ℕ) (line : Line) → line_of (entry.Said words) ≡ line ∷ [] → IsStretched (past ++ entry.Said words ∷ []) → Knows these Between past m
+      → Knows these (Said_line line) (past ++ entry.Said words ∷ []) m
   said_few past m words line read is known = record {
     tied = (tied.said past m words line read known.tied).1;
     woken = known.woken + length (woken_by line);
@@ -562,14 +563,14 @@ module _ (airs : Airs) (worked : Worked) (tied : WalkWhere IsOrderly AsksNothing
     few = record { fly = let fly = known.few.fly in omega (arith, fly); work = known.few.work };
   }
 
-  does_all : (here next : Phase) (past : List Entry) (m : Machine) (event : Event) → Goes here m event next → May m event → IsStretched (past ++ entries m event) → Knows here past m
-      → Knows next (past ++ entries m event) (happens m event)
-  does_all here next past m event goes may is known =
+  does_all : (here next : Phase) (past : List Entry) (m : Machine) (event : Event) → Goes here m event next → May m event → IsSentTo these m event → IsStretched (past ++ entries m event) → Knows these here past m
+      → Knows these next (past ++ entries m event) (happens m event)
+  does_all here next past m event goes may sent is known =
       let before = stretched_before past (entries m event) is in
       let at = known.tied before.quiet in
       let ground : Ground here m = (at.0, at.1, at.3) in
       let some : known.woken ≤ 16 = let told = known.told in let few = before.few in omega (arith, told, few) in
-      let next_tied = (tied.event here next past m event goes may (orderly here next m event known.woken some goes ground known.few) known.tied).1 in
+      let next_tied = (tied.event here next past m event goes may (orderly here next m event known.woken some goes ground known.few, sent) known.tied).1 in
       record {
         tied = next_tied;
         woken = known.woken;
@@ -577,11 +578,11 @@ module _ (airs : Airs) (worked : Worked) (tied : WalkWhere IsOrderly AsksNothing
         few = event_few airs worked known.woken here next m event goes may ground known.few (next_tied is.quiet).1;
       }
 
-  pub few_walk : Walk AsksNothing KnowFew
+  pub few_walk : WalkWhere (IsSentTo these) AsksNothing (KnowFew these)
   few_walk = record {
     said = λ past m words line read known. (tt, λ is. said_few past m words line read is (known (stretched_before past (entry.Said words ∷ []) is)));
-    event = λ here next past m event goes may known.
-        (nothing_asked past (entries m event), λ is. does_all here next past m event goes may is (known (stretched_before past (entries m event) is)));
+    event = λ here next past m event goes may sent known.
+        (nothing_asked past (entries m event), λ is. does_all here next past m event goes may sent is (known (stretched_before past (entries m event) is)));
     turn = λ here next past m turns known is.
         let at = known is in
         record {
@@ -593,5 +594,5 @@ module _ (airs : Airs) (worked : Worked) (tied : WalkWhere IsOrderly AsksNothing
   }
 
 -- where a stretch begins
-pub begins_known : (m : Machine) → IsTied m → AreFew 0 3 m → Knows Between [] m
+pub begins_known : {these : List Bool} (m : Machine) → IsTied these m → AreFew 0 3 m → Knows these Between [] m
 begins_known m is few = record { tied = λ quiet. (is.rests, is.awaits, tt, is.routed, is.on_line, is.pumped, is.tie, is.peopled); woken = 0; told = omega arith; few = few }

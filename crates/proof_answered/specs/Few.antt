@@ -1,5 +1,5 @@
 -- How many frames are on the air while quiet lines are said (this project's own rule): few, since no two devices end their work in the same tick.
-use Rattle.std.specs.Prelude.{◌≡◌, ◌⊎◌, ℕ, ◌+◌, ◌-◌, ◌<◌, ◌≤◌, List, [], ◌∷◌, length, slice_get, Option, Some, None}
+use Rattle.std.specs.Prelude.{◌≡◌, ◌⊎◌, ℕ, Bool, ◌+◌, ◌-◌, ◌<◌, ◌≤◌, List, [], ◌∷◌, length, slice_get, Option, Some, None}
 use Rattle.std.specs.List.{AllByRecursion, flat_map}
 use Rattle.zw_text.specs.declared.entry.Entry.{Entry}
 use Rattle.zw_text.specs.Transcript.{lines_run}
@@ -101,11 +101,11 @@ pub record IsStretched (past : List Entry) : Type 0 where
   pub few : woken_in past ≤ 16
 
 -- what is known then
-pub record Knows (here : Phase) (past : List Entry) (m : Machine) : Type 0 where
-  pub tied : KnowTied here past m
+pub record Knows (these : List Bool) (here : Phase) (past : List Entry) (m : Machine) : Type 0 where
+  pub tied : KnowTied these here past m
   pub woken : ℕ
   pub told : woken ≤ woken_in past
   pub few : FewAt woken here m
 
-abbrev pub KnowFew : Phase → List Entry → Machine → Type 0
-KnowFew here past m = IsStretched past → Knows here past m
+abbrev pub KnowFew : List Bool → Phase → List Entry → Machine → Type 0
+KnowFew these here past m = IsStretched past → Knows these here past m

@@ -1,5 +1,5 @@
 -- Payloads of the host that are heard (this project's own rule): the call for each says so.
-use Rattle.std.specs.Prelude.{◌≡◌, ℕ, List, Some}
+use Rattle.std.specs.Prelude.{◌≡◌, ℕ, Bool, List, Some}
 use Rattle.std.specs.List.{AllByRecursion}
 use Rattle.zw_text.specs.declared.entry.Entry.{Entry}
 use Rattle.serial_frame.specs.Frame.{FrameParts}
@@ -17,6 +17,7 @@ use Rattle.outside_model.specs.State.{Outside}
 use Rattle.world_model.specs.Events.{Event, Outside_does}
 use Rattle.world_model.specs.State.{Machine}
 use Rattle.proof_calm.specs.proof_work.proof_walk.Phases.{Phase}
+use Rattle.proof_calm.specs.Live.{IsAskedAt}
 use Rattle.proof_calm.specs.Tied.{unheard}
 use Rattle.proof_answered.specs.Few.{IsStretched, Knows}
 
@@ -40,7 +41,11 @@ abbrev pub IsHeardThen : Machine → Event → Type 0
 IsHeardThen m (Outside_does event) = IsHeardOutside m.outside event
 IsHeardThen m event = Unit {0}
 
+-- and the chip is asked for some nodes alone
+abbrev pub IsHeardFor : List Bool → Machine → Event → Type 0
+IsHeardFor these m event = IsAskedAt these event × IsHeardThen m event
+
 -- ---- at each phase
 
-abbrev pub KnowHeard : Phase → List Entry → Machine → Type 0
-KnowHeard here past m = IsStretched past → Knows here past m × AllSayHeard (unheard m.outside.outer)
+abbrev pub KnowHeard : List Bool → Phase → List Entry → Machine → Type 0
+KnowHeard these here past m = IsStretched past → Knows these here past m × AllSayHeard (unheard m.outside.outer)

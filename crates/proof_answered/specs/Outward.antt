@@ -12,10 +12,10 @@ use Rattle.chip_sim.specs.State.{ChipState}
 use Rattle.chip_sim.specs.declared.out.ChipOut.{ChipOut}
 use Rattle.chip_sim.specs.declared.out.ChipOut.TheVariants.{OnAir}
 use Rattle.world_model.specs.State.{Machine}
-use Rattle.outside_model.specs.Events.{OuterEvent, Chip_takes}
-use Rattle.world_model.specs.Events.{Event, Outside_does}
+use Rattle.world_model.specs.Events.{Event}
 use Rattle.proof_calm.specs.proof_traffic.OnAir.{on_air}
 use Rattle.proof_calm.specs.proof_work.proof_walk.Phases.{Phase}
+use Rattle.proof_calm.specs.Live.{IsAskedAt}
 use Rattle.proof_calm.specs.Tied.{unheard}
 use Rattle.proof_answered.specs.Few.{IsStretched, Knows}
 use Rattle.proof_answered.specs.Heard.{AllSayHeard}
@@ -53,18 +53,14 @@ abbrev pub EachGoesTo : List Bool → ChipState → List (Item × Option Route) 
 EachGoesTo these s [] = Unit {0}
 EachGoesTo these s (way ∷ ways) = AllGoTo these (outs s (Judged way.0 way.1)) × EachGoesTo these (after s (Judged way.0 way.1)) ways
 
-abbrev pub IsSentOutside : List Bool → ChipState → OuterEvent → Type 0
-IsSentOutside these s (Chip_takes count rest ways) = EachGoesTo these s ways
-IsSentOutside these s event = Unit {0}
-
+-- that is so where it is asked for these alone
 abbrev pub IsSentTo : List Bool → Machine → Event → Type 0
-IsSentTo these m (Outside_does event) = IsSentOutside these m.outside.outer.chip.state event
-IsSentTo these m event = Unit {0}
+IsSentTo these m event = IsAskedAt these event
 
 -- ---- at each phase
 
 abbrev pub KnowListening : List Bool → Phase → List Entry → Machine → Type 0
-KnowListening these here past m = IsStretched past → (Knows here past m × AllSayHeard (unheard m.outside.outer)) × AllListen these m
+KnowListening these here past m = IsStretched past → (Knows these here past m × AllSayHeard (unheard m.outside.outer)) × AllListen these m
 
 -- of the joined nodes
 abbrev pub KnowNetwork : Phase → List Entry → Machine → Type 0

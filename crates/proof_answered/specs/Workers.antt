@@ -1,5 +1,5 @@
 -- Nodes at work (this project's own rule): the host has to do with these alone, and asks for no others.
-use Rattle.std.specs.Prelude.{◌≡◌, ℕ, ◌&&◌, Bool, false, true, List, []}
+use Rattle.std.specs.Prelude.{◌≡◌, ℕ, ◌&&◌, is_some, Bool, false, true, List, []}
 use Rattle.std.specs.List.{AllByRecursion, list_all}
 use Rattle.zw_text.specs.declared.line.Line.{Line}
 use Rattle.zw_text.specs.declared.line.Line.TheVariants as lines
@@ -25,11 +25,11 @@ use Rattle.proof_calm.specs.Tied.{unheard}
 use Rattle.proof_answered.specs.Few.{IsStretched}
 use Rattle.proof_answered.specs.Outward.{IsOf, KnowListening}
 
--- nothing is to be done for a node: no series of it is due or runs, no command waits for it, and it is not awake or listens
+-- nothing is to be done for a node: no series of it is due or runs, no command waits for it, and it is not awake, or listens, or was never interviewed
 pub record IsStill (n : NodeState) : Type 0 where
   pub idle : n.series ≡ Idle
   pub none_waits : n.waiting ≡ []
-  pub rests : (n.awake && is_false n.listens) ≡ false
+  pub rests : (n.awake && is_false n.listens && is_some n.classes) ≡ false
 
 -- so it is for all but these, and the requests are for these
 abbrev pub KnowsWorkers : List Bool → HostState → Type 0

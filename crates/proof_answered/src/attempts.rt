@@ -22,7 +22,7 @@ ghost use Rattle.proof_calm.specs.Calls.{FrameFollows, IsSending};
 ghost use Rattle.proof_calm.specs.Tied.{IsTied};
 ghost use Rattle.proof_answered.specs.Few.{AreFew, IsStretched};
 ghost use Rattle.proof_answered.specs.FirstAttempts.{AllFirst, AndInTime, IsInTime, KnowFirst};
-ghost use Rattle.proof_answered.specs.Heard.{IsHeardThen, KnowHeard};
+ghost use Rattle.proof_answered.specs.Heard.{IsHeardFor, KnowHeard};
 ghost use Rattle.proof_answered.specs.Outward.{AllListen, IsSentTo, KnowListening, KnowNetwork};
 ghost use Rattle.proof_answered.specs.Workers.{IsWorkedFor, KnowStaff, KnowsWorkers, OnlySpeak};
 
@@ -37,16 +37,17 @@ pub fn attempts_stay_first()
         u.purpose ≡ Attempt n more payload → FrameFollows h (notice_frame (SendData h.requests.last_id CompleteOk)) events →
         (after_events h events).nodes ≡ (with_node h n (after_sign (node_of h n))).nodes }
     ensures first { (keys : Keys) → AllFirst (first_host keys) }
-    ensures walk { WalkWhere (AndInTime IsHeardThen) AsksNothing (KnowFirst IsStretched KnowHeard) }
+    ensures walk { (these : List Bool) → WalkWhere (AndInTime (IsHeardFor these)) AsksNothing (KnowFirst IsStretched (KnowHeard these)) }
     ensures listening { (these : List Bool) → length these ≡ 233 →
         WalkWhere (AndInTime (IsSentTo these)) AsksNothing (KnowFirst IsStretched (KnowListening these)) }
     ensures network { WalkWhere IsInTime AsksNothing (KnowFirst IsStretched KnowNetwork) }
     ensures working { (these : List Bool) → length these ≡ 233 → WalkWhere IsInTime AsksNothing (KnowFirst (IsWorkedFor these) (KnowStaff these)) }
     ensures lines { (m : Machine) (lines : List Spoken) → AreDone m lines → AreWhole m lines → AllAlong IsInTime m (events_of lines) →
-        IsStretched (transcript_of m lines) → IsTied m → AreFew 0 3 m → AllListen m.outside.outer.chip.state.joined m → AllFirst m.host.state →
+        IsStretched (transcript_of m lines) → IsTied m.outside.outer.chip.state.joined m → AreFew 0 3 m →
+        AllListen m.outside.outer.chip.state.joined m → AllFirst m.host.state →
         AllFirst (after_all m lines).host.state }
     ensures workers { (these : List Bool) (m : Machine) (lines : List Spoken) → length these ≡ 233 → AreDone m lines → AreWhole m lines →
-        AllAlong IsInTime m (events_of lines) → IsWorkedFor these (transcript_of m lines) → IsTied m → AreFew 0 3 m → AllListen these m →
+        AllAlong IsInTime m (events_of lines) → IsWorkedFor these (transcript_of m lines) → IsTied these m → AreFew 0 3 m → AllListen these m →
         KnowsWorkers these m.host.state → OnlySpeak these m → AllFirst m.host.state → AllFirst (after_all m lines).host.state }
 {
     frames_fly_in_order();

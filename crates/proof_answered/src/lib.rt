@@ -1,13 +1,13 @@
 //! What a stretch of quiet lines and ticks makes of a calm machine, beyond its traffic.
 //!
 //! It promises that few frames are on the air as each tick begins (`few_frames_fly`): no two devices end their work in the same tick, and each that hears
-//! something answers with two payloads at most. So the request of the host stays tied over each stretch, whatever it asks (`requests_stay_tied` of
-//! `proof_calm`, which assumes no more than this). A node whose device is of a kind that listens hears each frame that is sent to it (`listeners_hear`);
-//! and where each is heard, the call for each payload of the host says so (`payloads_are_heard`). So it is where the chip takes payloads for nodes
-//! alone whose devices listen (`nodes_hear`), and in a network whose joined nodes all do (`networks_hear`). Where the lines of a stretch are for some nodes
-//! alone, these alone speak on the air, and the host has to do with no others (`workers_hear`, `workers_alone_speak`): the rest may sleep. Then a series
-//! ends no attempt but as the wait of one runs out (`attempts_stay_first`); and each service of another node brings a node that has work nearer to its turn
-//! (`nodes_are_served_in_turn`). There is no code here.
+//! something answers with two payloads at most. So the request of the host stays tied over each stretch in which it asks to send to nodes that are reached
+//! (`requests_stay_tied` of `proof_calm`, which assumes no more than this). A node whose device is of a kind that listens hears each frame that is sent to
+//! it (`listeners_hear`); and where each is heard, the call for each payload of the host says so (`payloads_are_heard`). So it is where the chip takes
+//! payloads for nodes alone whose devices listen (`nodes_hear`), and in a network whose joined nodes all do (`networks_hear`). Where the lines of a
+//! stretch are for some nodes alone, these alone speak on the air, and the host has to do with no others (`workers_hear`, `workers_alone_speak`): the rest
+//! may sleep. Then a series ends no attempt but as the wait of one runs out (`attempts_stay_first`); and each service of another node brings a node that
+//! has work nearer to its turn (`nodes_are_served_in_turn`). There is no code here.
 //! The definitions are in `specs/`: `Few` (for how long devices are at work, and how many frames are on the air, at each phase), `Listening`, `Heard` (what
 //! calls say), `Outward` (for which nodes frames are), `Workers` (which nodes lines, host and air have to do with), `FirstAttempts`, and `Turns`.
 #![tactic(auto)]

@@ -28,7 +28,7 @@ use proof_device::devices_stay_the_same;
 pub fn workers_hear()
     ensures walk { (these : List Bool) → length these ≡ 233 → WalkWhere (IsWorkFor these) AsksNothing (KnowWorkers these) }
     ensures lines { (these : List Bool) (m : Machine) (lines : List Spoken) → length these ≡ 233 → AreDone m lines → AreWhole m lines →
-        AllAlong (IsWorkFor these) m (events_of lines) → IsStretched (transcript_of m lines) → IsTied m → AreFew 0 3 m → AllListen these m →
+        AllAlong (IsWorkFor these) m (events_of lines) → IsStretched (transcript_of m lines) → IsTied these m → AreFew 0 3 m → AllListen these m →
         KnowsWorkers these m.host.state → KnowsWorkers these (after_all m lines).host.state × AllSayHeard (unheard (after_all m lines).outside.outer) }
 {
     attempts_have_what_they_give();
@@ -44,7 +44,7 @@ pub fn workers_alone_speak()
         KnowsWorkers these (first_host keys) × OnlySpeak these (first_machine keys records devices) }
     ensures walk { (these : List Bool) → length these ≡ 233 → Walk AsksNothing (KnowStaff these) }
     ensures lines { (these : List Bool) (m : Machine) (lines : List Spoken) → length these ≡ 233 → AreDone m lines → AreWhole m lines →
-        IsWorkedFor these (transcript_of m lines) → IsTied m → AreFew 0 3 m → AllListen these m → KnowsWorkers these m.host.state → OnlySpeak these m →
+        IsWorkedFor these (transcript_of m lines) → IsTied these m → AreFew 0 3 m → AllListen these m → KnowsWorkers these m.host.state → OnlySpeak these m →
         KnowsWorkers these (after_all m lines).host.state × OnlySpeak these (after_all m lines) × AllSayHeard (unheard (after_all m lines).outside.outer) }
 {
     devices_stay_the_same();

@@ -50,7 +50,7 @@ use Rattle.proof_attempts.specs.Since.{InTick, IsOfItem, Lasts, TicksAt, TicksLe
 use Rattle.proof_attempts.specs.Waking.{KnowsWork}
 use Rattle.proof_attempts.specs.Working.{IsWorked, WorksInOrder}
 use Rattle.proof_attempts.proofs.Counting.{each_starts}
-use Rattle.proof_attempts.proofs.Doings.{AllDo, Doing, EndsDo, did, does_at, end_all, failing_all, held_all, kept_by_all, node_after}
+use Rattle.proof_attempts.proofs.Doings.{AllDo, Doing, EndsDo, did, does_at, kept_by_all, node_after, OwnDo, did_all}
 use Rattle.proof_attempts.proofs.Lasting.{by_else, rest_of}
 use Rattle.proof_attempts.proofs.Payloads.{gets_neither, open_neither, sealed_other, sends_neither, starts_other}
 
@@ -225,26 +225,10 @@ one_text s event brings other = other
 text_ends : EndsDo BringsOther
 text_ends = record { answered = tt; attempt_over = λ moment. tt; let_sleep = tt; held = tt }
 
-did_other : (h : HostState) (event : HostEvent) → May h event → AllDo BringsOther (did h event)
-did_other h (Accepts order carriage) may = (tt, (tt, tt))
-did_other h (Cancels command) may = (tt, tt)
-did_other h (Joins n) may = (tt, tt)
-did_other h (Requests_do event moment) may = end_all BringsOther text_ends (end_at h.requests event) moment
-did_other h (Interviews n listens classes update) may = (tt, tt)
-did_other h (Works n id) may = (tt, tt)
-did_other h (Finishes n session id command status wake) may = (tt, held_all BringsOther text_ends n (is_held h n wake))
-did_other h (Takes_nonce n seen text) (nonce, own, count, seals, eight) = (sealed_other (node_of h n) h.keys own nonce text seals, tt)
-did_other h (Notifies n) may = (tt, tt)
-did_other h Line_ticks may = failing_all BringsOther text_ends (gives_up h.side.turn (tick_side h.side).turn) h
-did_other h (Node_ticks n) may = (tt, tt)
-did_other h (Queues_no_more n) may = (tt, tt)
-did_other h (Drops_no_more n) may = (tt, tt)
-did_other h (Starts n plan more payload) may = (tt, tt)
-did_other h (Gives_text n payload) may = (tt, tt)
-did_other h (Gives_segment n more payload) may = (tt, tt)
-did_other h (Begins n session command) may = (tt, tt)
-did_other h (Begin_unkept n) may = (tt, tt)
-did_other h event may = tt
+own_other : (h : HostState) (event : HostEvent) → May h event → OwnDo BringsOther h event
+own_other h (Accepts order carriage) may = (tt, tt)
+own_other h (Takes_nonce n seen text) (nonce, own, count, seals, eight) = sealed_other (node_of h n) h.keys own nonce text seals
+own_other h event may = tt
 
 -- a text of another kind leads to one of another kind
 abbrev KeepsOther : NodeState → NodeState → Type 0
@@ -257,7 +241,7 @@ others_after : (h : HostState) (event : HostEvent) → length h.nodes ≡ 233 �
 others_after h event places may adds has = record {
   asks = event_asks h event may adds has;
   texts = λ n from to.
-      subst (λ (s : NodeState). TextOther s.text) (sym (node_after h event n (omega (arith, places, to)))) (all_text n (node_of h n) (did h event) (did_other h event may) (has.texts n from to));
+      subst (λ (s : NodeState). TextOther s.text) (sym (node_after h event n (omega (arith, places, to)))) (all_text n (node_of h n) (did h event) (did_all BringsOther text_ends h event (own_other h event may)) (has.texts n from to));
 }
 
 -- ---- which events come

@@ -191,6 +191,26 @@ kept_by_all Keeps Of same on one n s (d ∷ more) all =
     first true = one s d.event all.0
     first false = same s
 
+-- that which an event of the host does at its own node
+abbrev pub OwnDo : (NodeEvent → Type 0) → HostState → HostEvent → Type 0
+OwnDo Of h (Accepts order carriage) = Of (Puts (length h.commands + 1)) × Of node_accepts
+OwnDo Of h (Cancels command) = Of (node_cancels command)
+OwnDo Of h (Joins n) = Of node_joins
+OwnDo Of h (Interviews n listens classes update) = Of (node_interviews listens classes)
+OwnDo Of h (Works n id) = Of (Reports id 1)
+OwnDo Of h (Finishes n session id command status wake_request) = Of (Reports id (status_byte status))
+OwnDo Of h (Takes_nonce n seen text) = Of (node_takes_nonce seen text)
+OwnDo Of h (Notifies n) = Of node_notifies
+OwnDo Of h (Node_ticks n) = Of Ticks
+OwnDo Of h (Queues_no_more n) = Of node_queues_no_more
+OwnDo Of h (Drops_no_more n) = Of node_drops_no_more
+OwnDo Of h (Starts n plan more payload) = Of (node_starts plan)
+OwnDo Of h (Gives_text n payload) = Of node_gives_text
+OwnDo Of h (Gives_segment n more payload) = Of node_gives_segment
+OwnDo Of h (Begins n session command) = Of node_begins
+OwnDo Of h (Begin_unkept n) = Of Blocks
+OwnDo Of h event = Unit {0}
+
 -- those of a request that ends, and of a node that is held
 pub record EndsDo (Of : NodeEvent → Type 0) : Type 0 where
   pub answered : Of Succeeds
@@ -213,17 +233,38 @@ module _ (Of : NodeEvent → Type 0) (these : EndsDo Of) where
   purpose_all (Housekeeping task) how moment = task_all task
   purpose_all Abort how moment = tt
 
-  pub end_all : (end : Option End) (moment : Moment) → AllDo Of (end_does end moment)
+  end_all : (end : Option End) (moment : Moment) → AllDo Of (end_does end moment)
   end_all None moment = tt
   end_all (Some end) moment = purpose_all end.purpose end.how moment
 
-  pub failing_all : (gives : Bool) (h : HostState) → AllDo Of (failing_does gives h)
+  failing_all : (gives : Bool) (h : HostState) → AllDo Of (failing_does gives h)
   failing_all true h = end_all (end_at h.requests request_fails) BeforeItsTick
   failing_all false h = tt
 
-  pub held_all : (n : ℕ) (held : Bool) → AllDo Of (held_does n held)
+  held_all : (n : ℕ) (held : Bool) → AllDo Of (held_does n held)
   held_all n true = (these.held, tt)
   held_all n false = tt
+
+  pub did_all : (h : HostState) (event : HostEvent) → OwnDo Of h event → AllDo Of (did h event)
+  did_all h (Accepts order carriage) own = (own.0, (own.1, tt))
+  did_all h (Cancels command) own = (own, tt)
+  did_all h (Joins n) own = (own, tt)
+  did_all h (Requests_do event moment) own = end_all (end_at h.requests event) moment
+  did_all h (Interviews n listens classes update) own = (own, tt)
+  did_all h (Works n id) own = (own, tt)
+  did_all h (Finishes n session id command status wake_request) own = (own, held_all n (is_held h n wake_request))
+  did_all h (Takes_nonce n seen text) own = (own, tt)
+  did_all h (Notifies n) own = (own, tt)
+  did_all h Line_ticks own = failing_all (gives_up h.side.turn (tick_side h.side).turn) h
+  did_all h (Node_ticks n) own = (own, tt)
+  did_all h (Queues_no_more n) own = (own, tt)
+  did_all h (Drops_no_more n) own = (own, tt)
+  did_all h (Starts n plan more payload) own = (own, tt)
+  did_all h (Gives_text n payload) own = (own, tt)
+  did_all h (Gives_segment n more payload) own = (own, tt)
+  did_all h (Begins n session command) own = (own, tt)
+  did_all h (Begin_unkept n) own = (own, tt)
+  did_all h event own = tt
 
 -- ---- waiting
 

@@ -1,23 +1,14 @@
 -- A session that ends behind a frame ends by a report of its node that the frame brings, in the clear or sealed.
 use Rattle.std.proofs.Common.{◌≡◌, ℕ, ◌&&◌, Bool, true, false, if◌then◌else◌, inl, inr, List, [], ◌∷◌, ◌++◌, refl, sym, ap, ap₂, ◌∙◌, subst}
-use Rattle.std.specs.Prelude.{Option, Some, None, Result, Ok, Err, nat_lt}
+use Rattle.std.specs.Prelude.{Option, Some, None, nat_lt}
 use Rattle.std.specs.List.{AllByRecursion, flat_map}
 use Rattle.std.proofs.lemmas.Bool.{cases_Bool, eq-eqb}
 use Rattle.zw_base.proofs.Each.{all-append, all-weaker}
 use Rattle.zw_base.specs.declared.property.Setting.{Setting}
-use Rattle.serial_frame.specs.Frame.{FrameParts, checksum, framed, kind_code}
+use Rattle.serial_frame.specs.Frame.{FrameParts, checksum, kind_code}
 use Rattle.serial_frame.specs.Items.{unit_text}
-use Rattle.serial_frame.specs.declared.frame.Kind.{Kind}
 use Rattle.serial_frame.specs.declared.frame.Kind.TheVariants as kind
 use Rattle.serial_frame.specs.declared.unit.Unit.TheVariants.{Framed}
-use Rattle.chip_functions.specs.declared.fault.BodyFault.{BodyFault}
-use Rattle.chip_functions.specs.declared.response.Response.{Response}
-use Rattle.chip_functions.specs.declared.notice.Notice.{Notice}
-use Rattle.chip_functions.specs.declared.notice.Notice.TheVariants.{ApplicationCommandHandler, SendData, ApplicationUpdate, AddNode}
-use Rattle.chip_functions.specs.declared.notice.Update.{Update}
-use Rattle.chip_functions.specs.declared.notice.Update.TheVariants.{Received, RequestFailed}
-use Rattle.chip_functions.specs.Response.{response_of}
-use Rattle.chip_functions.specs.Notice.{notice_of}
 use Rattle.class_info.specs.declared.report_status.ReportStatus.{ReportStatus}
 use Rattle.class_info.specs.declared.report_status.ReportStatus.TheVariants as status
 use Rattle.class_info.specs.Values.{status_byte}
@@ -35,16 +26,14 @@ use Rattle.host_heard.specs.declared.payload.Heard.{Heard}
 use Rattle.host_heard.specs.declared.payload.Heard.TheVariants.{Messages, Sealed, Unread}
 use Rattle.host_heard.specs.declared.told.Told.{Told}
 use Rattle.host_heard.specs.declared.told.Told.TheVariants.{Report, NonceGet, NonceReport, Notification, SegmentRequest, Values}
-use Rattle.host_requests.specs.Events.{interviewed_by}
 use Rattle.proof_requests.specs.host_model.State.{HostState, node_of}
 use Rattle.proof_requests.specs.host_model.After.{after}
 use Rattle.proof_requests.specs.host_model.Did.{after_all}
 use Rattle.host_node.specs.declared.attempt.Moment.TheVariants.{BetweenTicks}
-use Rattle.proof_requests.specs.host_model.Events.{HostEvent, Accepts, Queues, Requests_do, Line_ticks, Node_ticks, Begins, Interviews, Interview_unkept, Unreads, Is_unkept, Reports_old, Works, Finishes, Offers, Gives, Spends, Spends_unread, Takes_nonce, Notifies, Resends, Hears_value, Has_no_room}
-use Rattle.proof_requests.specs.host_model.May.{says_listens}
-use Rattle.proof_requests.specs.host_model.Taking.{AreTaken, FinalEvents, FrameEvents, InterviewEvents, IsOpened, IsTaken, NonceGetEvents, NonceReportEvents, NoticeEvents, PayloadEvents, ReportEvents, ResponseEvents, SealedEvents, is_secure, resent, value_event, value_events}
+use Rattle.proof_requests.specs.host_model.Events.{HostEvent, Accepts, Queues, Requests_do, Line_ticks, Node_ticks, Begins, Unreads, Is_unkept, Reports_old, Works, Finishes, Offers, Gives, Spends, Spends_unread, Takes_nonce, Notifies, Resends, Hears_value, Has_no_room}
+use Rattle.proof_requests.specs.host_model.Taking.{AreTaken, FinalEvents, FrameEvents, IsOpened, IsTaken, NonceGetEvents, NonceReportEvents, PayloadEvents, ReportEvents, SealedEvents, is_secure, resent, value_event, value_events}
 use Rattle.proof_requests.proofs.proof_waking_Always.{either, none, one}
-use Rattle.proof_requests.proofs.proof_waking_Followed.{brought_of, text_brings}
+use Rattle.proof_requests.proofs.proof_waking_Followed.{FramesAre, followers_all}
 
 -- ---- by which reports
 
@@ -197,29 +186,18 @@ own_brings unit source payload is (Queues task) ends = absurd ends
 own_brings unit source payload is (Begins m session command) ends = absurd ends
 own_brings unit source payload is event ends = tt
 
-response_all : (unit : List ℕ) (read : Result Response BodyFault) (events : List HostEvent) → ResponseEvents read events → AllByRecursion (Brings unit) events
-response_all unit (Ok response) events is = one (Brings unit) _ events refl is
-response_all unit (Err fault) events is = none (Brings unit) events is
-
-interview_all : (unit : List ℕ) (update : Update) (brought : Option ℕ) (events : List HostEvent) → InterviewEvents update brought events → AllByRecursion (Brings unit) events
-interview_all unit (Received n basic generic specific classes) (Some capability) events is =
-    either (Brings unit) (Interviews n (says_listens capability) classes (Received n basic generic specific classes)) (Interview_unkept n (Received n basic generic specific classes)) events tt tt is
-interview_all unit RequestFailed (Some capability) events is = none (Brings unit) events is
-interview_all unit (Received n basic generic specific classes) None events is = one (Brings unit) _ events refl is
-interview_all unit RequestFailed None events is = one (Brings unit) _ events refl is
-
-notice_all : (unit : List ℕ) (h : HostState) (read : Result Notice BodyFault) (events : List HostEvent) → bringing_in unit ≡ brought_of read → NoticeEvents h read events → AllByRecursion (Brings unit) events
-notice_all unit h (Ok (ApplicationCommandHandler rx_status source payload)) events brings is =
-    all-weaker (Ends source (Tells (heard_at payload))) (Brings unit) (own_brings unit source payload brings) events (payload_ends h source payload (heard_at payload) events is)
-notice_all unit h (Ok (SendData callback_id status)) events brings is = one (Brings unit) _ events refl is
-notice_all unit h (Ok (ApplicationUpdate update)) events brings is = interview_all unit update (interviewed_by h.requests update) events is
-notice_all unit h (Ok (AddNode callback_id status information)) events brings is = none (Brings unit) events is
-notice_all unit h (Err fault) events brings is = none (Brings unit) events is
-
-kind_all : (h : HostState) (k : Kind) (func : ℕ) (body : List ℕ) (sum : ℕ) (events : List HostEvent) → FrameEvents h k func body events
-    → AllByRecursion (Brings (framed (kind_code k ∷ func ∷ body) sum)) events
-kind_all h kind.Response func body sum events is = response_all (framed (1 ∷ func ∷ body) sum) (response_of func body) events is
-kind_all h kind.Request func body sum events is = notice_all (framed (0 ∷ func ∷ body) sum) h (notice_of func body) events (text_brings func body sum) is
+frames_bring : (unit : List ℕ) → FramesAre (Brings unit)
+frames_bring unit = record {
+  responds = λ response. refl;
+  calls = λ id status. refl;
+  updates = λ update. refl;
+  interviewed = λ n listens classes update. tt;
+  unkept = λ n update. tt;
+}
 
 pub frame_brings : (h : HostState) (f : FrameParts) (events : List HostEvent) → FrameEvents h f.kind f.func f.body events → AllByRecursion (Brings (unit_text (Framed f))) events
-frame_brings h f events is = kind_all h f.kind f.func f.body (checksum (kind_code f.kind ∷ f.func ∷ f.body)) events is
+frame_brings h f events is =
+    let unit : List ℕ = unit_text (Framed f) in
+    followers_all (Brings unit) (frames_bring unit) h f.kind f.func f.body (checksum (kind_code f.kind ∷ f.func ∷ f.body)) events
+    (λ rx_status source payload brings read of.
+    all-weaker (Ends source (Tells (heard_at payload))) (Brings unit) (own_brings unit source payload brings) events (payload_ends h source payload (heard_at payload) events of)) is

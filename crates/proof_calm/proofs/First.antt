@@ -6,6 +6,7 @@ use Rattle.std.specs.Prelude.{All, AllPairs, IsTrue, Option, slice_set}
 use Rattle.std.specs.List.{AllByRecursion}
 use Rattle.s0_crypto.specs.declared.key_pair.Keys.{Keys}
 use Rattle.route_table.specs.Network.{Network, linked, no_network, repeats}
+use Rattle.route_table.specs.Route.{via}
 use Rattle.route_table.specs.Walk.{Walk}
 use Rattle.route_table.proofs.Networks.{linked-insert}
 use Rattle.air_frames.specs.Frames.{no_frames}
@@ -22,10 +23,11 @@ use Rattle.outside_model.specs.State.{first_outer}
 use Rattle.world_model.specs.State.{first_machine}
 use Rattle.proof_serial.proofs.HostFits.{all-set, all_at}
 use Rattle.proof_serial.proofs.HostRuns.{first_fits}
+use Rattle.proof_waking.specs.proof_traffic.OnAir.{on_air}
 use Rattle.proof_calm.specs.Homeward.{SpeaksHome}
 use Rattle.proof_calm.specs.Known.{HasShortPlain, IsBlank, IsMember}
-use Rattle.proof_calm.specs.Live.{HasLive}
-use Rattle.proof_calm.specs.Routed.{Reaches}
+use Rattle.proof_calm.specs.Live.{HasLive, IsReached}
+use Rattle.proof_calm.proofs.Living.{live_way}
 use Rattle.proof_calm.specs.Tied.{IsPeopled}
 use Rattle.proof_calm.proofs.Knowing.{AreResting, set_blank}
 
@@ -96,15 +98,23 @@ direct net hears = record {
   hops = hears;
 }
 
-first_reaches : Reaches first_outer.chip.state.table two_joined
+first_reached : (n : ℕ) → is_marked two_joined n ≡ true → IsReached first_outer.chip.state.table first_outer.air.network n
 unfolding first_outer
-first_reaches n is =
+first_reached n is =
     let hears : linked first_outer.chip.state.table 1 2 ≡ true = linked-insert (with_repeater no_network 2 true) 1 2 1 2 in
-    subst (λ (k : ℕ). (k ≢ 1) × ((walk : List ℕ) × Walk first_outer.chip.state.table k walk)) (sym (only_two n is)) (λ same. absurd cc, ([], direct first_outer.chip.state.table hears))
+    subst (λ (k : ℕ). IsReached first_outer.chip.state.table first_outer.air.network k) (sym (only_two n is)) (record {
+      apart = λ same. absurd cc;
+      over = [];
+      walk = direct first_outer.chip.state.table hears;
+      live = λ route is. live_way first_outer.chip.state.table first_outer.air.network (λ a b is. is) 1 (via route) 2 is.walk.hops;
+      back = [];
+      way = direct first_outer.chip.state.table hears;
+    })
 
-first_live : HasLive first_outer
-unfolding first_outer two_joined none_marked no_frames
-first_live = record { fly = tt; known = λ a b is. is; reaches = first_reaches; hears = first_reaches; none_marked = refl }
+-- where these are that node, or none
+first_live : (these : List Bool) → ((n : ℕ) → is_marked these n ≡ true → is_marked two_joined n ≡ true) → HasLive these first_outer
+unfolding first_outer no_frames on_air
+first_live these few = record { fly = tt; sized = omega arith; reached = λ n marked. first_reached n (few n marked); none_marked = refl }
 
 plain_from : (number count : ℕ) → AllByRecursion HasShortPlain (unknown_from number count)
 plain_from number zero = tt
@@ -117,13 +127,14 @@ first_plains =
     let once : AllByRecursion HasShortPlain (nodes_after unknown_nodes 2 Joins) = all-set HasShortPlain unknown_nodes 2 joins (tt, plain_from 1 232) tt in
     all-set HasShortPlain (nodes_after unknown_nodes 2 Joins) 2 (after_node (node_among (nodes_after unknown_nodes 2 Joins) 2) (Interviews true first_classes)) once tt
 
-pub first_peopled : (facts : (keys : Keys) → HostFacts (first_host keys)) (keys : Keys) (records : Option (List (List ℕ))) (devices : List State) → IsPeopled (first_machine keys records devices)
+pub first_peopled : (facts : (keys : Keys) → HostFacts (first_host keys)) (these : List Bool) → ((n : ℕ) → is_marked these n ≡ true → is_marked first_outer.chip.state.joined n ≡ true) → (keys : Keys)
+    (records : Option (List (List ℕ))) (devices : List State) → IsPeopled these (first_machine keys records devices)
 unfolding first_outer two_joined
-first_peopled facts keys records devices = record {
+first_peopled facts these few keys records devices = record {
   facts = facts keys;
   fits = first_fits keys;
   knows = record { others = blank_nodes keys; tasks = tt; request = tt };
   speaks = first_speaks;
-  live = first_live;
+  live = first_live these few;
   plains = first_plains;
 }

@@ -30,6 +30,7 @@ pub mod Written
 pub mod Rested
 pub mod Knowing
 pub mod Homing
+pub mod Aloft
 pub mod Serving
 pub mod Plains
 pub mod Living

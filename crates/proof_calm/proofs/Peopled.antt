@@ -30,6 +30,7 @@ use Rattle.proof_serial.specs.Host.{AsksWell, FitsEvent}
 use Rattle.proof_serial.proofs.HostRuns.{FactsKept, OpenedFacts, event_writes}
 use Rattle.proof_calm.specs.Homeward.{SpeaksHome}
 use Rattle.proof_calm.specs.Known.{HasShortPlain, IsBlank, KnowsMembers, KnowsThese}
+use Rattle.proof_calm.specs.Live.{IsAskedAt}
 use Rattle.proof_calm.specs.Marks.{IsQuietEvent}
 use Rattle.proof_calm.specs.Networks.{Members, members}
 use Rattle.proof_calm.specs.Passes.{OnLine, frames_in, IsPlain}
@@ -222,7 +223,7 @@ takes_known payloads air b passes m rest items events may at tie knows plains = 
 
 -- ---- what it asks for next
 
-pub next_asked : (payloads : Payloads) (m : Machine) (event : HostEvent) → IsNext m.host.state event → May m (Host_does event) → m.host.state.requests.owes ≡ false → IsPeopled m
+pub next_asked : {these : List Bool} (payloads : Payloads) (m : Machine) (event : HostEvent) → IsNext m.host.state event → May m (Host_does event) → m.host.state.requests.owes ≡ false → IsPeopled these m
     → AsksAt m.outside.outer.chip.state.joined m.host.state event × IsNamed m.outside.outer.chip.state.joined event
 unfolding May
 next_asked payloads m event next may paid is = next_asks IsBlank blank_rests m.outside.outer.chip.state.joined m.host.state is.knows payloads is.facts is.fits event paid next may.0
@@ -236,7 +237,7 @@ module _ (payloads : Payloads) (air : Airs) (facts_kept : FactsKept) (opened : O
   may_be : (m : Machine) (event is : Event) → event ≡ is → May m event → May m is
   may_be m event is same may = subst (May m) same may
 
-  known_on : (here next : Phase) (m : Machine) (event : Event) → Goes here m event next → May m event → LineAt here m → TieAt here m → IsPeopled m → GoesOn m.outside.outer.chip.state.joined m event
+  known_on : {these : List Bool} (here next : Phase) (m : Machine) (event : Event) → Goes here m event next → May m event → LineAt here m → TieAt here m → IsPeopled these m → GoesOn m.outside.outer.chip.state.joined m event
   known_on (Said_line line) next m event (is, to) may line_at tie at = known_as _ m event _ is (outer_known payloads _ m _ at.knows at.plains)
   known_on (Doing line (first ∷ left)) next m event (is, to) may line_at tie at = known_as _ m event first is (effect_known payloads _ m first line_at.0.0 (may_be m event first is may) at.knows at.plains)
   known_on (To_tick (suc ticks)) next m event (is, to) may line_at tie at = known_as _ m event _ is (outer_known payloads _ m _ at.knows at.plains)
@@ -258,8 +259,9 @@ module _ (payloads : Payloads) (air : Airs) (facts_kept : FactsKept) (opened : O
       known_as _ m event _ is (takes_known payloads air b passes m rest items done (may_be m event _ is may) line_at tie at.knows at.plains)
   known_on here next m event goes may line_at tie at = absurd goes
 
-  pub peopled_on : (here next : Phase) (m : Machine) (event : Event) → Goes here m event next → May m event → LineAt here m → TieAt here m → IsPeopled m → IsPeopled (happens m event)
-  peopled_on here next m event goes may line_at tie at =
+  pub peopled_on : {these : List Bool} (here next : Phase) (m : Machine) (event : Event) → Goes here m event next → May m event → IsAskedAt these event → LineAt here m → TieAt here m → IsPeopled these m
+      → IsPeopled these (happens m event)
+  peopled_on {these} here next m event goes may only line_at tie at =
       let n : Machine = happens m event in
       let covers = covers_of here next m event goes line_at in
       let joined : n.outside.outer.chip.state.joined ≡ m.outside.outer.chip.state.joined = ap (λ (is : Members). is.of_chip) (event_members (members m.outside.outer) m event covers may refl) in
@@ -271,5 +273,5 @@ module _ (payloads : Payloads) (air : Airs) (facts_kept : FactsKept) (opened : O
         knows = subst (λ (l : List Bool). KnowsMembers l n.host.state) (sym joined) goes_on.0;
         plains = goes_on.2;
         speaks = subst (λ (l : List Bool). SpeaksHome l n.outside.outer) (sym joined) (event_speaks m.outside.outer.chip.state.joined m event covers may at.speaks);
-        live = event_lives m event covers may at.live;
+        live = event_lives these m event covers only may at.live;
       }

@@ -20,8 +20,7 @@ use Rattle.chip_functions.specs.declared.notice.TransmitStatus.{TransmitStatus}
 use Rattle.chip_functions.specs.declared.notice.TransmitStatus.TheVariants.{Fail}
 use Rattle.chip_functions.specs.declared.request.Request.{Request}
 use Rattle.chip_functions.specs.declared.request.Request.TheVariants.{GetInitData, GetCapabilities, SendData, GetVersion, SendDataAbort, MemoryGetId, GetNodeProtocolInfo, AddNode, RequestNodeInfo, IsFailedNode, GetRoutingInfo}
-use Rattle.chip_sim.specs.Answers.{is_idle, takes}
-use Rattle.chip_sim.specs.Nodes.{is_marked}
+use Rattle.chip_sim.specs.Answers.{takes}
 use Rattle.chip_sim.specs.Did.{MayAll as ChipMayAll, judged_all}
 use Rattle.chip_sim.specs.Requests.{HasWay, IsWay, IsWayIf, JudgedWay, answer_outs, asked, given, given_if, heard, judged_frame, judged_outs, passed, performed, reply_to, requested, sent, stopped}
 use Rattle.chip_sim.specs.Waiting.{PortState, next_at, queued_outs}
@@ -51,6 +50,7 @@ use Rattle.world_model.specs.Events.{May, Outside_does, happens}
 use Rattle.proof_waking.proofs.Calm.{Calm}
 use Rattle.proof_waking.proofs.ChipNotices.{AreSaid, IsSaid, Leaves, does_said, done_said, queued_said, said_both, ticked_said, written_said}
 use Rattle.proof_work.proofs.Times.{does_chip}
+use Rattle.proof_calm.specs.Live.{AreAskedFor, AsksFor, IsAskedFor}
 use Rattle.proof_calm.specs.Marks.{HasNoMarks, IsUnmarked}
 use Rattle.proof_calm.specs.Passes.{IsTakenBy, TakesEach, TakesOne, chip_taken}
 use Rattle.proof_calm.specs.Routed.{IsOfFrame, IsRouted, Reaches}
@@ -203,28 +203,21 @@ pub judged_of : (frame : Option FrameParts) (s : ChipState) → Of (judged_frame
 judged_of None s = refl
 judged_of (Some frame) s = requested_of (asked frame) s
 
-abbrev CanReach : Network × List Bool → Type 0
-CanReach of = Reaches of.0 of.1
-
-still_reaches : (s : ChipState) (item : Item) (way : Option Route) → Reaches s.table s.joined → Reaches (after s (Judged item way)).table (after s (Judged item way)).joined
-still_reaches s item way reaches = subst CanReach (sym (judged_of (passed (collides s) item) (heard s item))) reaches
-
-node_joined : (a b c : Bool) → (a && (b && c)) ≡ true → b ≡ true
-node_joined true true c all = refl
-node_joined true false c all = absurd cc
-node_joined false b c all = absurd cc
+still_reaches : (these : List Bool) (s : ChipState) (item : Item) (way : Option Route) → Reaches s.table these → Reaches (after s (Judged item way)).table these
+still_reaches these s item way reaches = subst (λ (of : Network × List Bool). Reaches of.0 these) (sym (judged_of (passed (collides s) item) (heard s item))) reaches
 
 way_there : (net : Network) (to : ℕ) (way : Option Route) → IsWay net to way → (to ≢ 1) × ((walk : List ℕ) × Walk net to walk) → is_some way ≡ true
 way_there net to (Some route) is there = refl
 way_there net to None is there = absurd (is there.0 there.1.0 there.1.1)
 
-pub frame_way : (s : ChipState) (f : FrameParts) (way : Option Route) → s.port.side.collisions ≡ 0 → IsTakenBy s f → Reaches s.table s.joined → ChipMay s (Judged (Good (Framed f)) way) → is_some way ≡ true
-frame_way s f way none taken reaches may =
+pub frame_way : (these : List Bool) (s : ChipState) (f : FrameParts) (way : Option Route) → s.port.side.collisions ≡ 0 → IsTakenBy s f → AsksFor these (asked f) → Reaches s.table these
+    → ChipMay s (Judged (Good (Framed f)) way) → is_some way ≡ true
+frame_way these s f way none taken only reaches may =
     let hs : ChipState = heard s (Good (Framed f)) in
     let passes : passed (collides s) (Good (Framed f)) ≡ Some f = ap (λ (count : ℕ). passed (nat_lt 0 count) (Good (Framed f))) none in
     let asks : HasWay (asked f) hs way = subst (λ (frame : Option FrameParts). JudgedWay frame hs way) passes may in
     let sends : IsWayIf (takes s taken.node taken.payload) s.table taken.node way = subst (λ (request : Option Request). HasWay request hs way) taken.is asks in
-    way_there s.table taken.node way (subst (λ (b : Bool). IsWayIf b s.table taken.node way) taken.taken sends) (reaches taken.node (node_joined (is_idle s.sending) (is_marked s.joined taken.node) _ taken.taken))
+    way_there s.table taken.node way (subst (λ (b : Bool). IsWayIf b s.table taken.node way) taken.taken sends) (reaches taken.node (subst (AsksFor these) taken.is only))
 
 request_routed : (o : OuterState) (f : FrameParts) (way : Option Route) → HasNoMarks o → IsTakenBy o.chip.state f → is_some way ≡ true → IsRouted o → IsRouted (chip_does o (Judged (Good (Framed f)) way)).outer
 request_routed o f way none taken some is =
@@ -271,22 +264,23 @@ item_routed o item way no_frame is =
 
 -- ---- all items
 
-way_routed : (o : OuterState) (item : Item) (way : Option Route) → HasNoMarks o → TakesOne o.chip.state item → Reaches o.chip.state.table o.chip.state.joined → ChipMay o.chip.state (Judged item way) → IsRouted o → IsRouted (chip_does o (Judged item way)).outer
-way_routed o (Good (Framed f)) way none takes_it reaches may is = request_routed o f way none takes_it (frame_way o.chip.state f way none.link takes_it reaches may) is
-way_routed o (Good Ack) way none takes_it reaches may is = item_routed o (Good Ack) way tt is
-way_routed o (Good Nak) way none takes_it reaches may is = item_routed o (Good Nak) way tt is
-way_routed o (Good Can) way none takes_it reaches may is = item_routed o (Good Can) way tt is
-way_routed o (Refused r) way none takes_it reaches may is = item_routed o (Refused r) way tt is
+way_routed : (these : List Bool) (o : OuterState) (item : Item) (way : Option Route) → HasNoMarks o → TakesOne o.chip.state item → IsAskedFor these item → Reaches o.chip.state.table these
+    → ChipMay o.chip.state (Judged item way) → IsRouted o → IsRouted (chip_does o (Judged item way)).outer
+way_routed these o (Good (Framed f)) way none takes_it only reaches may is = request_routed o f way none takes_it (frame_way these o.chip.state f way none.link takes_it only reaches may) is
+way_routed these o (Good Ack) way none takes_it only reaches may is = item_routed o (Good Ack) way tt is
+way_routed these o (Good Nak) way none takes_it only reaches may is = item_routed o (Good Nak) way tt is
+way_routed these o (Good Can) way none takes_it only reaches may is = item_routed o (Good Can) way tt is
+way_routed these o (Refused r) way none takes_it only reaches may is = item_routed o (Refused r) way tt is
 
-ways_routed : (o : OuterState) (ways : List (Item × Option Route)) → HasNoMarks o → TakesEach o.chip.state ways → Reaches o.chip.state.table o.chip.state.joined → ChipMayAll o.chip.state (judged_all ways) → IsRouted o
-    → IsRouted (each chip_does o (judged_all ways)).outer
-ways_routed o [] none takes_each reaches may is = is
-ways_routed o (way ∷ ways) none takes_each reaches may is =
+ways_routed : (these : List Bool) (o : OuterState) (ways : List (Item × Option Route)) → HasNoMarks o → TakesEach o.chip.state ways → AreAskedFor these ways → Reaches o.chip.state.table these
+    → ChipMayAll o.chip.state (judged_all ways) → IsRouted o → IsRouted (each chip_does o (judged_all ways)).outer
+ways_routed these o [] none takes_each only reaches may is = is
+ways_routed these o (way ∷ ways) none takes_each only reaches may is =
     let same = sym (does_chip o (Judged way.0 way.1)) in
-    ways_routed (chip_does o (Judged way.0 way.1)).outer ways (does_none o (Judged way.0 way.1) tt none)
-    (subst (λ (s : ChipState). TakesEach s ways) same takes_each.1) (subst (λ (s : ChipState). Reaches s.table s.joined) same (still_reaches o.chip.state way.0 way.1 reaches))
+    ways_routed these (chip_does o (Judged way.0 way.1)).outer ways (does_none o (Judged way.0 way.1) tt none)
+    (subst (λ (s : ChipState). TakesEach s ways) same takes_each.1) only.1 (subst (λ (s : ChipState). Reaches s.table these) same (still_reaches these o.chip.state way.0 way.1 reaches))
     (subst (λ (s : ChipState). ChipMayAll s (judged_all ways)) same may.1)
-    (way_routed o way.0 way.1 none takes_each.0 reaches may.0 is)
+    (way_routed these o way.0 way.1 none takes_each.0 only.0 reaches may.0 is)
 
 -- ---- events
 
@@ -344,9 +338,9 @@ counts_routed m is =
     let at : OuterState = record m.outside.outer { chip = record { decoder = after_tick m.outside.outer.chip.decoder; state = m.outside.outer.chip.state } } in
     outside_routed m Chip_ticks (leaves_routed at (chip_does at Ticked).outer (does_said at Ticked (ticked_said m.outside.outer.chip.state.port)) (record { none_due = is.none_due; of_frames = is.of_frames }))
 
-pub takes_routed : (m : Machine) (rest : Rest) (ways : List (Item × Option Route)) → IsUnmarked m → May m (Outside_does (Chip_takes (length m.outside.outer.to_chip.bytes) rest ways)) → TakesEach m.outside.outer.chip.state ways
-    → Reaches m.outside.outer.chip.state.table m.outside.outer.chip.state.joined → IsRouted m.outside.outer → IsRouted (chip_taken m rest ways).outside.outer
+pub takes_routed : (these : List Bool) (m : Machine) (rest : Rest) (ways : List (Item × Option Route)) → IsUnmarked m → May m (Outside_does (Chip_takes (length m.outside.outer.to_chip.bytes) rest ways))
+    → TakesEach m.outside.outer.chip.state ways → AreAskedFor these ways → Reaches m.outside.outer.chip.state.table these → IsRouted m.outside.outer → IsRouted (chip_taken m rest ways).outside.outer
 unfolding outcome May MayOutside
-takes_routed m rest ways none may takes_each reaches is =
+takes_routed these m rest ways none may takes_each only reaches is =
     outside_routed m (Chip_takes (length m.outside.outer.to_chip.bytes) rest ways)
-    (ways_routed (taken m.outside.outer rest) ways (marks_of m.outside.outer rest none) takes_each reaches may.1.judges (record { none_due = is.none_due; of_frames = is.of_frames }))
+    (ways_routed these (taken m.outside.outer rest) ways (marks_of m.outside.outer rest none) takes_each only reaches may.1.judges (record { none_due = is.none_due; of_frames = is.of_frames }))

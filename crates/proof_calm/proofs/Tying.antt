@@ -58,7 +58,7 @@ use Rattle.proof_calm.specs.Awaited.{AwaitsAt, AwaitsNone}
 use Rattle.proof_calm.specs.Passes.{OnLine, TakesEach, chip_taken, frames_in, IsPlain}
 use Rattle.proof_calm.specs.Resting.{CanMove, HasFor, IsEffect, IsGiven, KnowLine, LineAt, LineRests, Stands}
 use Rattle.proof_calm.specs.Settling.{Line as TheLine, Free, Asks, Heard, Heard_asks, Sent, Sent_asks, HasMoved, IsDone, IsServed}
-use Rattle.proof_calm.specs.Tied.{RequestRests, IsTied, RoomAt, ends_of, on_line, unheard, unheard_by, IsFresh, Ends, Tied, Nowhere, On_way, At_chip, Called, TieOf, IsNodeTick, TickLeft, All, Request, Nodes, TiedInTick, TieAt, KnowTied, IsOrderly}
+use Rattle.proof_calm.specs.Tied.{RequestRests, IsTied, RoomAt, ends_of, on_line, unheard, unheard_by, IsFresh, Ends, Tied, Nowhere, On_way, At_chip, Called, TieOf, IsNodeTick, TickLeft, All, Request, Nodes, TiedInTick, TieAt, KnowTied, IsOrderly, IsOrderlyFor}
 use Rattle.proof_calm.proofs.Awaiting.{Outsides, event_awaits, turn_awaits, sends_nothing}
 use Rattle.proof_calm.proofs.Begun.{Ids, next_tied}
 use Rattle.proof_calm.proofs.ChipPart.{entered_state}
@@ -93,7 +93,7 @@ use Rattle.proof_work.specs.Doing.{IsDone as IsDoneBy}
 use Rattle.proof_work.specs.Line.{HasOnLine, IsNoItem, IsOnLine}
 use Rattle.proof_waking.proofs.Calm.{enters_calm}
 use Rattle.proof_calm.specs.Marks.{IsUnmarked}
-use Rattle.proof_calm.specs.Routed.{IsOfFrame, IsRouted}
+use Rattle.proof_calm.specs.Routed.{IsOfFrame, IsRouted, Reaches}
 use Rattle.proof_calm.specs.Tied.{HasAnswer, HasRoom}
 use Rattle.proof_calm.proofs.Pending.{counted_few}
 use Rattle.proof_calm.proofs.Requested.{Judges}
@@ -101,7 +101,7 @@ use Rattle.proof_calm.proofs.Routed.{arrives_routed, calm_routed, counts_routed,
 use Rattle.host_model.specs.Pumping.{HasNothing, IsPumped}
 use Rattle.proof_serial.proofs.HostRuns.{FactsKept, OpenedFacts}
 use Rattle.proof_calm.specs.Tied.{AsksAt, IsPeopled, PumpedAt}
-use Rattle.proof_calm.specs.Live.{HasLive}
+use Rattle.proof_calm.specs.Live.{HasLive, IsAskedAt}
 use Rattle.proof_calm.proofs.Homing.{arrival_from}
 use Rattle.proof_calm.proofs.Peopled.{next_asked, peopled_on}
 use Rattle.proof_calm.proofs.Serving.{Payloads}
@@ -233,7 +233,7 @@ few_in : (m : Machine) (event : OuterEvent) → length (happens m (Outside_does 
 unfolding happens
 few_in m event few = subst (λ (s : ChipState). length s.port.waiting ≤ 31) (entered_state (outcome m.outside event).outer (outcome m.outside event).entries) few
 
-arrives_tied : (m : Machine) (drawn : List ℕ) (route : Option Route) → length (happens m (Outside_does (Arrives drawn route))).outside.outer.chip.state.port.waiting ≤ 31 → IsGiven 0 m → IsGiven 0 (happens m (Outside_does (Arrives drawn route))) → IsPeopled m → TieOf false m []
+arrives_tied : {these : List Bool} (m : Machine) (drawn : List ℕ) (route : Option Route) → length (happens m (Outside_does (Arrives drawn route))).outside.outer.chip.state.port.waiting ≤ 31 → IsGiven 0 m → IsGiven 0 (happens m (Outside_does (Arrives drawn route))) → IsPeopled these m → TieOf false m []
     → TieOf false (happens m (Outside_does (Arrives drawn route))) []
 unfolding outcome
 arrives_tied m drawn route few given later peopled tie =
@@ -655,30 +655,35 @@ module _ (air : Airs) where
   unfolding happens
   decoder_routed m routed = routed
 
+  -- the table of the chip has a walk to each of these
+  reaches_of : (these : List Bool) (m : Machine) → HasLive these m.outside.outer → Reaches m.outside.outer.chip.state.table these
+  reaches_of these m live n marked = let reached = live.reached n marked in (reached.apart, (reached.over, reached.walk))
+
   as_routed : (m : Machine) (event is : Event) → event ≡ is → IsRouted (happens m is).outside.outer → IsRouted (happens m event).outside.outer
   as_routed m event is same routed = subst (λ (e : Event). IsRouted (happens m e).outside.outer) (sym same) routed
 
-  routed_on : (here next : Phase) (m : Machine) (event : Event) → Goes here m event next → May m event → HasLive m.outside.outer → IsServed m event → LineAt here m → IsRouted m.outside.outer → IsRouted (happens m event).outside.outer
-  routed_on (Said_line line) next m event (is, to) may live served line_at routed = as_routed m event (Outside_does Begins_line) is (line_routed m routed)
-  routed_on (Doing line (first ∷ left)) next m event (is, to) may live served line_at routed = as_routed m event first is (effect_routed m first line_at.0.0 routed)
-  routed_on (To_tick (suc ticks)) next m event (is, to) may live served line_at routed = as_routed m event (Outside_does Begins_tick) is (tick_routed m routed)
-  routed_on (Arriving (suc frames) ticks) next m event (drawn, route, is, to) may live served line_at routed = as_routed m event (Outside_does (Arrives drawn route)) is (arrives_routed m drawn route routed)
-  routed_on (Giving (suc results) ticks) next m event (route, is, to) may live served line_at routed = as_routed m event (Outside_does (Gives route)) is (gives_routed m route routed)
-  routed_on (Ticking_devices place (suc count) ticks) next m event (drawn, route, is, to) may live served line_at routed =
+  routed_on : (these : List Bool) (here next : Phase) (m : Machine) (event : Event) → Goes here m event next → May m event → IsAskedAt these event → HasLive these m.outside.outer → IsServed m event → LineAt here m
+      → IsRouted m.outside.outer → IsRouted (happens m event).outside.outer
+  routed_on these (Said_line line) next m event (is, to) may only live served line_at routed = as_routed m event (Outside_does Begins_line) is (line_routed m routed)
+  routed_on these (Doing line (first ∷ left)) next m event (is, to) may only live served line_at routed = as_routed m event first is (effect_routed m first line_at.0.0 routed)
+  routed_on these (To_tick (suc ticks)) next m event (is, to) may only live served line_at routed = as_routed m event (Outside_does Begins_tick) is (tick_routed m routed)
+  routed_on these (Arriving (suc frames) ticks) next m event (drawn, route, is, to) may only live served line_at routed = as_routed m event (Outside_does (Arrives drawn route)) is (arrives_routed m drawn route routed)
+  routed_on these (Giving (suc results) ticks) next m event (route, is, to) may only live served line_at routed = as_routed m event (Outside_does (Gives route)) is (gives_routed m route routed)
+  routed_on these (Ticking_devices place (suc count) ticks) next m event (drawn, route, is, to) may only live served line_at routed =
       as_routed m event (Outside_does (Device_ticks place drawn route)) is (device_routed m place drawn route routed)
-  routed_on (Ticking_chip ticks) next m event (is, to) may live served line_at routed = as_routed m event (Outside_does Chip_ticks) is (counts_routed m routed)
-  routed_on (Ticking_decoder ticks) next m event (is, to) may live served line_at routed = as_routed m event Decoder_ticks is (decoder_routed m routed)
-  routed_on (Ticking_host (first ∷ events) ticks) next m event (is, to) may live served line_at routed = as_routed m event (Host_does first) is (does_routed m first routed)
-  routed_on (Sleeping passes ticks) next m event (node, wants, is, to) may live served line_at routed =
+  routed_on these (Ticking_chip ticks) next m event (is, to) may only live served line_at routed = as_routed m event (Outside_does Chip_ticks) is (counts_routed m routed)
+  routed_on these (Ticking_decoder ticks) next m event (is, to) may only live served line_at routed = as_routed m event Decoder_ticks is (decoder_routed m routed)
+  routed_on these (Ticking_host (first ∷ events) ticks) next m event (is, to) may only live served line_at routed = as_routed m event (Host_does first) is (does_routed m first routed)
+  routed_on these (Sleeping passes ticks) next m event (node, wants, is, to) may only live served line_at routed =
       as_routed m event (Host_does (no_more_event m.host.state node)) is (does_routed m (no_more_event m.host.state node) routed)
-  routed_on (Submitting passes ticks) next m event (asked, next_is, is, to) may live served line_at routed = as_routed m event (Host_does asked) is (does_routed m asked routed)
-  routed_on (Moving passes ticks) next m event (rest, ways, is, to) may live served line_at routed =
+  routed_on these (Submitting passes ticks) next m event (asked, next_is, is, to) may only live served line_at routed = as_routed m event (Host_does asked) is (does_routed m asked routed)
+  routed_on these (Moving passes ticks) next m event (rest, ways, is, to) may only live served line_at routed =
       as_routed m event (Outside_does (Chip_takes (length m.outside.outer.to_chip.bytes) rest ways)) is
-      (takes_routed m rest ways (part_unmarked passes m line_at) (subst (May m) is may) (subst (IsServed m) is served) live.reaches routed)
-  routed_on (Moved b passes ticks) next m event (rest, items, done, is, to) may live served line_at routed =
+      (takes_routed these m rest ways (part_unmarked passes m line_at) (subst (May m) is may) (subst (IsServed m) is served) (subst (IsAskedAt these) is only) (reaches_of these m live) routed)
+  routed_on these (Moved b passes ticks) next m event (rest, items, done, is, to) may only live served line_at routed =
       as_routed m event (Host_takes (length m.outside.outer.to_host.bytes) rest items done) is
       (calm_routed m.outside.outer (happens m (Host_takes (length m.outside.outer.to_host.bytes) rest items done)).outside.outer (takes_calm air m (length m.outside.outer.to_host.bytes) rest items done) routed)
-  routed_on here next m event goes may live served line_at routed = absurd goes
+  routed_on these here next m event goes may only live served line_at routed = absurd goes
 
 -- ---- the frame of the request is on the line until it is acknowledged
 
@@ -781,7 +786,7 @@ module _ (laws : Outsides) (ids : Ids) (payloads : Payloads) where
   served_as : (m : Machine) (event is : Event) → event ≡ is → IsServed m is → IsServed m event
   served_as m event is same served = subst (IsServed m) (sym same) served
 
-  event_served : (here next : Phase) (m : Machine) (event : Event) → Goes here m event next → May m event → IsOrderly m event → LineAt here m → RoomAt here m → TieAt here m → IsPeopled m → IsServed m event
+  event_served : {these : List Bool} (here next : Phase) (m : Machine) (event : Event) → Goes here m event next → May m event → IsOrderly m event → LineAt here m → RoomAt here m → TieAt here m → IsPeopled these m → IsServed m event
   event_served (Said_line line) next m event (is, to) may orderly line_at room tie at = served_as m event (Outside_does Begins_line) is tt
   event_served (Doing line (first ∷ left)) next m event (is, to) may orderly line_at room tie at = served_as m event first is (effect_served m first line_at.0.0 (orderly_is m event first is orderly))
   event_served (To_tick (suc ticks)) next m event (is, to) may orderly line_at room tie at = served_as m event (Outside_does Begins_tick) is tt
@@ -815,7 +820,7 @@ module _ (laws : Outsides) (ids : Ids) (payloads : Payloads) where
   few_given : (waits results : ℕ) → waits + results ≤ 31 → waits ≤ 31
   few_given waits results few = omega (arith, few)
 
-  event_ties : (here next : Phase) (m : Machine) (event : Event) → Goes here m event next → May m event → IsOrderly m event → LineAt here m → AwaitsAt here m → RoomAt here m → TieAt here m → IsPeopled m → Leads next m event
+  event_ties : {these : List Bool} (here next : Phase) (m : Machine) (event : Event) → Goes here m event next → May m event → IsOrderly m event → LineAt here m → AwaitsAt here m → RoomAt here m → TieAt here m → IsPeopled these m → Leads next m event
   event_ties (Said_line line) next m event (is, to) may orderly line_at awaits has tie at = as_is next (Begun line) m event (Outside_does Begins_line) is to (λ later room. line_tied m tie)
   event_ties (Doing line (first ∷ left)) next m event (is, to) may orderly line_at awaits has tie at = as_is next (Doing line left) m event first is to (λ later room. effect_tied laws.air m first line_at.0.0 tie)
   event_ties (To_tick (suc ticks)) next m event (is, to) may orderly line_at awaits has tie at = as_is next (Ticked ticks) m event (Outside_does Begins_tick) is to (λ later room. tick_tied m tie)
@@ -877,8 +882,8 @@ module _ (laws : Outsides) (ids : Ids) (payloads : Payloads) where
     lines : WalkWhere IsServed AsksNothing KnowLine
     lines = line_walk laws.air pumps
 
-    pub tied_walk : WalkWhere IsOrderly AsksNothing KnowTied
-    tied_walk = record {
+    pub tied_walk : (these : List Bool) → WalkWhere (IsOrderlyFor these) AsksNothing (KnowTied these)
+    tied_walk these = record {
       said = λ past m words line read known. (
         tt,
         λ quiet. let both = quiet_both past (entry.Said words ∷ []) quiet in let here = known both.0 in ((said_quiet words line read both.1, here.0), here.1, tt, here.3, here.4, here.5, here.6, here.7),
@@ -887,10 +892,10 @@ module _ (laws : Outsides) (ids : Ids) (payloads : Payloads) where
         nothing_asked past (entries m event),
         λ quiet.
             let at = known (quiet_both past (entries m event) quiet).0 in
-            let served : IsServed m event = event_served here next m event goes may orderly at.0 at.2 at.6 at.7 in
+            let served : IsServed m event = event_served here next m event goes may orderly.0 at.0 at.2 at.6 at.7 in
             let later : LineAt next (happens m event) = (lines.event here next past m event goes may served (λ said. at.0)).1 quiet in
-            let room : RoomAt next (happens m event) = event_room laws.air here next m event goes may orderly at.0 at.2 at.6 at.3 in
-            (later, event_awaits laws here next m event goes may at.0 at.1, room, routed_on laws.air here next m event goes may at.7.live served at.0 at.3, lines_on stays here next m event goes may at.0 at.6 at.4, pumped_on here next m event goes at.5, event_ties here next m event goes may orderly at.0 at.1 at.2 at.6 at.7 later room, peopled_on payloads laws.air facts_kept opened here next m event goes may at.0 at.6 at.7),
+            let room : RoomAt next (happens m event) = event_room laws.air here next m event goes may orderly.0 at.0 at.2 at.6 at.3 in
+            (later, event_awaits laws here next m event goes may at.0 at.1, room, routed_on laws.air these here next m event goes may orderly.1 at.7.live served at.0 at.3, lines_on stays here next m event goes may at.0 at.6 at.4, pumped_on here next m event goes at.5, event_ties here next m event goes may orderly.0 at.0 at.1 at.2 at.6 at.7 later room, peopled_on payloads laws.air facts_kept opened here next m event goes may orderly.1 at.0 at.6 at.7),
       );
       turn = λ here next past m turns known quiet.
           let at = known quiet in
@@ -907,7 +912,7 @@ fresh_answered (sent_for left) fresh answered sent = absurd cc
 fresh_answered (Answered true left) fresh answered sent = ap (λ (n : ℕ). Answered true n) fresh
 fresh_answered (Answered false left) fresh answered sent = absurd cc
 
-pub request_rests : (m : Machine) → IsTied m → RequestRests m
+pub request_rests : {these : List Bool} (m : Machine) → IsTied these m → RequestRests m
 request_rests m is = record { none_due = is.routed.none_due; paid = is.tie.paid; request = by is.tie.tied (awaits_few m is.awaits is.rests) }
   where
     h : HostState

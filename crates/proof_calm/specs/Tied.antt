@@ -39,7 +39,7 @@ use Rattle.proof_calm.specs.Awaited.{Awaits, AwaitsAt}
 use Rattle.proof_calm.specs.Calls.{answer_taken}
 use Rattle.proof_calm.specs.Homeward.{SpeaksHome}
 use Rattle.proof_calm.specs.Known.{AsksToSend, HasShortPlain, IsMember, KnowsMembers}
-use Rattle.proof_calm.specs.Live.{HasLive}
+use Rattle.proof_calm.specs.Live.{HasLive, IsAskedAt}
 use Rattle.proof_calm.specs.Quiet.{AreQuiet}
 use Rattle.proof_calm.specs.Resting.{LineAt, LineRests}
 use Rattle.proof_calm.specs.Routed.{IsRouted}
@@ -212,28 +212,28 @@ PumpedAt (Begun line) m = IsPumped m.host.state
 PumpedAt (To_tick ticks) m = IsPumped m.host.state
 PumpedAt here m = Unit {0}
 
--- the host has to do with joined nodes alone, these alone speak on the air, what the host gives is short, and no frame is lost
-pub record IsPeopled (m : Machine) : Type 0 where
+-- the host has to do with joined nodes alone, these alone speak on the air, what the host gives is short, and no frame of it, or of the device of some nodes, is lost
+pub record IsPeopled (these : List Bool) (m : Machine) : Type 0 where
   pub facts : HostFacts m.host.state
   pub fits : HostFits m.host.state
   pub knows : KnowsMembers m.outside.outer.chip.state.joined m.host.state
   pub speaks : SpeaksHome m.outside.outer.chip.state.joined m.outside.outer
-  pub live : HasLive m.outside.outer
+  pub live : HasLive these m.outside.outer
   pub plains : AllByRecursion HasShortPlain m.host.state.nodes
 
-abbrev pub KnowTied : Phase → List Entry → Machine → Type 0
-KnowTied here past m =
-    AreQuiet past → LineAt here m × AwaitsAt here m × RoomAt here m × IsRouted m.outside.outer × HasOnLine m.host.state × PumpedAt here m × TieAt here m × IsPeopled m
+abbrev pub KnowTied : List Bool → Phase → List Entry → Machine → Type 0
+KnowTied these here past m =
+    AreQuiet past → LineAt here m × AwaitsAt here m × RoomAt here m × IsRouted m.outside.outer × HasOnLine m.host.state × PumpedAt here m × TieAt here m × IsPeopled these m
 
 -- between lines
-pub record IsTied (m : Machine) : Type 0 where
+pub record IsTied (these : List Bool) (m : Machine) : Type 0 where
   pub rests : LineRests m
   pub awaits : Awaits m
   pub routed : IsRouted m.outside.outer
   pub on_line : HasOnLine m.host.state
   pub pumped : IsPumped m.host.state
   pub tie : TieOf false m []
-  pub peopled : IsPeopled m
+  pub peopled : IsPeopled these m
 
 -- no result is due and no abort owed; and no request is under way and there is nothing to submit, or one is under way that the chip took
 pub record RequestRests (m : Machine) : Type 0 where
@@ -259,3 +259,7 @@ IsOrderlyOutside m event = Unit {0}
 abbrev pub IsOrderly : Machine → Event → Type 0
 IsOrderly m (Outside_does event) = IsOrderlyOutside m event
 IsOrderly m event = Unit {0}
+
+-- and the chip is asked for these nodes alone
+abbrev pub IsOrderlyFor : List Bool → Machine → Event → Type 0
+IsOrderlyFor these m event = IsOrderly m event × IsAskedAt these event

@@ -4,7 +4,6 @@ use Rattle.std.specs.List.{AllByRecursion}
 use Rattle.std.proofs.lemmas.Bool.{both_ways, eqb-true, false_from_ne_true, or_left}
 use Rattle.zw_base.proofs.Each.{all-weaker}
 use Rattle.s0_crypto.specs.declared.key_pair.Keys.{Keys}
-use Rattle.serial_link.specs.State.{tick_side}
 use Rattle.supervision.specs.Host.{told_of}
 use Rattle.supervision.specs.declared.host_node.Told.{Told}
 use Rattle.supervision.specs.declared.host_node.Told.TheVariants.{Final, Working, Old}
@@ -13,7 +12,6 @@ use Rattle.zw_text.specs.declared.entry.Entry.TheVariants as entry
 use Rattle.law_transcript.specs.Restarts.{since_restart}
 use Rattle.law_time.specs.Judged.{is_following}
 use Rattle.law_time.specs.Moments.{clock}
-use Rattle.host_requests.specs.Events.{end_at}
 use Rattle.host_node.specs.declared.attempt.Moment.{Moment}
 use Rattle.host_node.specs.declared.attempt.Moment.TheVariants.{BetweenTicks}
 use Rattle.host_node.specs.declared.attempt.Plan.{Plan}
@@ -25,8 +23,8 @@ use Rattle.host_node.specs.Events.{NodeEvent, after as after_node}
 use Rattle.host_node.specs.Events.NodeEvent.{Accepts as node_accepts, Blocks, Starts as node_starts, Succeeds, Ends_attempt, Reports, Notifies as node_notifies, Sleeps, Ends_no_more, Ticks, Restarts as node_restarts}
 use Rattle.host_node.specs.TableState.{node_of as node_among, unknown_from, unknown_nodes}
 use Rattle.host_model.specs.State.{HostState, first_host, first_nodes, node_of}
-use Rattle.host_model.specs.After.{after, gives_up, is_held}
-use Rattle.host_model.specs.Events.{HostEvent, Accepts, Cancels, Joins, Requests_do, Interviews, Interview_unkept, Is_unkept, Works, Finishes, Takes_nonce, Notifies, Hears, Line_ticks, Node_ticks, Queues_no_more, Drops_no_more, Starts, Gives_text, Gives_segment, Begins, Begin_unkept}
+use Rattle.host_model.specs.After.{after}
+use Rattle.host_model.specs.Events.{HostEvent, Accepts, Cancels, Requests_do, Interview_unkept, Is_unkept, Hears, Line_ticks, Node_ticks, Begin_unkept}
 use Rattle.host_model.specs.Outs.{answers, outs}
 use Rattle.host_model.specs.Ticking.{ticking_nodes}
 use Rattle.host_model.specs.declared.out.HostOut.{HostOut}
@@ -43,7 +41,7 @@ use Rattle.proof_giving.specs.proof_queue.proof_attempts.Since.{InTick, IsLoose,
 use Rattle.proof_giving.proofs.proof_alone_Apart.{AreOfLine}
 use Rattle.proof_giving.proofs.proof_waking_Apart.{IsWordless, said_in_vain, said_on, wordless_more}
 use Rattle.proof_giving.proofs.Counting.{answers_wordless, each_starts, loose_wordless, told_wordless}
-use Rattle.proof_giving.proofs.Doings.{AllDo, Doing, EndsDo, did, does_at, end_all, failing_all, held_all, kept_by_all, node_after}
+use Rattle.proof_giving.proofs.Doings.{AllDo, Doing, EndsDo, did, does_at, kept_by_all, node_after, OwnDo, did_all}
 use Rattle.proof_giving.proofs.Holding.{clock_now}
 use Rattle.proof_giving.proofs.InOrder.{is_asked}
 use Rattle.proof_giving.proofs.Lasting.{by_else, rest_of}
@@ -132,29 +130,14 @@ BlocksNone event = Unit {0}
 leaving_ends : EndsDo Leaves
 leaving_ends = record { answered = tt; attempt_over = λ moment. tt; let_sleep = tt; held = tt }
 
-event_leaves : (h : HostState) (event : HostEvent) → BlocksNone event → AllDo Leaves (did h event)
-event_leaves h (Accepts order carriage) none = (tt, (tt, tt))
-event_leaves h (Requests_do event moment) none = end_all Leaves leaving_ends (end_at h.requests event) moment
-event_leaves h (Finishes n session id command status wake_request) none = (tt, held_all Leaves leaving_ends n (is_held h n wake_request))
-event_leaves h Line_ticks none = failing_all Leaves leaving_ends (gives_up h.side.turn (tick_side h.side).turn) h
-event_leaves h (Node_ticks n) none = absurd none
-event_leaves h (Begin_unkept n) none = absurd none
-event_leaves h (Cancels command) none = (tt, tt)
-event_leaves h (Joins n) none = (tt, tt)
-event_leaves h (Interviews n listens classes update) none = (tt, tt)
-event_leaves h (Works n id) none = (tt, tt)
-event_leaves h (Takes_nonce n seen text) none = (tt, tt)
-event_leaves h (Notifies n) none = (tt, tt)
-event_leaves h (Queues_no_more n) none = (tt, tt)
-event_leaves h (Drops_no_more n) none = (tt, tt)
-event_leaves h (Starts n plan more payload) none = (tt, tt)
-event_leaves h (Gives_text n payload) none = (tt, tt)
-event_leaves h (Gives_segment n more payload) none = (tt, tt)
-event_leaves h (Begins n session command) none = (tt, tt)
-event_leaves h event none = tt
+own_leaves : (h : HostState) (event : HostEvent) → BlocksNone event → OwnDo Leaves h event
+own_leaves h (Accepts order carriage) none = (tt, tt)
+own_leaves h (Node_ticks n) none = absurd none
+own_leaves h (Begin_unkept n) none = absurd none
+own_leaves h event none = tt
 
 blocked_same : (h : HostState) (event : HostEvent) (n : ℕ) → n < length h.nodes → BlocksNone event → (node_of (after h event) n).blocked ≡ (node_of h n).blocked
-blocked_same h event n within none = ap (λ (s : NodeState). s.blocked) (node_after h event n within) ∙ all_same n (node_of h n) (did h event) (event_leaves h event none)
+blocked_same h event n within none = ap (λ (s : NodeState). s.blocked) (node_after h event n within) ∙ all_same n (node_of h n) (did h event) (did_all Leaves leaving_ends h event (own_leaves h event none))
 
 -- ---- what is told
 

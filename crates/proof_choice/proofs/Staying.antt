@@ -1,10 +1,8 @@
 -- What an event makes of what a node has still to give: it runs only where it ran, with as many segments, and has no text that it had not.
 use Rattle.std.proofs.Common.{◌≡◌, ℕ, ◌+◌, ◌-◌, ◌==◌, ◌&&◌, nat_lt, Bool, true, false, if◌then◌else◌, Option, Some, None, List, refl, sym, ◌∙◌}
-use Rattle.serial_link.specs.State.{tick_side}
 use Rattle.supervision.specs.Host.{told_of}
 use Rattle.supervision.specs.declared.host_node.Told.{Told}
 use Rattle.supervision.specs.declared.host_node.Told.TheVariants.{Final, Working, Old}
-use Rattle.host_requests.specs.Events.{end_at}
 use Rattle.host_node.specs.declared.attempt.Moment.{Moment}
 use Rattle.host_node.specs.declared.attempt.Moment.TheVariants.{BetweenTicks}
 use Rattle.host_node.specs.declared.no_more.NoMore.TheVariants.{Unasked}
@@ -14,9 +12,8 @@ use Rattle.host_node.specs.Steps.{after_again, after_again_tick, after_attempt_e
 use Rattle.host_node.specs.Events.{NodeEvent, after as after_node}
 use Rattle.host_node.specs.Events.NodeEvent.{Accepts as node_accepts, Begins as node_begins, Starts as node_starts, Gives_text as node_gives_text, Succeeds, Takes_nonce as node_takes_nonce, Restores_seen, Ends_attempt, Reports, Notifies as node_notifies, Sleeps, Ends_no_more, Ticks, Restarts as node_restarts}
 use Rattle.host_model.specs.State.{HostState}
-use Rattle.host_model.specs.After.{gives_up, is_held}
-use Rattle.host_model.specs.Events.{HostEvent, Accepts, Cancels, Joins, Requests_do, Interviews, Works, Finishes, Takes_nonce, Notifies, Line_ticks, Node_ticks, Queues_no_more, Drops_no_more, Starts, Gives_text, Gives_segment, Begins, Begin_unkept}
-use Rattle.proof_giving.proofs.Doings.{AllDo, Doing, EndsDo, did, does_at, end_all, failing_all, held_all, kept_by_all}
+use Rattle.host_model.specs.Events.{HostEvent, Accepts, Takes_nonce, Starts, Gives_text}
+use Rattle.proof_giving.proofs.Doings.{AllDo, Doing, EndsDo, did, does_at, kept_by_all, OwnDo, did_all}
 
 -- ---- nodes
 
@@ -170,23 +167,12 @@ module _ (given : Bool) where
   going_ends : EndsDo GoesOn
   going_ends = record { answered = tt; attempt_over = λ moment. tt; let_sleep = tt; held = tt }
 
+  own_goes : (h : HostState) (event : HostEvent) → LeavesTexts event → OwnDo GoesOn h event
+  own_goes h (Accepts order carriage) none = (tt, tt)
+  own_goes h (Takes_nonce n seen text) none = absurd none
+  own_goes h (Starts n plan more payload) none = absurd none
+  own_goes h (Gives_text n payload) none = none
+  own_goes h event none = tt
+
   pub event_goes : (h : HostState) (event : HostEvent) → LeavesTexts event → AllDo GoesOn (did h event)
-  event_goes h (Accepts order carriage) none = (tt, (tt, tt))
-  event_goes h (Cancels command) none = (tt, tt)
-  event_goes h (Joins n) none = (tt, tt)
-  event_goes h (Requests_do event moment) none = end_all GoesOn going_ends (end_at h.requests event) moment
-  event_goes h (Interviews n listens classes update) none = (tt, tt)
-  event_goes h (Works n id) none = (tt, tt)
-  event_goes h (Finishes n session id command status wake_request) none = (tt, held_all GoesOn going_ends n (is_held h n wake_request))
-  event_goes h (Takes_nonce n seen text) none = absurd none
-  event_goes h (Notifies n) none = (tt, tt)
-  event_goes h Line_ticks none = failing_all GoesOn going_ends (gives_up h.side.turn (tick_side h.side).turn) h
-  event_goes h (Node_ticks n) none = (tt, tt)
-  event_goes h (Queues_no_more n) none = (tt, tt)
-  event_goes h (Drops_no_more n) none = (tt, tt)
-  event_goes h (Starts n plan more payload) none = absurd none
-  event_goes h (Gives_text n payload) none = (none, tt)
-  event_goes h (Gives_segment n more payload) none = (tt, tt)
-  event_goes h (Begins n session command) none = (tt, tt)
-  event_goes h (Begin_unkept n) none = (tt, tt)
-  event_goes h event none = tt
+  event_goes h event none = did_all GoesOn going_ends h event (own_goes h event none)

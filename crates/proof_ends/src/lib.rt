@@ -4,8 +4,8 @@
 //! lines, is read from its start as entries that stand beside, and as the notes of one end after another, which stand together and once, in the order errand,
 //! sleep, answer or interview, outcome; no request is asked before the last one is over, and none has ended with its notes to come where a line or a tick
 //! begins (`hosts_note_ends`, `lines_note_ends`). Whether an attempt was the third one is not said.
-//! The definitions are in `specs/Ends`, and in `specs/Ascending` which nodes are to tick. `proofs/Standing` has entries that stand beside, `Noting` what an end notes, `Walking` is the walk, and `Readings` says
-//! what a reading has where it is said last how a Set or Get ended.
+//! The definitions are in `specs/Ends`, and in `specs/Ascending` which nodes are to tick. `proofs/Standing` has entries that stand beside, `Noting` what an end
+//! notes, `Walking` is the walk, and `Readings` says what a reading has where it is said last how a Set or Get ended.
 #![tactic(auto)]
 
 mod ends;

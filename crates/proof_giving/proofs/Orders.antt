@@ -25,12 +25,12 @@ use Rattle.host_node.specs.Steps.{after_again, after_again_tick, after_attempt_e
 use Rattle.host_model.specs.State.{Command, HostState, command_at, node_of}
 use Rattle.host_model.specs.After.{after, failing_if, finishing, gives_up, giving, holding, is_held, line_ticked, offering, requests_do}
 use Rattle.host_model.specs.Ends.{PartEnd, Good, Passed_over, Bad, after_end_if, after_part, after_task, attempt_ended, part_end}
-use Rattle.host_model.specs.Events.{HostEvent, Accepts, Cancels, Joins, Requests_do, Interviews, Works, Finishes, Offers, Gives, Takes_nonce, Notifies, Resends, Line_ticks, Node_ticks, Queues_no_more, Drops_no_more, Starts, Gives_text, Gives_segment, Begins, Begin_unkept}
+use Rattle.host_model.specs.Events.{HostEvent, Accepts, Cancels, Requests_do, Finishes, Offers, Gives, Takes_nonce, Resends, Line_ticks, Node_ticks, Starts, Begins}
 use Rattle.s0_session.specs.Nonces.{live_of}
 use Rattle.serial_link.specs.State.{tick_side}
 use Rattle.proof_host.proofs.Commands.{taken_pushed, taken_set}
 use Rattle.proof_host.specs.Tables.{taken_at}
-use Rattle.proof_queue.proofs.Doings.{AllDo, Doing, EndsDo, did, does_at, end_all, failing_all, held_all, kept_by_all, node_after}
+use Rattle.proof_queue.proofs.Doings.{AllDo, Doing, EndsDo, did, does_at, kept_by_all, node_after, OwnDo, did_all}
 use Rattle.proof_giving.specs.Stays.{KeepsSessions, NoSession, NothingBegins}
 use Rattle.proof_queue.proofs.Kept.{BookKept, book_same, occasion_kept, room_keeps, sign_kept, told_kept}
 
@@ -114,26 +114,15 @@ IsSteady event = Unit {0}
 steady_ends : EndsDo IsSteady
 steady_ends = record { answered = tt; attempt_over = λ moment. tt; let_sleep = tt; held = tt }
 
+own_steady : (h : HostState) (event : HostEvent) → NothingBegins event → OwnDo IsSteady h event
+own_steady h (Accepts order carriage) none = (tt, tt)
+own_steady h (Takes_nonce n seen text) none = absurd none
+own_steady h (Starts n plan more payload) none = absurd none
+own_steady h (Begins n session command) none = absurd none
+own_steady h event none = tt
+
 pub did_steady : (h : HostState) (event : HostEvent) → NothingBegins event → AllDo IsSteady (did h event)
-did_steady h (Accepts order carriage) none = (tt, (tt, tt))
-did_steady h (Cancels command) none = (tt, tt)
-did_steady h (Joins n) none = (tt, tt)
-did_steady h (Requests_do event moment) none = end_all IsSteady steady_ends (end_at h.requests event) moment
-did_steady h (Interviews n listens classes update) none = (tt, tt)
-did_steady h (Works n id) none = (tt, tt)
-did_steady h (Finishes n session id command status wake_request) none = (tt, held_all IsSteady steady_ends n (is_held h n wake_request))
-did_steady h (Takes_nonce n seen text) none = absurd none
-did_steady h (Notifies n) none = (tt, tt)
-did_steady h Line_ticks none = failing_all IsSteady steady_ends (gives_up h.side.turn (tick_side h.side).turn) h
-did_steady h (Node_ticks n) none = (tt, tt)
-did_steady h (Queues_no_more n) none = (tt, tt)
-did_steady h (Drops_no_more n) none = (tt, tt)
-did_steady h (Starts n plan more payload) none = absurd none
-did_steady h (Gives_text n payload) none = (tt, tt)
-did_steady h (Gives_segment n more payload) none = (tt, tt)
-did_steady h (Begins n session command) none = absurd none
-did_steady h (Begin_unkept n) none = (tt, tt)
-did_steady h event none = tt
+did_steady h event none = did_all IsSteady steady_ends h event (own_steady h event none)
 
 steady_not_begun : (event : NodeEvent) → IsSteady event → NotBegun event
 steady_not_begun node_begins steady = absurd steady

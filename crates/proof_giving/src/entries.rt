@@ -41,8 +41,8 @@ pub fn attempts_stay_by_entries()
         is_restart (line_of (Said words)) ≡ false → ShowsSessions (heeds_alone taken) (past ++ Said words ∷ []) h n →
         AttemptsAs signs (heeds_alone taken) n (past ++ Said words ∷ []) h time now }
     ensures in_vain { (taken : List Entry → Carried → List Told) (n : ℕ) (signs : Bool) (past : List Entry) (h : HostState) (time now : ℕ) →
-        AttemptsAs signs (heeds_alone taken) n past h time now → HostFacts h → ShowsSessions (heeds_alone taken) past h n → (words : List ℕ) (refusal : Refusal) →
-        ShowsSessions (heeds_alone taken) (past ++ Said words ∷ (Refused refusal ∷ [])) h n →
+        AttemptsAs signs (heeds_alone taken) n past h time now → HostFacts h → ShowsSessions (heeds_alone taken) past h n →
+        (words : List ℕ) (refusal : Refusal) → ShowsSessions (heeds_alone taken) (past ++ Said words ∷ (Refused refusal ∷ [])) h n →
         AttemptsAs signs (heeds_alone taken) n (past ++ Said words ∷ (Refused refusal ∷ [])) h time now }
     ensures answered { (taken : List Entry → Carried → List Told) (n : ℕ) (signs : Bool) (past : List Entry) (h : HostState) (time now : ℕ) →
         AttemptsAs signs (heeds_alone taken) n past h time now → HostFacts h → ShowsSessions (heeds_alone taken) past h n →

@@ -39,11 +39,11 @@ use Rattle.proof_answered.proofs.proof_traffic_Parts.{Airs}
 use Rattle.proof_in_time.specs.Coming.{IsKeptFor}
 use Rattle.proof_in_time.specs.InStep.{IsPlainly}
 use Rattle.proof_in_time.specs.InHand.{MayServe, StandsAt, ticks_enough, ticks_of_all}
-use Rattle.proof_in_time.proofs.InHand.{Any, Due, Ends, HandAt, HasTurn, Idles, KeptLaws, Runs, any_kept, ends_kept, event_hand, hand_as}
+use Rattle.proof_in_time.proofs.InHand.{Any, Due, Ends, HandAt, HasTurn, Idles, KeptLaws, Runs, any_kept, ends_kept, event_hand, goes_on, hand_as}
 use Rattle.proof_in_time.proofs.InTurn.{ComesTo, In_turn}
 use Rattle.proof_in_time.proofs.Keeping.{kept_before, none_unkept, told_kept}
 use Rattle.proof_in_time.proofs.Lasting.{in_time, node_within}
-use Rattle.proof_in_time.proofs.Nearing.{KnowServed, RunsOn, Soon, idle_of}
+use Rattle.proof_in_time.proofs.Nearing.{IsOverSoon, KnowServed, RunsOn, Soon, idle_of}
 
 -- ---- a node that is given a command
 
@@ -200,7 +200,7 @@ module _ (airs : Airs) (these : List Bool) (many : length these ≡ 233) (none :
 
 -- ---- from then on its ticks are counted
 
-all_most : (these : List Bool) (a b : ℕ) → a ≤ b → ticks_of_all these a ≤ ticks_of_all these b
+pub all_most : (these : List Bool) (a b : ℕ) → a ≤ b → ticks_of_all these a ≤ ticks_of_all these b
 all_most these zero b less = omega arith
 all_most these (suc a) zero less = absurd (omega (arith, less))
 all_most these (suc a) (suc b) less = let more = all_most these a b (omega (arith, less)) in omega (arith, more)
@@ -208,8 +208,9 @@ all_most these (suc a) (suc b) less = let more = all_most these a b (omega (arit
 pub soon_of : (these : List Bool) (n command ticks : ℕ) (taken : Taken) (start : ℕ) (past : List Entry) (m : Machine) → is_marked these n ≡ true → IsNode n → KnowAccepted these start Between past m → taken_at m.host.state.commands command ≡ Some taken
     → taken.order.node ≡ n → start + 1 ≤ command → ticks_of_all these 18 ≤ ticks → IsKeptFor these past → Soon these n command ticks Between m
 soon_of these n command ticks taken start past m marked node known found for_node later enough kept =
-    hand_as command Few Few (λ (more : ℕ). ComesTo these n (ticks - ticks_of_all these more) Between m) (λ (more : ℕ). RunsOn n (ticks - ticks_of_all these more) Between m) (node_of m.host.state n) due runs
-    (record { listens = ((known.0.1 kept).serve.each n marked).listens; unblocked = ((known.0.1 kept).serve.each n marked).unblocked; ends = known.1 kept n marked command taken found for_node later })
+    goes_on command (λ (more : ℕ). ComesTo these n (ticks - ticks_of_all these more) Between m) (λ (more : ℕ). RunsOn n (ticks - ticks_of_all these more) Between m) (λ (more wait : ℕ). IsOverSoon these n ticks more wait Between) (node_of m.host.state n)
+    (hand_as command Few Few (λ (more : ℕ). ComesTo these n (ticks - ticks_of_all these more) Between m) (λ (more : ℕ). RunsOn n (ticks - ticks_of_all these more) Between m) (node_of m.host.state n) due runs
+    (record { listens = ((known.0.1 kept).serve.each n marked).listens; unblocked = ((known.0.1 kept).serve.each n marked).unblocked; ends = known.1 kept n marked command taken found for_node later }))
   where
     left : (more : ℕ) → Few more → ticks_enough these ≤ ticks - ticks_of_all these more
     left more few = let all = all_most these (suc more) 18 (omega (arith, few)) in omega (arith, all, enough)

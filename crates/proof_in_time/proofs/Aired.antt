@@ -42,7 +42,9 @@ use Rattle.proof_answered.specs.proof_calm.Known.{AsksToSend}
 use Rattle.proof_answered.specs.proof_calm.Marks.{HasNoMarks}
 use Rattle.proof_answered.specs.proof_calm.Passes.{ChipMayTake, IsTakenBy, TakesEach, chip_taken}
 use Rattle.proof_answered.specs.proof_calm.Resting.{CanMove}
+use Rattle.proof_answered.specs.proof_calm.Live.{AsksFor as AsksForThese}
 use Rattle.proof_answered.specs.proof_calm.Routed.{Reaches}
+use Rattle.chip_sim.specs.Nodes.{is_marked}
 use Rattle.proof_answered.specs.proof_calm.Settling.{Line, Free, Asks, Heard, Heard_asks, Sent, Sent_asks, IsDone, Moves}
 use Rattle.proof_answered.specs.proof_calm.Tied.{At_chip, Called, HasRoom, IsPeopled, Nowhere, On_way, Tied, TieOf, ends_of, on_line, unheard}
 use Rattle.proof_answered.proofs.ChipAsked.{by_turn, is_by_turn, response}
@@ -138,21 +140,25 @@ ack_said s way = by (collides s)
     by true = written_said (next_at (heard s (Good Ack)).port.side.turn (heard s (Good Ack)).port.waiting)
     by false = written_said (next_at (heard s (Good Ack)).port.side.turn (heard s (Good Ack)).port.waiting)
 
-still_reaches : (s : ChipState) (item : Item) (way : Option Route) → Reaches s.table s.joined → Reaches (after_chip s (Judged item way)).table (after_chip s (Judged item way)).joined
-still_reaches s item way reaches = subst (λ (of : Network × List Bool). Reaches of.0 of.1) (sym (judged_of (passed (collides s) item) (heard s item))) reaches
+still_reaches : (these : List Bool) (s : ChipState) (item : Item) (way : Option Route) → Reaches s.table these → Reaches (after_chip s (Judged item way)).table these
+still_reaches these s item way reaches = subst (λ (of : Network × List Bool). Reaches of.0 these) (sym (judged_of (passed (collides s) item) (heard s item))) reaches
 
-module _ (airs : Airs) (log : List Mark) (flights : List Flown) (n : ℕ) (payload : List ℕ) (within : n < 233) where
+module _ (airs : Airs) (log : List Mark) (flights : List Flown) (n : ℕ) (payload : List ℕ) (within : n < 233) (these : List Bool) (marked : is_marked these n ≡ true) where
+  -- it asks to send to one of these
+  asks_these : (s : ChipState) (f : FrameParts) (takes_it : IsTakenBy s f) → takes_it.node ≡ n → AsksForThese these (asked f)
+  asks_these s f takes_it node_is = subst (AsksForThese these) (sym takes_it.is) (subst (λ (k : ℕ). is_marked these k ≡ true) (sym node_is) marked)
+
   -- the frame alone
-  frame_stands : (o : OuterState) (f : FrameParts) (way : Option Route) → HasNoMarks o → (takes_it : IsTakenBy o.chip.state f) → Reaches o.chip.state.table o.chip.state.joined → ChipMay o.chip.state (Judged (Good (Framed f)) way)
+  frame_stands : (o : OuterState) (f : FrameParts) (way : Option Route) → HasNoMarks o → (takes_it : IsTakenBy o.chip.state f) → Reaches o.chip.state.table these → ChipMay o.chip.state (Judged (Good (Framed f)) way)
       → takes_it.node ≡ n → takes_it.payload ≡ payload → Fly log flights o.air.frames → Stands (IsOnAir n payload) (on_air (chip_does o (Judged (Good (Framed f)) way)).outer.air.frames)
   frame_stands o f way none takes_it reaches may node_is payload_is fly =
-      let route = some_route way (frame_way o.chip.state f way none.link takes_it reaches may) in
+      let route = some_route way (frame_way these o.chip.state f way none.link takes_it (asks_these o.chip.state f takes_it node_is) reaches may) in
       let air = frame_air o f way route.0 none takes_it route.1 in
       departed airs log flights o.air n payload route.0 (chip_does o (Judged (Good (Framed f)) way)).outer.air within fly
       (air ∙ (ap (λ (k : ℕ). departing o.air k Outward (Some route.0) takes_it.payload) node_is ∙ ap (λ (p : List ℕ). departing o.air n Outward (Some route.0) p) payload_is))
 
   -- an acknowledgement before it
-  ack_frame_stands : (o : OuterState) (f : FrameParts) (first way : Option Route) → HasNoMarks o → (takes_it : IsTakenBy (after_chip o.chip.state (Judged (Good Ack) first)) f) → Reaches o.chip.state.table o.chip.state.joined
+  ack_frame_stands : (o : OuterState) (f : FrameParts) (first way : Option Route) → HasNoMarks o → (takes_it : IsTakenBy (after_chip o.chip.state (Judged (Good Ack) first)) f) → Reaches o.chip.state.table these
       → ChipMay (after_chip o.chip.state (Judged (Good Ack) first)) (Judged (Good (Framed f)) way) → takes_it.node ≡ n → takes_it.payload ≡ payload → Fly log flights o.air.frames
       → Stands (IsOnAir n payload) (on_air (chip_does (chip_does o (Judged (Good Ack) first)).outer (Judged (Good (Framed f)) way)).outer.air.frames)
   ack_frame_stands o f first way none takes_it reaches may node_is payload_is fly = by (chip_does o (Judged (Good Ack) first)).outer (does_chip o (Judged (Good Ack) first)) (does_none o (Judged (Good Ack) first) tt none) (does_said o (Judged (Good Ack) first) (ack_said o.chip.state first)).air
@@ -165,7 +171,7 @@ module _ (airs : Airs) (log : List Mark) (flights : List Flown) (n : ℕ) (paylo
               let whole : q.chip.state ≡ after_chip o.chip.state (Judged (Good Ack) first) = same ∙ is in
               let there : IsTakenBy q.chip.state f =
               record { node = takes_it.node; payload = takes_it.payload; options = takes_it.options; id = takes_it.id; is = takes_it.is; taken = subst (λ (t : ChipState). takes t takes_it.node takes_it.payload ≡ true) (sym whole) takes_it.taken } in
-              frame_stands q f way quiet there (subst (λ (t : ChipState). Reaches t.table t.joined) (sym whole) (still_reaches o.chip.state (Good Ack) first reaches)) (subst (λ (t : ChipState). ChipMay t (Judged (Good (Framed f)) way)) (sym whole) may)
+              frame_stands q f way quiet there (subst (λ (t : ChipState). Reaches t.table these) (sym whole) (still_reaches these o.chip.state (Good Ack) first reaches)) (subst (λ (t : ChipState). ChipMay t (Judged (Good (Framed f)) way)) (sym whole) may)
               node_is payload_is (subst (λ (a : AirState). Fly log flights a.frames) (sym air) fly)
 
 -- ---- the machine
@@ -174,7 +180,7 @@ taken_air : (m : Machine) (rest : Rest) (ways : List (Item × Option Route)) →
 unfolding happens outcome
 taken_air m rest ways = (entered_leaves (outcome m.outside (Chip_takes (length m.outside.outer.to_chip.bytes) rest ways)).outer (outcome m.outside (Chip_takes (length m.outside.outer.to_chip.bytes) rest ways)).entries).air
 
-module _ (airs : Airs) (m : Machine) (awaits : Awaits m) (n session : ℕ) (within : n < 233) (asks : AsksFor n session m.host.state) where
+module _ (airs : Airs) (m : Machine) (awaits : Awaits m) (n session : ℕ) (within : n < 233) (asks : AsksFor n session m.host.state) (these : List Bool) (marked : is_marked these n ≡ true) where
   -- it is on its way
   frame_taken : (t : ChipState) (f : FrameParts) → m.host.state.side.turn ≡ Copied f 1 0 → TieOf true m (on_line m.host.state.side.turn) → (takes_it : IsTakenBy t f) → (takes_it.node ≡ n) × (takes_it.payload ≡ asks.payload)
   frame_taken t f turn tie takes_it = by (subst (λ (fs : List FrameParts). TieOf true m fs) asks.frame tie).tied
@@ -198,7 +204,7 @@ module _ (airs : Airs) (m : Machine) (awaits : Awaits m) (n session : ℕ) (with
   never_free : m.host.state.side.turn ≡ no_turn → ⊥
   never_free free = absurd (let wrong = sym (ap on_line free) ∙ asks.frame in cc)
 
-  pub request_airs : (passes : ℕ) (rest : Rest) (ways : List (Item × Option Route)) → ChipMayTake m rest ways → IsDone m ⊎ CanMove passes m → HasRoom m.outside.outer.chip.state → TieOf true m (on_line m.host.state.side.turn) → IsPeopled m
+  pub request_airs : (passes : ℕ) (rest : Rest) (ways : List (Item × Option Route)) → ChipMayTake m rest ways → IsDone m ⊎ CanMove passes m → HasRoom m.outside.outer.chip.state → TieOf true m (on_line m.host.state.side.turn) → IsPeopled these m
       → Stands (IsOnAir n asks.payload) (on_air (chip_taken m rest ways).outside.outer.air.frames)
   unfolding May MayOutside
   request_airs passes rest ways may (inl done) room tie peopled = absurd (never_free done.line.at_host.turn_is)
@@ -208,6 +214,9 @@ module _ (airs : Airs) (m : Machine) (awaits : Awaits m) (n session : ℕ) (with
       items : List Item
       items = map (λ (w : Item × Option Route). w.0) ways
 
+      reaches : Reaches m.outside.outer.chip.state.table these
+      reaches k of_these = let reached = peopled.live.reached k of_these in (reached.apart, (reached.over, reached.walk))
+
       alone : (f : FrameParts) → HasNoMarks m.outside.outer → m.host.state.side.turn ≡ Copied f 1 0 → items ≡ Good (Framed f) ∷ [] → TakesEach m.outside.outer.chip.state ways
           → Stands (IsOnAir n asks.payload) (on_air (each chip_does (taken m.outside.outer rest) (judged_all ways)).outer.air.frames)
       alone f quiet turn are takes_each =
@@ -215,7 +224,7 @@ module _ (airs : Airs) (m : Machine) (awaits : Awaits m) (n session : ℕ) (with
           let takes_it : IsTakenBy m.outside.outer.chip.state f = (subst (TakesEach m.outside.outer.chip.state) one.1 takes_each).0 in
           let same = frame_taken m.outside.outer.chip.state f turn tie takes_it in
           subst (λ (l : List (Item × Option Route)). Stands (IsOnAir n asks.payload) (on_air (each chip_does (taken m.outside.outer rest) (judged_all l)).outer.air.frames)) (sym one.1)
-          (frame_stands airs awaits.log (on_air m.outside.outer.air.frames) n asks.payload within (taken m.outside.outer rest) f one.0 (marks_of m.outside.outer rest quiet) takes_it peopled.live.reaches
+          (frame_stands airs awaits.log (on_air m.outside.outer.air.frames) n asks.payload within these marked (taken m.outside.outer rest) f one.0 (marks_of m.outside.outer rest quiet) takes_it reaches
           (subst (λ (l : List (Item × Option Route)). ChipMayAll m.outside.outer.chip.state (judged_all l)) one.1 may.1.judges).0 same.0 same.1 awaits.follows.fly)
 
       acked : (f : FrameParts) → HasNoMarks m.outside.outer → m.host.state.side.turn ≡ Copied f 1 0 → items ≡ Good Ack ∷ Good (Framed f) ∷ [] → TakesEach m.outside.outer.chip.state ways
@@ -225,7 +234,7 @@ module _ (airs : Airs) (m : Machine) (awaits : Awaits m) (n session : ℕ) (with
           let takes_it : IsTakenBy (after_chip m.outside.outer.chip.state (Judged (Good Ack) two.0)) f = (subst (TakesEach m.outside.outer.chip.state) two.2 takes_each).1.0 in
           let same = frame_taken (after_chip m.outside.outer.chip.state (Judged (Good Ack) two.0)) f turn tie takes_it in
           subst (λ (l : List (Item × Option Route)). Stands (IsOnAir n asks.payload) (on_air (each chip_does (taken m.outside.outer rest) (judged_all l)).outer.air.frames)) (sym two.2)
-          (ack_frame_stands airs awaits.log (on_air m.outside.outer.air.frames) n asks.payload within (taken m.outside.outer rest) f two.0 two.1 (marks_of m.outside.outer rest quiet) takes_it peopled.live.reaches
+          (ack_frame_stands airs awaits.log (on_air m.outside.outer.air.frames) n asks.payload within these marked (taken m.outside.outer rest) f two.0 two.1 (marks_of m.outside.outer rest quiet) takes_it reaches
           (subst (λ (l : List (Item × Option Route)). ChipMayAll m.outside.outer.chip.state (judged_all l)) two.2 may.1.judges).1.0 same.0 same.1 awaits.follows.fly)
 
       by : (at : Line m) → Moves at → TakesEach m.outside.outer.chip.state ways → Stands (IsOnAir n asks.payload) (on_air (each chip_does (taken m.outside.outer rest) (judged_all ways)).outer.air.frames)

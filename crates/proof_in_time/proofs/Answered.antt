@@ -255,8 +255,11 @@ end_told : (device : State) (work : IsAtWork device) → AreEnds (swapped work.p
 end_told device work ends one =
     Ends_work _ (ap (λ (answer : Option Plan). option_to_list (option_map (λ plan. worded (answer_plan plan) (final_report (aged device))) answer)) work.told)
     (own_heard (swapped work.plan.channel) work.plan.outer (aged device) (works_out (aged device)).device (record { updates = false; id = wire_id device.sessions.taken }) SUCCESS ends refl refl refl)
-    (record { over = λ e. let no : 255 ≡ 1 = e in absurd cc; no_work = refl })
+    short.0 short.1 (record { over = λ e. let no : 255 ≡ 1 = e in absurd cc; no_work = refl })
     one
+  where
+    short : IsShort (text_by (swapped work.plan.channel) work.plan.outer (status_report (aged device) (record { updates = false; id = wire_id device.sessions.taken }) SUCCESS))
+    short = text_short (swapped work.plan.channel) work.plan.outer (aged device) (record { updates = false; id = wire_id device.sessions.taken }) SUCCESS
 
 pub work_ticks_on : (device : State) (drawn : List ℕ) → CanBeAnswered device.work.answer → IsAtWork device → WorksOn device (device_after device (Ticks drawn)) (device_replies device (Ticks drawn))
 work_ticks_on device drawn can work = by (device.work_left == 1) refl

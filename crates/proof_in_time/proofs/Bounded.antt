@@ -101,7 +101,7 @@ open_by [] None attempts is = absurd (let no : false ≡ true = is in cc)
 open_by (command ∷ commands) None attempts is = refl
 open_by commands (Some status) attempts is = absurd (let no : false ≡ true = is in cc)
 
-some_by : (commands : List ℕ) (outcome : Option ℕ) (attempts : ℕ) → IsSome (open_session (record { commands = commands; outcome = outcome; attempts = attempts })) → 1 ≤ length commands
+pub some_by : (commands : List ℕ) (outcome : Option ℕ) (attempts : ℕ) → IsSome (open_session (record { commands = commands; outcome = outcome; attempts = attempts })) → 1 ≤ length commands
 some_by [] None attempts is = absurd (let no : false ≡ true = is in cc)
 some_by [] (Some status) attempts is = absurd (let no : false ≡ true = is in cc)
 some_by (command ∷ commands) outcome attempts is = omega arith
@@ -431,7 +431,7 @@ module _ (airs : Airs) (these : List Bool) (many : length these ≡ 233) (laws :
       (same_fits (Ticking_decoder ticks) (Ticking_host (tick_events m.host.state) ticks) (λ place. omega arith) (omega arith) (many_on_air m))) w
 
   pub arrives_wait : (frames ticks : ℕ) (m : Machine) (drawn : List ℕ) (route : Option Route) → May m (Outside_does (Arrives drawn route)) → HasInStep n m → is_joined m.outside.outer.air n ≡ true → NodeFacts (node_of m.host.state n) → Awaits m
-      → AllListen these m → HasLive m.outside.outer → IsGiven 0 m → IsGiven 0 (happens m (Outside_does (Arrives drawn route))) → length m.outside.outer.chip.state.port.waiting ≤ 31 → WaitsFor n most (Arriving (suc frames) ticks) m
+      → AllListen these m → HasLive these m.outside.outer → IsGiven 0 m → IsGiven 0 (happens m (Outside_does (Arrives drawn route))) → length m.outside.outer.chip.state.port.waiting ≤ 31 → WaitsFor n most (Arriving (suc frames) ticks) m
       → WaitsFor n most (Arriving frames ticks) (happens m (Outside_does (Arrives drawn route)))
   arrives_wait frames ticks m drawn route may step joined facts is listen live given later room w =
       running_waits n most (Arriving (suc frames) ticks) (Arriving frames ticks) (omega arith) m (Arrives drawn route) goes w
@@ -439,8 +439,8 @@ module _ (airs : Airs) (these : List Bool) (many : length these ≡ 233) (laws :
       at : Arrived airs m is drawn route
       at = arrives_there airs m is drawn route may
 
-      alive : IsLive m.outside.outer.air.network at.frame
-      alive = next_is_live m.outside.outer live at.frame at.next
+      alive : at.frame.node ≡ n → IsLive m.outside.outer.air.network at.frame
+      alive same = next_is_live these m.outside.outer live at.frame at.next (λ home. subst (λ (k : ℕ). is_marked these k ≡ true) (sym same) marked)
 
       -- the device of the node hears it, and answers
       answers : (node_of m.host.state n).series ≡ series.Running → IsRequest n (session_of n m) at.frame → Stands (IsReport n (session_of n m)) (on_air (happens m (Outside_does (Arrives drawn route))).outside.outer.air.frames)
@@ -450,7 +450,7 @@ module _ (airs : Airs) (these : List Bool) (many : length these ≡ 233) (laws :
           let first : place_of n m.outside.devices ≡ Some listener.place = subst (λ (k : ℕ). place_of k m.outside.devices ≡ Some listener.place) request.node listener.first in
           let place : step.place ≡ listener.place = one_place n m.outside.devices step.place listener.place step.first first in
           let device : step.device ≡ listener.device = one_stands m.outside.devices step.place listener.place step.device listener.device step.stands listener.stands place in
-          let fate = listener_hears m.outside.outer.air.network m.outside.devices at.frame listener request.out alive in
+          let fate = listener_hears m.outside.outer.air.network m.outside.devices at.frame listener request.out (alive request.node) in
           let in_step : HearsInStep session listener.device = subst (HearsInStep session) device (record { plain = step.plain; step = step.step (begun_where (node_of m.host.state n) facts run) }) in
           let answer = answer_ends laws session at.frame.payload drawn listener.device request.message listener.is_up.awake in_step in
           subst (λ (k : ℕ). Stands (IsReport k session) (on_air (happens m (Outside_does (Arrives drawn route))).outside.outer.air.frames)) request.node
@@ -458,7 +458,7 @@ module _ (airs : Airs) (these : List Bool) (many : length these ≡ 233) (laws :
           (subst (λ (k : ℕ). k < 233) (sym request.node) within) answer.1.0 answer.1.1)
 
       goes : (node_of m.host.state n).series ≡ series.Running → Goes_on n (Arriving (suc frames) ticks) m (Arriving frames ticks) (happens m (Outside_does (Arrives drawn route)))
-      goes run left comes = arrives_comes airs m is drawn route at given later room alive n (session_of n m) left frames ticks (answers run) comes
+      goes run left comes = arrives_comes airs m is drawn route at given later room n alive (session_of n m) left frames ticks (answers run) comes
 
   -- ---- in a line
 

@@ -103,7 +103,7 @@ at_most_one true = omega arith
 at_most_one false = omega arith
 
 module _ (airs : Airs) (m : Machine) (is : Awaits m) (drawn : List ℕ) (route : Option Route) (at : Arrived airs m is drawn route) (given : IsGiven 0 m) (later_given : IsGiven 0 (happens m (Outside_does (Arrives drawn route))))
-    (room : length m.outside.outer.chip.state.port.waiting ≤ 31) (live : IsLive m.outside.outer.air.network at.frame) (n session left frames ticks : ℕ) where
+    (room : length m.outside.outer.chip.state.port.waiting ≤ 31) (n : ℕ) (live : at.frame.node ≡ n → IsLive m.outside.outer.air.network at.frame) (session left frames ticks : ℕ) where
   abbrev then_there : Machine
   then_there = happens m (Outside_does (Arrives drawn route))
 
@@ -124,7 +124,7 @@ module _ (airs : Airs) (m : Machine) (is : Awaits m) (drawn : List ℕ) (route :
     flies : (place : ℕ) → unless_one (nat_lt place (suc frames)) ≤ left → IsReport n session at.frame ⊎ ((on : Stands (IsReport n session) at.rest) × (place ≡ suc (length on.before))) → Coming n session left (Arriving frames ticks) then_there
     flies place few (inl report) =
         Told at.frame.payload report.tells
-        (subst (λ (k : ℕ). Has (brings k at.frame.payload) (unheard then_there.outside.outer)) report.node (report_comes m drawn route at.frame at.next report.home live report.tells.some report.tells.few given later_given room)) (omega (arith, few))
+        (subst (λ (k : ℕ). Has (brings k at.frame.payload) (unheard then_there.outside.outer)) report.node (report_comes m drawn route at.frame at.next report.home (live report.node) report.tells.some report.tells.few given later_given room)) (omega (arith, few))
     flies place few (inr (on, same)) =
         let there = stands_on (IsReport n session) at.rest flights_then at.grows on in
         let as_far : unless_one (nat_lt (length on.before) frames) ≡ unless_one (nat_lt place (suc frames)) = sym (ap (λ (k : ℕ). unless_one (nat_lt k (suc frames))) same ∙ later_once (length on.before) frames) in

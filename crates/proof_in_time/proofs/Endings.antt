@@ -1,23 +1,30 @@
 -- What the entries of lines tell of commands: which were accepted, and that those whose sessions are past have final outcomes.
-use Rattle.std.proofs.Common.{◌≡◌, ◌≤◌, ◌<◌, ℕ, zero, suc, ◌+◌, ◌==◌, inl, inr, Bool, true, false, if◌then◌else◌, List, [], ◌∷◌, ◌++◌, length, length-append, append_assoc, append-nil, refl, sym, ap, ◌∙◌, subst, arith}
+use Rattle.std.proofs.Common.{◌≡◌, ◌≢◌, ◌≤◌, ◌<◌, ℕ, zero, suc, ◌+◌, ◌-◌, ◌==◌, ◌||◌, not, inl, inr, Bool, true, false, if◌then◌else◌, List, [], ◌∷◌, ◌++◌, length, length-append, append_assoc, append-nil, refl, sym, ap, ◌∙◌, subst, arith}
 use Rattle.std.proofs.lemmas.Bool.{eq-eqb, eqb-true}
 use Rattle.std.proofs.lemmas.List.Concat.{flat_map-append}
-use Rattle.std.specs.Prelude.{◌⊎◌, Option, Some, None, slice_get}
-use Rattle.std.specs.List.{AllByRecursion}
+use Rattle.std.proofs.lemmas.List.Elements.{filter_agree}
+use Rattle.std.specs.Option.{is_some}
+use Rattle.std.specs.Prelude.{◌⊎◌, Option, Some, None, drop, filter, slice_get}
+use Rattle.std.specs.List.{AllByRecursion, list_any}
 use Rattle.zw_base.proofs.Each.{all-get}
 use Rattle.zw_text.specs.declared.entry.Entry.{Entry}
 use Rattle.zw_text.specs.declared.entry.Entry.TheVariants.{Accepted, Said}
 use Rattle.zw_text.specs.declared.entry.Outcome.{Outcome}
-use Rattle.zw_text.specs.declared.entry.Outcome.TheVariants.{Success, Fail, NoSupport, Unanswered}
-use Rattle.zw_text.specs.Transcript.{accepted_number, accepted_numbers, outcome, shown}
+use Rattle.zw_text.specs.declared.entry.Outcome.TheVariants.{Waiting, Begun, Success, Fail, NoSupport, Unanswered}
+use Rattle.zw_text.specs.Transcript.{accepted, accepted_number, accepted_numbers, outcome, shown}
+use Rattle.law_transcript.specs.Commands.{is_waiting, numbers_of, waiting}
 use Rattle.law_transcript.specs.Lists.{EachAfter, Has, Rises}
 use Rattle.law_transcript.specs.Sessions.{IsFinal}
 use Rattle.law_transcript.specs.Stores.{node_at}
 use Rattle.law_transcript.proofs.Having.{has_either, has_left, has_right}
-use Rattle.law_time.specs.Sessions.{is_final}
+use Rattle.law_time.specs.Judged.{last_of}
+use Rattle.law_time.specs.Sessions.{is_final, is_open}
 use Rattle.law_time.specs.Stretches.{accepted_for}
-use Rattle.supervision.specs.Host.{begun_of, command_at as command_of_session, open_session}
+use Rattle.supervision.specs.Host.{HostBook, begun_of, command_at as command_of_session, open_session}
+use Rattle.host_node.specs.Facts.{NodeFacts, SeriesFacts}
 use Rattle.host_node.specs.State.{NodeState}
+use Rattle.host_node.specs.declared.series.Series.{Series}
+use Rattle.host_node.specs.declared.series.Series.TheVariants as series
 use Rattle.host_model.specs.Sessions.{command_by, open_command}
 use Rattle.host_model.specs.State.{Command, HostState, command_at, node_of}
 use Rattle.world_model.specs.Did.{MayAll, entries_all, happens_all}
@@ -26,13 +33,14 @@ use Rattle.world_model.specs.State.{Machine}
 use Rattle.world_lines.specs.Spoken.{Spoken, after, after_all, transcript_of}
 use Rattle.proof_host.specs.Entries.{IsAside}
 use Rattle.proof_host.specs.Facts.{AreInOrder, Facts}
-use Rattle.proof_host.specs.Laws.{MayStand, accepted_for as nodes_accepted}
+use Rattle.proof_host.specs.Laws.{IsUnderWay, MayStand, accepted_for as nodes_accepted, numbers_for}
 use Rattle.proof_host.specs.Tables.{nodes_by, outcome_in, recorded}
 use Rattle.proof_host.proofs.Lists.{rises-left}
 use Rattle.proof_host.proofs.Over.{each-right}
 use Rattle.proof_spoken.specs.Spoken.{AreSpoken}
 use Rattle.proof_spoken.specs.Restarts.{AllStartWell}
-use Rattle.proof_in_time.specs.InHand.{HasEnded, IsPast}
+use Rattle.proof_in_time.specs.InHand.{HasEnded, IsInHand, IsPast, RestsBefore, StandsAt, Unopened}
+use Rattle.proof_in_time.proofs.Bounded.{some_by}
 use Rattle.proof_in_time.proofs.InHand.{begun_is}
 
 -- ---- the facts of the host, over lines
@@ -173,3 +181,105 @@ ended_final n command past h facts ended =
     let final : IsFinal (outcome_in h.commands command) =
     begun_all (λ (number : ℕ). (open_command x ≡ Some number → ⊥) → IsFinal (outcome_in h.commands number)) x.book.commands ended.session command order.ended ended.was (not_open x ended.session command rise ended.was ended.past) in
     recorded_final (outcome command past) (subst IsFinal (sym (facts.entered command)) (final_recorded (outcome_in h.commands command) final))
+
+-- ---- a command that waits, where no session of its node is open, or the series of the one that is open is over
+
+-- the last of numbers
+last_at : (numbers : List ℕ) → 1 ≤ length numbers → (number : ℕ) × ((last_of numbers ≡ number ∷ []) × (command_of_session numbers (length numbers) ≡ Some number))
+last_at [] some = absurd (omega (arith, some))
+last_at (number ∷ []) some = (number, (refl, refl))
+last_at (first ∷ second ∷ numbers) some =
+    let rest = last_at (second ∷ numbers) (omega arith) in
+    let one : length (first ∷ second ∷ numbers) - 1 ≡ suc (length (second ∷ numbers) - 1) = omega arith in
+    (rest.0, (ap (λ (k : ℕ). drop k (first ∷ second ∷ numbers)) one ∙ rest.1.0, rest.1.1))
+
+begun_recorded : (o : Outcome) → IsUnderWay o → recorded o ≡ Begun
+begun_recorded Begun way = refl
+begun_recorded Unanswered way = refl
+begun_recorded o way = absurd way
+
+not_final : (o : Outcome) → recorded o ≡ Begun → is_final o ≡ false
+not_final Success is = absurd cc
+not_final Fail is = absurd cc
+not_final NoSupport is = absurd cc
+not_final o is = refl
+
+none_open : (n : ℕ) (past : List Entry) (h : HostState) → Facts past h → is_open n past ≡ false → open_session (node_of h n).book ≡ None
+none_open n past h facts closed = by (open_session (node_of h n).book) refl
+  where
+    by : (o : Option ℕ) → open_session (node_of h n).book ≡ o → open_session (node_of h n).book ≡ None
+    by None is = is
+    by (Some session) is =
+        let book : HostBook = (node_of h n).book in
+        let last = last_at book.commands (some_by book.commands book.outcome book.attempts (ap (λ (o : Option ℕ). is_some o) is)) in
+        let at : command_of_session book.commands session ≡ Some last.0 = subst (λ (k : ℕ). command_of_session book.commands k ≡ Some last.0) (begun_is book session is) last.1.1 in
+        let way = (facts.in_order n).under_way last.0 (ap (λ (o : Option ℕ). command_by (node_of h n) o) is ∙ at) in
+        let open_still : is_final (outcome last.0 past) ≡ false = not_final (outcome last.0 past) (facts.entered last.0 ∙ begun_recorded (outcome_in h.commands last.0) way) in
+        let yes : is_open n past ≡ true =
+        ap (λ (l : List ℕ). list_any (λ (c : ℕ). not (is_final (outcome c past))) (last_of l)) (facts.begun n) ∙ ap (λ (l : List ℕ). list_any (λ (c : ℕ). not (is_final (outcome c past))) l) last.1.0
+        ∙ ap (λ (b : Bool). not b || false) open_still in
+        absurd (let wrong : true ≡ false = sym yes ∙ closed in cc)
+
+stands_in : (numbers : List ℕ) (number : ℕ) → Has numbers number → (place : ℕ) × ((place + 1 ≤ length numbers) × StandsAt number place numbers)
+stands_in [] number has = absurd has
+stands_in (first ∷ numbers) number (inl same) = (0, (omega arith, record { before = []; behind = numbers; are = ap (λ (k : ℕ). k ∷ numbers) same; place_is = refl }))
+stands_in (first ∷ numbers) number (inr has) =
+    let rest = stands_in numbers number has in
+    let within = rest.1.0 in
+    let at = rest.1.1 in
+    (suc rest.0, (omega (arith, within), record { before = first ∷ at.before; behind = at.behind; are = ap (λ (l : List ℕ). first ∷ l) at.are; place_is = ap suc at.place_is }))
+
+waiting_recorded : (o : Outcome) → is_waiting (recorded o) ≡ is_waiting o
+waiting_recorded Waiting = refl
+waiting_recorded o = refl
+
+waiting_is : (n : ℕ) (past : List Entry) (h : HostState) → Facts past h → numbers_of (accepted n past) ≡ numbers_for n past → (node_of h n).waiting ≡ waiting n past
+waiting_is n past h facts numbers =
+    facts.waiting n ∙ filter_agree (λ (k : ℕ). is_waiting (outcome_in h.commands k)) (λ (k : ℕ). is_waiting (outcome k past))
+    (λ k. sym (waiting_recorded (outcome_in h.commands k)) ∙ ap is_waiting (sym (facts.entered k)) ∙ waiting_recorded (outcome k past)) (numbers_for n past)
+    ∙ ap (λ (l : List ℕ). filter (λ (k : ℕ). is_waiting (outcome k past)) l) (sym numbers)
+
+-- it stands behind 15 others at most
+record StandsSoon (n command : ℕ) (h : HostState) : Type 0 where
+  more : ℕ
+  few : more ≤ 15
+  stands : StandsAt command more (node_of h n).waiting
+
+stands_soon : (n command : ℕ) (past : List Entry) (h : HostState) → Facts past h → numbers_of (accepted n past) ≡ numbers_for n past → Has (waiting n past) command → StandsSoon n command h
+stands_soon n command past h facts numbers has =
+    let at = stands_in (node_of h n).waiting command (subst (λ (l : List ℕ). Has l command) (sym (waiting_is n past h facts numbers)) has) in
+    let within = at.1.0 in
+    let most = (facts.host.nodes.facts n).waiting in
+    record { more = at.0; few = omega (arith, within, most); stands = at.1.1 }
+
+-- so it is in hand
+pub record IsInHandSoon (n command : ℕ) (h : HostState) : Type 0 where
+  pub more : ℕ
+  pub few : more ≤ 15
+  pub hand : IsInHand command more (node_of h n)
+
+pub waiting_soon : (n command : ℕ) (past : List Entry) (h : HostState) → Facts past h → numbers_of (accepted n past) ≡ numbers_for n past → Has (waiting n past) command → is_open n past ≡ false → IsInHandSoon n command h
+waiting_soon n command past h facts numbers has closed = let at = stands_soon n command past h facts numbers has in record { more = at.more; few = at.few; hand = Unopened (none_open n past h facts closed) at.stands }
+
+-- or it comes after a session whose series is over, where its wait runs
+pub record RestsSoon (n command : ℕ) (h : HostState) : Type 0 where
+  pub more : ℕ
+  pub few : more ≤ 15
+  pub rests : RestsBefore command more (node_of h n)
+  pub wait : (node_of h n).again_wait ≤ 101
+
+rests_before : (x : NodeState) (command more : ℕ) → NodeFacts x → x.again_wait ≢ 0 → StandsAt command more x.waiting → RestsBefore command more x
+rests_before x command more facts runs stands = by (open_session x.book) x.series x.again_wait refl refl refl facts.series
+  where
+    by : (o : Option ℕ) (s : Series) (wait : ℕ) → open_session x.book ≡ o → x.series ≡ s → x.again_wait ≡ wait → SeriesFacts s x.book x.attempt_wait x.again_wait x.next_segment x.segments x.text x.pending → RestsBefore command more x
+    by o s zero opened is none so = absurd (runs none)
+    by (Some session) series.Idle (suc wait) opened is again so = record { session = session; opened = opened; idle = is; wait = wait; again = again; stands = stands }
+    by None series.Idle (suc wait) closed is again so = absurd (runs (so.0.closed closed).1)
+    by o series.Due (suc wait) opened is again so = absurd (runs so.1)
+    by o series.Running (suc wait) opened is again so = absurd (runs so.1)
+
+pub rests_soon : (n command : ℕ) (past : List Entry) (h : HostState) → Facts past h → numbers_of (accepted n past) ≡ numbers_for n past → Has (waiting n past) command → (node_of h n).again_wait ≢ 0 → RestsSoon n command h
+rests_soon n command past h facts numbers has runs =
+    let at = stands_soon n command past h facts numbers has in
+    let node = facts.host.nodes.facts n in
+    record { more = at.more; few = at.few; rests = rests_before (node_of h n) command at.more node runs at.stands; wait = node.again_wait }

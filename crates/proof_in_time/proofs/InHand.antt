@@ -1,6 +1,6 @@
 -- A command that waits or whose session is open is in hand until its session is over: at each event of the host at which no attempt ends without a report.
 use Rattle.std.proofs.Common.{◌≡◌, ◌≢◌, ◌≤◌, ◌<◌, ℕ, zero, suc, ◌+◌, ◌-◌, ◌==◌, ◌&&◌, ◌||◌, nat_lt, inl, inr, Bool, true, false, if◌then◌else◌, List, [], ◌∷◌, ◌++◌, length, length-append, append_assoc, refl, sym, ap, ◌∙◌, subst, arith}
-use Rattle.std.proofs.lemmas.Bool.{eq-eqb, eqb-true, lt-ltb}
+use Rattle.std.proofs.lemmas.Bool.{eq-eqb, eqb-true, lt-ltb, ne_eqb}
 use Rattle.std.proofs.lemmas.List.{get_or-set_other, get_or-set_same, length-set}
 use Rattle.std.specs.Option.{is_some}
 use Rattle.std.specs.Prelude.{Option, Some, None, is_none, drop, slice_get, slice_index}
@@ -50,15 +50,15 @@ some_wait : (before behind : List ℕ) (command : ℕ) → 0 < length (before ++
 some_wait [] behind command = omega arith
 some_wait (first ∷ before) behind command = omega arith
 
+waits_some : (x : NodeState) (command place : ℕ) → StandsAt command place x.waiting → has_waiting x ≡ true
+waits_some x command place at = ap (λ (ws : List ℕ). nat_lt 0 (length ws)) at.are ∙ lt-ltb 0 (length (at.before ++ command ∷ at.behind)) (some_wait at.before at.behind command)
+
 idle_works : (x : NodeState) (command place : ℕ) → x.listens ≡ true → x.blocked ≡ false → open_session x.book ≡ None → x.series ≡ series.Idle → StandsAt command place x.waiting → has_work x ≡ true
 idle_works x command place listens unblocked none idle at = by x.series idle
   where
-    waits : has_waiting x ≡ true
-    waits = ap (λ (ws : List ℕ). nat_lt 0 (length ws)) at.are ∙ lt-ltb 0 (length (at.before ++ command ∷ at.behind)) (some_wait at.before at.behind command)
-
     by : (s : Series) → s ≡ series.Idle → has_work (record x { series = s }) ≡ true
     by series.Idle is =
-        all_true (is_none (open_session x.book)) (has_waiting x) (is_up x) (is_false x.blocked) (ap (λ (o : Option ℕ). is_none o) none) waits (ap (λ (b : Bool). b || x.awake) listens)
+        all_true (is_none (open_session x.book)) (has_waiting x) (is_up x) (is_false x.blocked) (ap (λ (o : Option ℕ). is_none o) none) (waits_some x command place at) (ap (λ (b : Bool). b || x.awake) listens)
         (ap is_false unblocked)
     by series.Due is = absurd cc
     by series.Running is = absurd cc
@@ -80,6 +80,11 @@ pub data Ends (command : ℕ) (D R : ℕ → Type 0) (x : NodeState) : Type 0 wh
   Idles : (more : ℕ) → open_session x.book ≡ None → x.series ≡ series.Idle → StandsAt command more x.waiting → D more → Ends command D R x
   Due : (more session : ℕ) → open_session x.book ≡ Some session → x.series ≡ series.Due → ComesAfter more command session x → D more → Ends command D R x
   Runs : (more session : ℕ) → open_session x.book ≡ Some session → x.series ≡ series.Running → ComesAfter more command session x → R more → Ends command D R x
+
+-- so it is; or its session comes behind one that is open, whose series is over, with a wait until the next one
+pub data EndsLater (command : ℕ) (D R : ℕ → Type 0) (W : ℕ → ℕ → Type 0) (x : NodeState) : Type 0 where
+  Goes_on : Ends command D R x → EndsLater command D R W x
+  Rests : (more session wait : ℕ) → open_session x.book ≡ Some session → x.series ≡ series.Idle → x.again_wait ≡ suc wait → StandsAt command more x.waiting → W more wait → EndsLater command D R W x
 
 -- the host may serve the node, of which this is so besides
 pub record Hand (E : NodeState → Type 0) (x : NodeState) : Type 0 where
@@ -104,6 +109,17 @@ hand_as command D R D' R' x due runs h = record { listens = h.listens; unblocked
     by (Idles more none idle at d) = Idles more none idle at (due more (not_running x.series series.Idle idle idle_no, idle_works x command more h.listens h.unblocked none idle at) d)
     by (Due more session opened so at d) = Due more session opened so at (due more (not_running x.series series.Due so due_no, due_works x so) d)
     by (Runs more session opened so at r) = Runs more session opened so at (runs more so r)
+
+pub later_hand_as : (command : ℕ) (D R D' R' : ℕ → Type 0) (W W' : ℕ → ℕ → Type 0) (x : NodeState) → ((more : ℕ) → HasTurn x → D more → D' more) → ((more : ℕ) → x.series ≡ series.Running → R more → R' more)
+    → ((more wait : ℕ) → x.series ≡ series.Idle → x.again_wait ≡ suc wait → W more wait → W' more wait) → Hand (EndsLater command D R W) x → Hand (EndsLater command D' R' W') x
+later_hand_as command D R D' R' W W' x due runs rests h = record { listens = h.listens; unblocked = h.unblocked; ends = by h.ends }
+  where
+    by : EndsLater command D R W x → EndsLater command D' R' W' x
+    by (Goes_on e) = Goes_on (hand_as command D R D' R' x due runs (record { listens = h.listens; unblocked = h.unblocked; ends = e })).ends
+    by (Rests more session wait opened idle again at w) = Rests more session wait opened idle again at (rests more wait idle again w)
+
+pub goes_on : (command : ℕ) (D R : ℕ → Type 0) (W : ℕ → ℕ → Type 0) (x : NodeState) → Hand (Ends command D R) x → Hand (EndsLater command D R W) x
+goes_on command D R W x h = record { listens = h.listens; unblocked = h.unblocked; ends = Goes_on h.ends }
 
 -- the first two parts of a tick
 abbrev before_attempt : NodeState → NodeState
@@ -182,13 +198,14 @@ event_allowed h event lasts may = tt
 -- what is so of the sessions, the series and the commands that wait stays so
 pub record KeptLaws (E : NodeState → Type 0) : Type 0 where
   -- where these are as they were, but for commands that wait behind the others
-  pub as_was : (x y : NodeState) → y.book.commands ≡ x.book.commands → y.book.outcome ≡ x.book.outcome → y.series ≡ x.series
+  pub as_was : (x y : NodeState) → y.book.commands ≡ x.book.commands → y.book.outcome ≡ x.book.outcome → y.series ≡ x.series → y.again_wait ≡ x.again_wait
       → ((command place : ℕ) → StandsAt command place x.waiting → StandsAt command place y.waiting) → E x → E y
   -- and at the moments at which these change
   pub occasion : (x : NodeState) → E x → E (after_occasion x)
   pub ended : (x : NodeState) (status : ℕ) → E x → E (after_told x status (Final 0))
   pub begun : (x : NodeState) → open_session x.book ≡ None → E x → E (after_node x Begins)
   pub started : (x y : NodeState) → y.book ≡ x.book → y.waiting ≡ x.waiting → y.series ≡ series.Running → x.series ≡ series.Due → E x → E y
+  pub again : (x : NodeState) → x.listens ≡ true → E x → E (after_again_tick x)
 
 -- ---- a node, of which any such thing is so
 
@@ -196,18 +213,18 @@ module _ (E : NodeState → Type 0) (laws : KeptLaws E) where
   abbrev H : NodeState → Type 0
   H x = Hand E x
 
-  same : (x y : NodeState) → y.listens ≡ x.listens → (x.blocked ≡ false → y.blocked ≡ false) → y.book.commands ≡ x.book.commands → y.book.outcome ≡ x.book.outcome → y.series ≡ x.series → y.waiting ≡ x.waiting → H x → H y
-  same x y listens blocked commands outcome series_is waiting h = record {
+  same : (x y : NodeState) → y.listens ≡ x.listens → (x.blocked ≡ false → y.blocked ≡ false) → y.book.commands ≡ x.book.commands → y.book.outcome ≡ x.book.outcome → y.series ≡ x.series → y.again_wait ≡ x.again_wait → y.waiting ≡ x.waiting → H x → H y
+  same x y listens blocked commands outcome series_is again_is waiting h = record {
     listens = listens ∙ h.listens;
     unblocked = blocked h.unblocked;
-    ends = laws.as_was x y commands outcome series_is (λ command place at. subst (StandsAt command place) (sym waiting) at) h.ends;
+    ends = laws.as_was x y commands outcome series_is again_is (λ command place at. subst (StandsAt command place) (sym waiting) at) h.ends;
   }
 
   put : (x : NodeState) (other : ℕ) → H x → H (after_node x (Puts other))
   put x other h = record {
     listens = h.listens;
     unblocked = h.unblocked;
-    ends = laws.as_was x (after_node x (Puts other)) refl refl refl
+    ends = laws.as_was x (after_node x (Puts other)) refl refl refl refl
         (λ command place at.
         record {
           before = at.before;
@@ -237,10 +254,10 @@ module _ (E : NodeState → Type 0) (laws : KeptLaws E) where
   }
 
   sign : (x : NodeState) → H x → H (after_sign x)
-  sign x h = either (is_running x.series) (with_wait x wait_ticks) x (same x (with_wait x wait_ticks) refl (λ b. b) refl refl refl refl h) h
+  sign x h = either (is_running x.series) (with_wait x wait_ticks) x (same x (with_wait x wait_ticks) refl (λ b. b) refl refl refl refl refl h) h
 
   sleep : (x : NodeState) → H x → H (after_sleep x)
-  sleep x h = either x.listens x (asleep x) h (same x (asleep x) refl (λ b. b) refl refl refl refl h)
+  sleep x h = either x.listens x (asleep x) h (same x (asleep x) refl (λ b. b) refl refl refl refl refl h)
 
   told : (x : NodeState) (status : ℕ) (t : Told) → H x → H (after_told x status t)
   told x status (Final number) h = record { listens = h.listens; unblocked = h.unblocked; ends = laws.ended x status h.ends }
@@ -251,23 +268,33 @@ module _ (E : NodeState → Type 0) (laws : KeptLaws E) where
   running x y listens blocked book waiting runs due h = record { listens = listens ∙ h.listens; unblocked = blocked ∙ h.unblocked; ends = laws.started x y book waiting runs due h.ends }
 
   again : (x : NodeState) → H x → H (after_again_tick x)
-  again x h =
-      either (x.again_wait == 1) (after_again (with_again x 0)) (with_again x (x.again_wait - 1))
-      (either (has_waiting (with_again x 0)) (after_occasion (with_again x 0)) (with_again x 0) (occasion (with_again x 0) (same x (with_again x 0) refl (λ b. b) refl refl refl refl h))
-      (same x (with_again x 0) refl (λ b. b) refl refl refl refl h)) (same x (with_again x (x.again_wait - 1)) refl (λ b. b) refl refl refl refl h)
+  again x h = record { listens = listens; unblocked = unblocked; ends = laws.again x h.listens h.ends }
+    where
+      x0 : NodeState
+      x0 = with_again x 0
+
+      listens : (after_again_tick x).listens ≡ true
+      listens =
+          chosen_true (x.again_wait == 1) (after_again x0) (with_again x (x.again_wait - 1))
+          (chosen_true (has_waiting x0) (after_occasion x0) x0 (chosen_true (is_open x0 && is_up x0 && is_idle x0.series) (new_series x0) x0 h.listens h.listens) h.listens) h.listens
+
+      unblocked : (after_again_tick x).blocked ≡ false
+      unblocked =
+          chosen_false (x.again_wait == 1) (after_again x0) (with_again x (x.again_wait - 1))
+          (chosen_false (has_waiting x0) (after_occasion x0) x0 (chosen_false (is_open x0 && is_up x0 && is_idle x0.series) (new_series x0) x0 h.unblocked h.unblocked) h.unblocked) h.unblocked
 
   ticked : (x : NodeState) → x.attempt_wait ≢ 1 → H x → H (after_node x Ticks)
   ticked x lasts h = by ((before_attempt x).attempt_wait == 1) refl
     where
       there : H (before_attempt x)
-      there = again (after_hold_tick x) (same x (after_hold_tick x) refl (λ b. refl) refl refl refl refl h)
+      there = again (after_hold_tick x) (same x (after_hold_tick x) refl (λ b. refl) refl refl refl refl refl h)
 
       by : (b : Bool) → ((before_attempt x).attempt_wait == 1) ≡ b → H (if b then after_attempt_end (before_attempt x) BetweenTicks else with_wait (before_attempt x) ((before_attempt x).attempt_wait - 1))
       by true is = absurd (lasts (sym (again_tick_wait (after_hold_tick x)) ∙ eqb-true (before_attempt x).attempt_wait 1 is))
-      by false is = same (before_attempt x) (with_wait (before_attempt x) ((before_attempt x).attempt_wait - 1)) refl (λ b. b) refl refl refl refl there
+      by false is = same (before_attempt x) (with_wait (before_attempt x) ((before_attempt x).attempt_wait - 1)) refl (λ b. b) refl refl refl refl refl there
 
   node_hand : (k : ℕ) (x : NodeState) (event : NodeEvent) → Allowed k x event → H x → H (after_node x event)
-  node_hand k x Joins allowed h = same x (after_node x Joins) refl (λ b. b) refl refl refl refl h
+  node_hand k x Joins allowed h = same x (after_node x Joins) refl (λ b. b) refl refl refl refl refl h
   node_hand k x (Interviews listens classes) allowed h = absurd allowed
   node_hand k x (Puts other) allowed h = put x other h
   node_hand k x Takes_back allowed h = absurd allowed
@@ -278,19 +305,19 @@ module _ (E : NodeState → Type 0) (laws : KeptLaws E) where
   node_hand k x (Starts Whole) allowed h = running x (after_node x (Starts Whole)) refl refl refl refl refl allowed h
   node_hand k x (Starts (Segments count)) allowed h = running x (after_node x (Starts (Segments count))) refl refl refl refl refl allowed h
   node_hand k x (Starts (Sealed plain)) allowed h = running x (after_node x (Starts (Sealed plain))) refl refl refl refl refl allowed h
-  node_hand k x Gives_segment allowed h = same x (after_node x Gives_segment) refl (λ b. b) refl refl refl refl h
-  node_hand k x Gives_text allowed h = same x (after_node x Gives_text) refl (λ b. b) refl refl refl refl h
+  node_hand k x Gives_segment allowed h = same x (after_node x Gives_segment) refl (λ b. b) refl refl refl refl refl h
+  node_hand k x Gives_text allowed h = same x (after_node x Gives_text) refl (λ b. b) refl refl refl refl refl h
   node_hand k x Succeeds allowed h = sign x h
-  node_hand k x (Takes_nonce seen text) allowed h = same x (after_node x (Takes_nonce seen text)) refl (λ b. b) refl refl refl refl h
-  node_hand k x (Restores_seen seen) allowed h = same x (after_node x (Restores_seen seen)) refl (λ b. b) refl refl refl refl h
+  node_hand k x (Takes_nonce seen text) allowed h = same x (after_node x (Takes_nonce seen text)) refl (λ b. b) refl refl refl refl refl h
+  node_hand k x (Restores_seen seen) allowed h = same x (after_node x (Restores_seen seen)) refl (λ b. b) refl refl refl refl refl h
   node_hand k x (Ends_attempt moment) allowed h = absurd allowed
   node_hand k x (Reports id status) allowed h = told x status (told_of x.book id status) h
-  node_hand k x Holds allowed h = same x (after_node x Holds) refl (λ b. b) refl refl refl refl h
-  node_hand k x Notifies allowed h = occasion (record x { awake = true; no_more = tried_again x.no_more }) (same x (record x { awake = true; no_more = tried_again x.no_more }) refl (λ b. b) refl refl refl refl h)
+  node_hand k x Holds allowed h = same x (after_node x Holds) refl (λ b. b) refl refl refl refl refl h
+  node_hand k x Notifies allowed h = occasion (record x { awake = true; no_more = tried_again x.no_more }) (same x (record x { awake = true; no_more = tried_again x.no_more }) refl (λ b. b) refl refl refl refl refl h)
   node_hand k x Sleeps allowed h = sleep x h
-  node_hand k x Queues_no_more allowed h = same x (after_node x Queues_no_more) refl (λ b. b) refl refl refl refl h
-  node_hand k x Drops_no_more allowed h = same x (after_node x Drops_no_more) refl (λ b. b) refl refl refl refl h
-  node_hand k x Ends_no_more allowed h = sleep (after_no_more x Unasked) (same x (after_no_more x Unasked) refl (λ b. b) refl refl refl refl h)
+  node_hand k x Queues_no_more allowed h = same x (after_node x Queues_no_more) refl (λ b. b) refl refl refl refl refl h
+  node_hand k x Drops_no_more allowed h = same x (after_node x Drops_no_more) refl (λ b. b) refl refl refl refl refl h
+  node_hand k x Ends_no_more allowed h = sleep (after_no_more x Unasked) (same x (after_no_more x Unasked) refl (λ b. b) refl refl refl refl refl h)
   node_hand k x Ticks allowed h = ticked x allowed h
   node_hand k x Restarts allowed h = absurd allowed
 
@@ -422,8 +449,83 @@ module _ (command : ℕ) (D R : ℕ → Type 0) (starts : (more : ℕ) → D mor
       by (Due more session opened so at d) = Runs more session (ap open_session book ∙ opened) runs (comes more session at) (starts more d)
       by (Runs more session opened so at r) = absurd (let no : series.Due ≡ series.Running = sym due ∙ so in cc)
 
+  again_ends : (x : NodeState) → E x → E (after_again_tick x)
+  again_ends x e =
+      either_ends (x.again_wait == 1) (after_again (with_again x 0)) (with_again x (x.again_wait - 1))
+      (either_ends (has_waiting (with_again x 0)) (after_occasion (with_again x 0)) (with_again x 0) (occasion_ends (with_again x 0) (waited 0)) (waited 0)) (waited (x.again_wait - 1))
+    where
+      waited : (wait : ℕ) → E (with_again x wait)
+      waited wait = ends_as x (with_again x wait) refl refl refl (λ other place at. at) e
+
   pub ends_kept : KeptLaws E
-  ends_kept = record { as_was = ends_as; occasion = occasion_ends; ended = told_ends; begun = begun_ends; started = started_ends }
+  ends_kept = record {
+    as_was = λ x y commands outcome series_is again_is stands e. ends_as x y commands outcome series_is stands e;
+    occasion = occasion_ends;
+    ended = told_ends;
+    begun = begun_ends;
+    started = started_ends;
+    again = λ x listens e. again_ends x e;
+  }
+
+  -- or a wait is over first
+  module _ (W : ℕ → ℕ → Type 0) (falls : (more wait : ℕ) → W more (suc wait) → W more wait) (due_then : (more wait : ℕ) → W more wait → D (suc more)) (left_then : (more wait : ℕ) → W more wait → D more) where
+    abbrev L : NodeState → Type 0
+    L x = EndsLater command D R W x
+
+    later_as : (x y : NodeState) → y.book.commands ≡ x.book.commands → y.book.outcome ≡ x.book.outcome → y.series ≡ x.series → y.again_wait ≡ x.again_wait
+        → ((other place : ℕ) → StandsAt other place x.waiting → StandsAt other place y.waiting) → L x → L y
+    later_as x y commands outcome series_is again_is stands (Goes_on e) = Goes_on (ends_as x y commands outcome series_is stands e)
+    later_as x y commands outcome series_is again_is stands (Rests more session wait opened idle again at w) =
+        Rests more session wait (same_open x.book y.book commands outcome ∙ opened) (series_is ∙ idle) (again_is ∙ again) (stands command more at) w
+
+    either_later : (b : Bool) (x y : NodeState) → L x → L y → L (if b then x else y)
+    either_later true x y first later = first
+    either_later false x y first later = later
+
+    -- the next series begins
+    next_due : (x : NodeState) (more session wait : ℕ) → open_session x.book ≡ Some session → StandsAt command more x.waiting → W more wait → L (new_series x)
+    next_due x more session wait opened at w = Goes_on (Due (suc more) session (same_open x.book (new_series x).book refl refl ∙ opened) refl at (due_then more wait w))
+
+    occasion_later : (x : NodeState) → L x → L (after_occasion x)
+    occasion_later x (Goes_on e) = Goes_on (occasion_ends x e)
+    occasion_later x (Rests more session wait opened idle again at w) = either_later (is_open x && is_up x && is_idle x.series) (new_series x) x (next_due x more session wait opened at w) (Rests more session wait opened idle again at w)
+
+    told_later : (x : NodeState) (status : ℕ) → L x → L (after_told x status (Final 0))
+    told_later x status (Goes_on e) = Goes_on (told_ends x status e)
+    told_later x status (Rests more session wait opened idle again at w) = Goes_on (Idles more refl refl at (left_then more wait w))
+
+    begun_later : (x : NodeState) → open_session x.book ≡ None → L x → L (after_node x Begins)
+    begun_later x closed (Goes_on e) = Goes_on (begun_ends x closed e)
+    begun_later x closed (Rests more session wait opened idle again at w) = absurd (let no : Some session ≡ None = sym opened ∙ closed in cc)
+
+    started_later : (x y : NodeState) → y.book ≡ x.book → y.waiting ≡ x.waiting → y.series ≡ series.Running → x.series ≡ series.Due → L x → L y
+    started_later x y book waiting runs due (Goes_on e) = Goes_on (started_ends x y book waiting runs due e)
+    started_later x y book waiting runs due (Rests more session wait opened idle again at w) = absurd (let no : series.Due ≡ series.Idle = sym due ∙ idle in cc)
+
+    both_true : (a b c : Bool) → a ≡ true → b ≡ true → c ≡ true → (a && b && c) ≡ true
+    both_true true true true first second third = refl
+    both_true false b c first second third = absurd (let wrong : false ≡ true = first in cc)
+    both_true true false c first second third = absurd (let wrong : false ≡ true = second in cc)
+    both_true true true false first second third = absurd (let wrong : false ≡ true = third in cc)
+
+    again_later : (x : NodeState) → x.listens ≡ true → L x → L (after_again_tick x)
+    again_later x listens (Goes_on e) = Goes_on (again_ends x e)
+    again_later x listens (Rests more session zero opened idle again at w) =
+        subst (λ (b : Bool). L (if b then after_again x0 else with_again x (x.again_wait - 1))) (sym (ap (λ (k : ℕ). k == 1) again))
+        (subst (λ (b : Bool). L (if b then after_occasion x0 else x0)) (sym (waits_some x command more at)) (subst (λ (b : Bool). L (if b then new_series x0 else x0)) (sym up) (next_due x0 more session 0 opened at w)))
+      where
+        x0 : NodeState
+        x0 = with_again x 0
+
+        up : (is_open x0 && is_up x0 && is_idle x0.series) ≡ true
+        up = both_true (is_open x0) (is_up x0) (is_idle x0.series) (ap (λ (o : Option ℕ). is_some o) opened) (ap (λ (b : Bool). b || x.awake) listens) (ap is_idle idle)
+    again_later x listens (Rests more session (suc wait) opened idle again at w) =
+        let less : x.again_wait - 1 ≡ suc wait = omega (arith, again) in
+        subst (λ (b : Bool). L (if b then after_again (with_again x 0) else with_again x (x.again_wait - 1))) (sym (ne_eqb x.again_wait 1 (λ e. absurd (omega (arith, again, e)))))
+        (Rests more session wait opened idle less at (falls more wait w))
+
+    pub later_kept : KeptLaws L
+    later_kept = record { as_was = later_as; occasion = occasion_later; ended = told_later; begun = begun_later; started = started_later; again = again_later }
 
 -- ---- the host may serve the node
 
@@ -431,4 +533,4 @@ abbrev pub Any : NodeState → Type 0
 Any x = Unit {0}
 
 pub any_kept : KeptLaws Any
-any_kept = record { as_was = λ x y commands outcome series_is stands e. tt; occasion = λ x e. tt; ended = λ x status e. tt; begun = λ x closed e. tt; started = λ x y book waiting runs due e. tt }
+any_kept = record { as_was = λ x y commands outcome series_is again_is stands e. tt; again = λ x listens e. tt; occasion = λ x e. tt; ended = λ x status e. tt; begun = λ x closed e. tt; started = λ x y book waiting runs due e. tt }

@@ -291,7 +291,7 @@ module _ (airs : Airs) (these : List Bool) (n : ℕ) (marked : is_marked these n
   owed_on here next m event goes may at room tie at_later tie_later empty facts workers turn later owed = absurd owed
 
   -- where a settling ends no node with work lacks its request
-  none_owed : (m : Machine) → IsTied m → HasTurn (node_of m.host.state n) → IsFreeNow m → ⊥
+  none_owed : (m : Machine) → IsTied these m → HasTurn (node_of m.host.state n) → IsFreeNow m → ⊥
   none_owed m tied turn free = of (request_rests m tied).request
     where
       of : (HasNone m × HasNothing m.host.state) ⊎ IsTaken m → ⊥
@@ -301,7 +301,7 @@ module _ (airs : Airs) (these : List Bool) (n : ℕ) (marked : is_marked these n
       of (inr taken) = absurd (let wrong = sym free.quiet ∙ taken.sending in cc)
 
   -- and where a part is over
-  pub owed_turn : (here next : Phase) (m : Machine) → Turns here m next → LineAt here m → AwaitsAt here m → ((ticks : ℕ) → next ≡ To_tick ticks → IsTied m) → HasTurn (node_of m.host.state n) → IsOwed here m → IsOwed next m
+  pub owed_turn : (here next : Phase) (m : Machine) → Turns here m next → LineAt here m → AwaitsAt here m → ((ticks : ℕ) → next ≡ To_tick ticks → IsTied these m) → HasTurn (node_of m.host.state n) → IsOwed here m → IsOwed next m
   owed_turn (Ticked ticks) next m same at awaits tied turn owed = subst (λ (q : Phase). IsOwed q m) (sym same) tt
   owed_turn (Arriving zero ticks) next m same at awaits tied turn owed = subst (λ (q : Phase). IsOwed q m) (sym same) tt
   owed_turn (Giving zero ticks) next m same at awaits tied turn owed = subst (λ (q : Phase). IsOwed q m) (sym same) tt

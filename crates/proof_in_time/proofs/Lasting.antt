@@ -149,7 +149,7 @@ module _ (airs : Airs) (these : List Bool) (many : length these ≡ 233) (laws :
   sent_is : (m : Machine) (event is : Event) → event ≡ is → IsSentTo these m event → IsSentTo these m is
   sent_is m event is same sent = subst (IsSentTo these m) same sent
 
-  pub event_waits : (here next : Phase) (m : Machine) (event : Event) → Goes here m event next → May m event → IsPlainly these m event → KeepsAll event → GoWhole these m.host.state.commands → LineAt here m → AwaitsAt here m → RoomAt here m → IsRouted m.outside.outer → TieAt here m → IsPeopled m
+  pub event_waits : (here next : Phase) (m : Machine) (event : Event) → Goes here m event next → May m event → IsPlainly these m event → KeepsAll event → GoWhole these m.host.state.commands → LineAt here m → AwaitsAt here m → RoomAt here m → IsRouted m.outside.outer → TieAt here m → IsPeopled these m
       → AllListen these m → IsSentTo these m event → AreInAir these m → WaitsFor n most here m → Leads (most_then most here) next m event
   event_waits (Said_line line) next m event (is, to) may plainly keeps go line_at awaits room routed tie peopled listen sent joined w = as_is most next (Begun line) m event _ is to (λ later. inl (line_waits airs these many laws n most marked node line m w))
   event_waits (Doing line (first ∷ left)) next m event (is, to) may plainly keeps go line_at awaits room routed tie peopled listen sent joined w =
@@ -183,7 +183,7 @@ module _ (airs : Airs) (these : List Bool) (many : length these ≡ 233) (laws :
       as_is most next (Moved true passes ticks) m event _ is to
       (λ later.
       inl (takes_wait airs these many n most marked node below passes ticks m rest ways awaits (may_is m event takes is may) line_at room tie later (sent_is m event takes is sent)
-      (λ asks. request_airs airs m awaits n (session_of n m) below asks passes rest ways (may_is m event takes is may) line_at room tie peopled) w))
+      (λ asks. request_airs airs m awaits n (session_of n m) below asks these marked passes rest ways (may_is m event takes is may) line_at room tie peopled) w))
   event_waits (Moved b passes ticks) next m event (rest, items, done, is, to) may plainly keeps go line_at awaits room routed tie peopled listen sent joined w =
       let takes : Event = Host_takes (length m.outside.outer.to_host.bytes) rest items done in
       as_is most next (Sleeping passes ticks) m event _ is to
@@ -312,7 +312,7 @@ module _ (airs : Airs) (these : List Bool) (many : length these ≡ 233) (none :
       let at = known.0 before.worked in
       let tied = (at.0.0 stretched).0.0.tied stretched.quiet in
       let next_tied = ((later is.worked).0.0 is.worked.stretched).0.0.tied is.worked.stretched.quiet in
-      let sent = sent_on these here next m event goes may tied.0 tied.6 (at.0.1 stretched) in
+      let sent = sent_on these here next m event goes may tied.0 tied.6 (at.0.1 stretched).request in
       let was = known.1 before in
       record {
         waits = λ n marked.

@@ -17,6 +17,7 @@ mod Keeping
 mod Lasting
 mod Spoken
 mod InHand
+mod Retried
 mod Served
 mod InTurn
 mod Plainly

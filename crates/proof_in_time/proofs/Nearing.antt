@@ -46,14 +46,15 @@ use Rattle.proof_answered.proofs.Speaking.{Same, event_of, next_is_so, pending_f
 use Rattle.proof_answered.proofs.Staffed.{line_on}
 use Rattle.proof_in_time.proofs.Plainly.{Tells, speak_so}
 use Rattle.proof_in_time.specs.Plainly.{SpeakPlainly}
-use Rattle.proof_in_time.specs.InHand.{AllServe, ComesAfter, HasEnded, IsInHand, MayServe, Opened, Unopened, ticks_begun, ticks_enough, ticks_of_all}
+use Rattle.proof_in_time.specs.InHand.{AllServe, ComesAfter, HasEnded, IsInHand, MayServe, Opened, RestsBefore, Unopened, ticks_begun, ticks_enough, ticks_of_all}
 use Rattle.proof_in_time.specs.InStep.{IsPlainly}
 use Rattle.proof_in_time.proofs.Bounded.{Devices, either_node, some_left}
-use Rattle.proof_in_time.proofs.InHand.{Any, Due, Ended, Ends, Hand, HandAt, HasTurn, Idles, Runs, any_kept, ends_kept, event_hand, hand_as}
+use Rattle.proof_in_time.proofs.InHand.{Any, Due, Ended, Ends, EndsLater, Goes_on, Hand, HandAt, HasTurn, Idles, KeptLaws, Rests, Runs, any_kept, event_hand, later_hand_as, later_kept}
 use Rattle.proof_in_time.proofs.InTurn.{ComesTo, In_turn, IsOwed, Owed, no_part, owed_on, owed_turn, three_left}
 use Rattle.proof_in_time.proofs.Keeping.{kept_before, none_unkept, told_kept}
 use Rattle.proof_in_time.proofs.Queued.{queue_on}
 use Rattle.proof_in_time.proofs.Lasting.{LaterOn, event_waits, in_time, keeps, most_then, node_within, said_waits, turns_wait}
+use Rattle.proof_in_time.proofs.Retried.{own_tick_left, rests_on, rests_turn, ticks_then}
 use Rattle.proof_in_time.proofs.Served.{BeginsNone, BeginsNoTick, IsPartOf, ServesNext, event_clock, served_now, tick_clock}
 
 -- an attempt of the node runs, and what it waits for comes within so many ticks
@@ -62,10 +63,14 @@ pub record RunsOn (n ticks : ℕ) (here : Phase) (m : Machine) : Type 0 where
   pub waits : WaitsFor n most here m
   pub few : most + 1 ≤ ticks
 
+-- the wait after a series is over, and the next one can begin, with ticks enough for its session and those that follow
+abbrev pub IsOverSoon : List Bool → ℕ → ℕ → ℕ → ℕ → Phase → Type 0
+IsOverSoon these n ticks more wait here = suc wait + (1 + ticks_of_all these (suc (suc more))) ≤ ticks + own_tick_left n here
+
 -- the session of the command is over within so many ticks: those of the sessions that are to follow the one that is to begin or is open come after that
 abbrev pub Soon : List Bool → ℕ → ℕ → ℕ → Phase → Machine → Type 0
 Soon these n command ticks here m =
-    Hand (Ends command (λ (more : ℕ). ComesTo these n (ticks - ticks_of_all these more) here m) (λ (more : ℕ). RunsOn n (ticks - ticks_of_all these more) here m)) (node_of m.host.state n)
+    Hand (EndsLater command (λ (more : ℕ). ComesTo these n (ticks - ticks_of_all these more) here m) (λ (more : ℕ). RunsOn n (ticks - ticks_of_all these more) here m) (λ (more wait : ℕ). IsOverSoon these n ticks more wait here)) (node_of m.host.state n)
 
 -- the host may serve each of them, and has no task of its own; and what is on its way to it asks it for none
 pub record AreServed (these : List Bool) (m : Machine) : Type 0 where
@@ -87,9 +92,12 @@ pub record Origins : Type 1 where
   pub Turns_up : ℕ → Type 0
   pub Ran : ℕ → Type 0
   pub Left : ℕ → Type 0
+  pub Rests_so : ℕ → ℕ → Type 0
   pub turn_left : (more : ℕ) → Turns_up (suc more) → Left more
   pub ran_left : (more : ℕ) → Ran (suc more) → Left more
   pub left_left : (more : ℕ) → Left (suc more) → Left more
+  pub rests_fall : (more wait : ℕ) → Rests_so more (suc wait) → Rests_so more wait
+  pub rests_left : (more wait : ℕ) → Rests_so more wait → Left (suc more)
 
 module _ (facts_kept : (h : HostState) (event : HostEvent) → HostFacts h → MayHost h event → HostFacts (after h event)) (these : List Bool) (n : ℕ) (within : n < 233) (some : 1 ≤ n) (command turn : ℕ) (o : Origins) where
   -- its turn is no later than it was
@@ -101,10 +109,10 @@ module _ (facts_kept : (h : HostState) (event : HostEvent) → HostFacts h → M
 
   record On (h : HostState) : Type 0 where
     pub facts : HostFacts h
-    pub hand : Hand (Ends command (D h) R) (node_of h n)
+    pub hand : Hand (EndsLater command (D h) R o.Rests_so) (node_of h n)
 
   on_kept : (h : HostState) (event : HostEvent) → LastsAt h event → MayHost h event → On h → On (after h event)
-  on_kept h event lasts may on = record { facts = facts_kept h event on.facts may; hand = hand_as command D1 R (D (after h event)) R (node_of (after h event) n) due (λ more so r. r) later.hand }
+  on_kept h event lasts may on = record { facts = facts_kept h event on.facts may; hand = later_hand_as command D1 R (D (after h event)) R o.Rests_so o.Rests_so (node_of (after h event) n) due (λ more so r. r) (λ more wait idle again w. w) later.hand }
     where
       D1 : ℕ → Type 0
       D1 more = (HasTurn (node_of h n) × o.Turns_up more × (turn_of these h.served n ≤ turn)) ⊎ o.Left more
@@ -126,10 +134,13 @@ module _ (facts_kept : (h : HostState) (event : HostEvent) → HostFacts h → M
       as_turn more has (inl (a, few)) = inl (has, a, few)
       as_turn more has (inr left) = inr left
 
-      later : HandAt (Ends command D1 R) (ends_kept command D1 R starts less over) n (after h event).nodes
+      laws : KeptLaws (EndsLater command D1 R o.Rests_so)
+      laws = later_kept command D1 R starts less over o.Rests_so o.rests_fall (λ more wait w. inr (o.rests_left more wait w)) (λ more wait w. inr (o.left_left more (o.rests_left more wait w)))
+
+      later : HandAt (EndsLater command D1 R o.Rests_so) laws n (after h event).nodes
       later =
-          event_hand (Ends command D1 R) (ends_kept command D1 R starts less over) n within h event lasts may
-          (record { places = on.facts.nodes.places; hand = hand_as command (D h) R D1 R (node_of h n) as_turn (λ more so r. r) on.hand })
+          event_hand (EndsLater command D1 R o.Rests_so) laws n within h event lasts may
+          (record { places = on.facts.nodes.places; hand = later_hand_as command (D h) R D1 R o.Rests_so o.Rests_so (node_of h n) as_turn (λ more so r. r) (λ more wait idle again w. w) on.hand })
 
       turned : HasTurn (node_of h n) → (node_of (after h event) n).series ≢ series.Running → turn_of these h.served n ≤ turn → ((after h event).served ≡ h.served) ⊎ ServesNext h event → turn_of these (after h event).served n ≤ turn
       turned has then_rests few (inl same) = subst (λ (s : ℕ). turn_of these s n ≤ turn) (sym same) few
@@ -147,17 +158,13 @@ module _ (facts_kept : (h : HostState) (event : HostEvent) → HostFacts h → M
 
 -- ---- from phase to phase
 
-abbrev pub ticks_then : ℕ → Phase → ℕ
-ticks_then ticks (To_tick (suc more)) = ticks - 1
-ticks_then ticks here = ticks
-
 module _ (airs : Airs) (these : List Bool) (many : length these ≡ 233) (laws : Devices) (facts_kept : (h : HostState) (event : HostEvent) → HostFacts h → MayHost h event → HostFacts (after h event))
     (workers : (h : HostState) (k : ℕ) → KnowsWorkers these h → next_of h.nodes h.served ≡ Some k → is_marked these k ≡ true) (n : ℕ) (marked : is_marked these n ≡ true) (node : IsNode n) (command : ℕ) where
   below : n < 233
   below = let few = node.1 in omega (arith, few)
 
   abbrev Tied_at : Phase → Machine → Type 0
-  Tied_at here m = LineAt here m × AwaitsAt here m × RoomAt here m × IsRouted m.outside.outer × HasOnLine m.host.state × PumpedAt here m × TieAt here m × IsPeopled m
+  Tied_at here m = LineAt here m × AwaitsAt here m × RoomAt here m × IsRouted m.outside.outer × HasOnLine m.host.state × PumpedAt here m × TieAt here m × IsPeopled these m
 
   few_on : (here : Phase) (most ticks : ℕ) (m : Machine) → WaitsFor n most here m → (node_of m.host.state n).series ≡ series.Running → most + 1 ≤ ticks → most_then most here + 1 ≤ ticks_then ticks here
   few_on (To_tick (suc more)) most ticks m w so few =
@@ -211,9 +218,9 @@ module _ (airs : Airs) (these : List Bool) (many : length these ≡ 233) (laws :
       → AllSayHeard (unheard m.outside.outer) → KnowsWorkers these m.host.state → Tied_at next (happens m event) → WaitsFor n 2 next (happens m event)
       → ((most : ℕ) → WaitsFor n most here m → LaterOn airs these many laws n most marked node (most_then most here) next m event) → Soon these n command ticks here m → Soon these n command (ticks_then ticks here) next (happens m event)
   soon_on ticks here next m event goes may empty on_time kept at heard knows next_at two waits_on soon =
-      hand_as command (D facts_kept these n below node.0 command turn o (happens m event).host.state) (R facts_kept these n below node.0 command turn o)
+      later_hand_as command (D facts_kept these n below node.0 command turn o (happens m event).host.state) (R facts_kept these n below node.0 command turn o)
       (λ (more : ℕ). ComesTo these n (ticks_then ticks here - ticks_of_all these more) next (happens m event)) (λ (more : ℕ). RunsOn n (ticks_then ticks here - ticks_of_all these more) next (happens m event))
-      (node_of (happens m event).host.state n) due runs later.hand
+      o.Rests_so (λ (more wait : ℕ). IsOverSoon these n (ticks_then ticks here) more wait next) (node_of (happens m event).host.state n) due runs rests later.hand
     where
       turn : ℕ
       turn = turn_of these m.host.state.served n
@@ -223,6 +230,12 @@ module _ (airs : Airs) (these : List Bool) (many : length these ≡ 233) (laws :
 
       B : ℕ → Type 0
       B more = ((node_of m.host.state n).series ≡ series.Running) × RunsOn n (ticks - ticks_of_all these more) here m
+
+      old : ℕ
+      old = (node_of m.host.state n).again_wait
+
+      C : ℕ → ℕ → Type 0
+      C more wait = (old + (1 + ticks_of_all these (suc (suc more))) ≤ ticks + own_tick_left n here) × (suc wait ≤ old)
 
       turn_left : (more : ℕ) → A (suc more) → HasMore ticks more
       turn_left more (has, comes) = has_more ticks more 3 (omega arith) (three_left these n (ticks - ticks_of_all these (suc more)) here m comes)
@@ -234,19 +247,33 @@ module _ (airs : Airs) (these : List Bool) (many : length these ≡ 233) (laws :
       left_left more left = omega (arith, left)
 
       o : Origins
-      o = record { Turns_up = A; Ran = B; Left = λ (more : ℕ). HasMore ticks more; turn_left = turn_left; ran_left = ran_left; left_left = left_left }
+      o = record {
+        Turns_up = A;
+        Ran = B;
+        Left = λ (more : ℕ). HasMore ticks more;
+        Rests_so = C;
+        turn_left = turn_left;
+        ran_left = ran_left;
+        left_left = left_left;
+        rests_fall = λ more wait w. (w.0, let less = w.1 in omega (arith, less));
+        rests_left = λ more wait w. let enough = w.0 in let less = w.1 in omega (arith, enough, less);
+      }
 
       now : On facts_kept these n below node.0 command turn o m.host.state
       now = record {
         facts = at.7.facts;
-        hand = hand_as command (λ (more : ℕ). ComesTo these n (ticks - ticks_of_all these more) here m) (λ (more : ℕ). RunsOn n (ticks - ticks_of_all these more) here m)
-            (D facts_kept these n below node.0 command turn o m.host.state) (R facts_kept these n below node.0 command turn o) (node_of m.host.state n) (λ more has comes. inl ((has, comes), omega arith)) (λ more so runs_on. inl (inl (so, runs_on)))
-            soon;
+        hand = later_hand_as command (λ (more : ℕ). ComesTo these n (ticks - ticks_of_all these more) here m) (λ (more : ℕ). RunsOn n (ticks - ticks_of_all these more) here m)
+            (D facts_kept these n below node.0 command turn o m.host.state) (R facts_kept these n below node.0 command turn o) (λ (more wait : ℕ). IsOverSoon these n ticks more wait here) o.Rests_so (node_of m.host.state n)
+            (λ more has comes. inl ((has, comes), omega arith)) (λ more so runs_on. inl (inl (so, runs_on)))
+            (λ more wait idle again w. (omega (arith, w, again), omega (arith, again))) soon;
       }
 
       later : On facts_kept these n below node.0 command turn o (happens m event).host.state
       later =
           first_on (On facts_kept these n below node.0 command turn o) (on_kept facts_kept these n below node.0 command turn o) airs here next m event goes may on_time at.0 at.1 at.6 heard (λ k same on. absurd (kept k same)) now
+
+      rests : (more wait : ℕ) → (node_of (happens m event).host.state n).series ≡ series.Idle → (node_of (happens m event).host.state n).again_wait ≡ suc wait → C more wait → IsOverSoon these n (ticks_then ticks here) more wait next
+      rests more wait idle again (enough, less) = rests_on n (node.0, below) ticks wait (1 + ticks_of_all these (suc (suc more))) here next m event goes on_time at.7.facts.nodes.places (omega arith) idle again less enough
 
       due : (more : ℕ) → HasTurn (node_of (happens m event).host.state n) → (A more × (turn_of these (happens m event).host.state.served n ≤ turn)) ⊎ HasMore ticks more
           → ComesTo these n (ticks_then ticks here - ticks_of_all these more) next (happens m event)
@@ -272,15 +299,16 @@ module _ (airs : Airs) (these : List Bool) (many : length these ≡ 233) (laws :
           by (inr (was_due, w)) = absurd (let wrong : series.Due ≡ series.Running = sym was_due ∙ so in cc)
       runs more then_runs (inr left) = let one = then_most ticks here in record { most = 2; waits = two; few = omega (arith, left, one) }
 
-  tied_before : (next : Phase) (m : Machine) → Tied_at next m → (ticks : ℕ) → next ≡ To_tick ticks → IsTied m
+  tied_before : (next : Phase) (m : Machine) → Tied_at next m → (ticks : ℕ) → next ≡ To_tick ticks → IsTied these m
   tied_before next m at ticks is =
       let x : Tied_at (To_tick ticks) m = subst (λ (q : Phase). Tied_at q m) is at in
       record { rests = x.0; awaits = x.1; routed = x.3; on_line = x.4; pumped = x.5; tie = x.6; peopled = x.7 }
 
   soon_turn : (ticks : ℕ) (here next : Phase) (m : Machine) → Turns here m next → Tied_at here m → Tied_at next m → Soon these n command ticks here m → Soon these n command ticks next m
   soon_turn ticks here next m turns at next_at soon =
-      hand_as command (λ (more : ℕ). ComesTo these n (ticks - ticks_of_all these more) here m) (λ (more : ℕ). RunsOn n (ticks - ticks_of_all these more) here m) (λ (more : ℕ). ComesTo these n (ticks - ticks_of_all these more) next m)
-      (λ (more : ℕ). RunsOn n (ticks - ticks_of_all these more) next m) (node_of m.host.state n) due runs soon
+      later_hand_as command (λ (more : ℕ). ComesTo these n (ticks - ticks_of_all these more) here m) (λ (more : ℕ). RunsOn n (ticks - ticks_of_all these more) here m) (λ (more : ℕ). ComesTo these n (ticks - ticks_of_all these more) next m)
+      (λ (more : ℕ). RunsOn n (ticks - ticks_of_all these more) next m) (λ (more wait : ℕ). IsOverSoon these n ticks more wait here) (λ (more wait : ℕ). IsOverSoon these n ticks more wait next) (node_of m.host.state n) due runs
+      (λ more wait idle again w. let same = rests_turn n (node.0, below) here next m turns in omega (arith, w, same)) soon
     where
       due : (more : ℕ) → HasTurn (node_of m.host.state n) → ComesTo these n (ticks - ticks_of_all these more) here m → ComesTo these n (ticks - ticks_of_all these more) next m
       due more has (In_turn few) = In_turn few
@@ -291,8 +319,9 @@ module _ (airs : Airs) (these : List Bool) (many : length these ≡ 233) (laws :
 
   soon_said : (ticks : ℕ) (line : Line) (m : Machine) → Soon these n command ticks Between m → Soon these n command ticks (Said_line line) m
   soon_said ticks line m soon =
-      hand_as command (λ (more : ℕ). ComesTo these n (ticks - ticks_of_all these more) Between m) (λ (more : ℕ). RunsOn n (ticks - ticks_of_all these more) Between m)
-      (λ (more : ℕ). ComesTo these n (ticks - ticks_of_all these more) (Said_line line) m) (λ (more : ℕ). RunsOn n (ticks - ticks_of_all these more) (Said_line line) m) (node_of m.host.state n) due runs soon
+      later_hand_as command (λ (more : ℕ). ComesTo these n (ticks - ticks_of_all these more) Between m) (λ (more : ℕ). RunsOn n (ticks - ticks_of_all these more) Between m)
+      (λ (more : ℕ). ComesTo these n (ticks - ticks_of_all these more) (Said_line line) m) (λ (more : ℕ). RunsOn n (ticks - ticks_of_all these more) (Said_line line) m) (λ (more wait : ℕ). IsOverSoon these n ticks more wait Between)
+      (λ (more wait : ℕ). IsOverSoon these n ticks more wait (Said_line line)) (node_of m.host.state n) due runs (λ more wait idle again w. w) soon
     where
       due : (more : ℕ) → HasTurn (node_of m.host.state n) → ComesTo these n (ticks - ticks_of_all these more) Between m → ComesTo these n (ticks - ticks_of_all these more) (Said_line line) m
       due more has (In_turn few) = In_turn few
@@ -345,7 +374,7 @@ module _ (airs : Airs) (these : List Bool) (many : length these ≡ 233) (laws :
         let staff = known.0.0.0.0 before.worked in
         let tied = (staff.0.0 stretched).0.0.tied stretched.quiet in
         let next_tied = ((later.0.0.0 is.worked).0.0 is.worked.stretched).0.0.tied is.worked.stretched.quiet in
-        let sent = sent_on these here next m event goes may tied.0 tied.6 (staff.0.1 stretched) in
+        let sent = sent_on these here next m event goes may tied.0 tied.6 (staff.0.1 stretched).request in
         let was = known.0.0.0.1 before in
         let waits_then = later.0.0.1 is in
         subst (λ (ticks : ℕ). Soon these n command ticks next (happens m event)) (ticks_on most here next m event goes tied.0)
@@ -412,7 +441,7 @@ module _ (airs : Airs) (these : List Bool) (many : length these ≡ 233) (none :
       let staff = known.0.0.0 before.worked in
       let tied = (staff.0.0 stretched).0.0.tied stretched.quiet in
       let next_tied = ((later.0.0 is.worked).0.0 is.worked.stretched).0.0.tied is.worked.stretched.quiet in
-      let sent = sent_on these here next m event goes may tied.0 tied.6 (staff.0.1 stretched) in
+      let sent = sent_on these here next m event goes may tied.0 tied.6 (staff.0.1 stretched).request in
       let awaits = awaits_of here m tied.1 in
       let was = (known.1 before).speak in
       let devices = speak_so these m (λ n marked. (plain n marked).step) tells (staff.0.0 stretched).1 in
@@ -474,15 +503,19 @@ soon_first these n command more ticks m node facts serves is waits enough = reco
     goes = record { most = 2; waits = waits; few = omega (arith, left) }
 
     E : Type 0
-    E = Ends command (λ (k : ℕ). ComesTo these n (ticks - ticks_of_all these k) Between m) (λ (k : ℕ). RunsOn n (ticks - ticks_of_all these k) Between m) (node_of m.host.state n)
+    E = EndsLater command (λ (k : ℕ). ComesTo these n (ticks - ticks_of_all these k) Between m) (λ (k : ℕ). RunsOn n (ticks - ticks_of_all these k) Between m) (λ (k wait : ℕ). IsOverSoon these n ticks k wait Between) (node_of m.host.state n)
 
     opened : (session : ℕ) → open_session (node_of m.host.state n).book ≡ Some session → ComesAfter more command session (node_of m.host.state n) → ((node_of m.host.state n).series ≡ series.Due) ⊎ ((node_of m.host.state n).series ≡ series.Running) → E
-    opened session opens after_it (inl due) = Due more session opens due after_it comes
-    opened session opens after_it (inr run) = Runs more session opens run after_it goes
+    opened session opens after_it (inl due) = Goes_on (Due more session opens due after_it comes)
+    opened session opens after_it (inr run) = Goes_on (Runs more session opens run after_it goes)
 
     by : IsInHand command more (node_of m.host.state n) → E
     by (Opened session opens busy after_it) = opened session opens after_it (series_or (node_of m.host.state n).series busy)
-    by (Unopened none at) = Idles more none (idle_of (node_of m.host.state n) facts none) at comes
+    by (Unopened none at) = Goes_on (Idles more none (idle_of (node_of m.host.state n) facts none) at comes)
+
+soon_rests : (these : List Bool) (n command more ticks : ℕ) (m : Machine) → MayServe (node_of m.host.state n) → RestsBefore command more (node_of m.host.state n) → (node_of m.host.state n).again_wait + (1 + ticks_of_all these (suc (suc more))) ≤ ticks → Soon these n command ticks Between m
+soon_rests these n command more ticks m serves is enough =
+    let again = is.again in record { listens = serves.listens; unblocked = serves.unblocked; ends = Rests more is.session is.wait is.opened is.idle is.again is.stands (omega (arith, enough, again)) }
 
 -- and so it is where that is known of the machine
 pub soon_then : (these : List Bool) (n command more ticks : ℕ) (past : List Entry) (m : Machine) → is_marked these n ≡ true → IsNode n → KnowServed these Between past m → IsInHand command more (node_of m.host.state n) → ticks_of_all these (suc more) ≤ ticks
@@ -493,8 +526,12 @@ soon_then these n command more ticks past m marked node known is enough kept =
     let tied = (staff.0.0 stretched).0.0.tied stretched.quiet in
     soon_first these n command more ticks m node (tied.7.facts.nodes.facts n) ((known.1 kept).serve.each n marked) is ((known.0.0.1 kept).waits n marked) enough
 
+pub soon_rested : (these : List Bool) (n command more ticks : ℕ) (past : List Entry) (m : Machine) → is_marked these n ≡ true → KnowServed these Between past m → RestsBefore command more (node_of m.host.state n)
+    → (node_of m.host.state n).again_wait + (1 + ticks_of_all these (suc (suc more))) ≤ ticks → IsKeptFor these past → Soon these n command ticks Between m
+soon_rested these n command more ticks past m marked known is enough kept = soon_rests these n command more ticks m ((known.1 kept).serve.each n marked) is enough
+
 pub soon_past : (these : List Bool) (n command : ℕ) (m : Machine) → Soon these n command 0 Between m → HasEnded command (node_of m.host.state n).book
-soon_past these n command m soon = by soon.ends
+soon_past these n command m soon = over soon.ends
   where
     none_comes : (more : ℕ) → ComesTo these n (0 - ticks_of_all these more) Between m → ⊥
     none_comes more (In_turn few) = absurd (omega (arith, few))
@@ -508,3 +545,8 @@ soon_past these n command m soon = by soon.ends
     by (Idles more none idle at d) = absurd (none_comes more d)
     by (Due more session opened so at d) = absurd (none_comes more d)
     by (Runs more session opened so at r) = absurd (none_runs more r)
+
+    over : EndsLater command (λ (k : ℕ). ComesTo these n (0 - ticks_of_all these k) Between m) (λ (k : ℕ). RunsOn n (0 - ticks_of_all these k) Between m) (λ (k wait : ℕ). IsOverSoon these n 0 k wait Between) (node_of m.host.state n)
+        → HasEnded command (node_of m.host.state n).book
+    over (Goes_on e) = by e
+    over (Rests more session wait opened idle again at w) = absurd (omega (arith, w))

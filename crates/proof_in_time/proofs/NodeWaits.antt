@@ -255,17 +255,18 @@ module _ (n : ℕ) where
   beside_table within h event places is = event_from within (node_of h n) h event (beside_allowed h event is) (record { places = places; from = itself (node_of h n) })
 
   -- its own tick
-  pub own_tick : (within : n < 233) (h : HostState) → length h.nodes ≡ 233 → (node_of h n).attempt_wait ≢ 1 → TickOf (node_of h n) (node_of (after h (Node_ticks n)) n)
-  own_tick within h places lasts = subst (TickOf (node_of h n)) (sym there) (tick_from (node_of h n) lasts)
-    where
-      ended : (g : HostState) (end : AttemptEnd) (command : Option ℕ) → node_of (attempt_ended g end command) n ≡ node_of g n
-      ended g NoneRan command = refl
-      ended g Again command = refl
-      ended g (Unanswered fell) None = refl
-      ended g (Unanswered fell) (Some command) = refl
+  ended_node : (g : HostState) (end : AttemptEnd) (command : Option ℕ) → node_of (attempt_ended g end command) n ≡ node_of g n
+  ended_node g NoneRan command = refl
+  ended_node g Again command = refl
+  ended_node g (Unanswered fell) None = refl
+  ended_node g (Unanswered fell) (Some command) = refl
 
-      there : node_of (after h (Node_ticks n)) n ≡ after_tick (node_of h n)
-      there = ended (node_does h n Ticks) (tick_end (node_of h n)) (open_command (node_of h n)) ∙ get_or-set_same h.nodes n (after_tick (node_of h n)) (unknown 0) (subst (λ (l : ℕ). n < l) (sym places) within)
+  pub own_ticked : (within : n < 233) (h : HostState) → length h.nodes ≡ 233 → node_of (after h (Node_ticks n)) n ≡ after_tick (node_of h n)
+  own_ticked within h places =
+      ended_node (node_does h n Ticks) (tick_end (node_of h n)) (open_command (node_of h n)) ∙ get_or-set_same h.nodes n (after_tick (node_of h n)) (unknown 0) (subst (λ (l : ℕ). n < l) (sym places) within)
+
+  pub own_tick : (within : n < 233) (h : HostState) → length h.nodes ≡ 233 → (node_of h n).attempt_wait ≢ 1 → TickOf (node_of h n) (node_of (after h (Node_ticks n)) n)
+  own_tick within h places lasts = subst (TickOf (node_of h n)) (sym (own_ticked within h places)) (tick_from (node_of h n) lasts)
 
   -- an attempt of its own starts
   pub own_start : (within : n < 233) (h : HostState) (plan : Plan) (more : Bool) (payload : List ℕ) → length h.nodes ≡ 233 → node_of (after h (Starts_of n plan more payload)) n ≡ after_start (node_of h n) plan

@@ -41,7 +41,7 @@ pub record AnswersSession (session : ℕ) (new : State) (replies : List (List �
 -- a tick of its work, which goes on silently, or ends and is told
 pub data WorksOn (old new : State) (replies : List (List ℕ)) : Type 0 where
   Goes_on : replies ≡ [] → IsAtWork new → new.work_left + 1 ≡ old.work_left → WorksOn old new replies
-  Ends : (payload : List ℕ) → replies ≡ payload ∷ [] → TellsOwn new payload → IsDone new → old.work_left ≡ 1 → WorksOn old new replies
+  Ends : (payload : List ℕ) → replies ≡ payload ∷ [] → TellsOwn new payload → 1 ≤ length payload → length payload ≤ 46 → IsDone new → old.work_left ≡ 1 → WorksOn old new replies
 
 -- nothing happens to it
 pub record StaysDone (old new : State) (replies : List (List ℕ)) : Type 0 where

@@ -224,7 +224,7 @@ KnowPlainly these here past m = KnowWaits these here past m × (IsKeptFor these 
 
 -- so a stretch of lines for these nodes may begin
 pub record IsReadyFor (these : List Bool) (m : Machine) : Type 0 where
-  pub tied : IsTied m
+  pub tied : IsTied these m
   pub few : AreFew 0 3 m
   pub listen : AllListen these m
   pub knows : KnowsWorkers these m.host.state

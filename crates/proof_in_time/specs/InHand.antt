@@ -27,6 +27,15 @@ pub data IsInHand (command more : ℕ) (x : NodeState) : Type 0 where
   Opened : (session : ℕ) → open_session x.book ≡ Some session → x.series ≢ Idle → ComesAfter more command session x → IsInHand command more x
   Unopened : open_session x.book ≡ None → StandsAt command more x.waiting → IsInHand command more x
 
+-- so many commands wait before it, after a session that is open and whose series is over; the wait until its next one runs
+pub record RestsBefore (command more : ℕ) (x : NodeState) : Type 0 where
+  pub session : ℕ
+  pub opened : open_session x.book ≡ Some session
+  pub idle : x.series ≡ Idle
+  pub wait : ℕ
+  pub again : x.again_wait ≡ suc wait
+  pub stands : StandsAt command more x.waiting
+
 -- the host may serve the node at any time: it listens, and no record of a session of it failed to be kept since its last tick
 pub record MayServe (x : NodeState) : Type 0 where
   pub listens : x.listens ≡ true

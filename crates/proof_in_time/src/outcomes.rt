@@ -1,14 +1,16 @@
 //! Final outcomes of commands, as the entries tell them.
 
-ghost use Rattle.std.specs.Prelude.{◌≡◌, ◌≤◌, ◌+◌, ◌++◌, Bool, List, Some, [], true, ℕ};
+ghost use Rattle.std.specs.Prelude.{◌≡◌, ◌≢◌, ◌≤◌, ◌+◌, ◌++◌, Bool, List, Some, [], false, true, ℕ};
 ghost use Rattle.s0_crypto.specs.declared.key_pair.Keys.{Keys};
 ghost use Rattle.zw_text.specs.Transcript.{lines_run, outcome, shown};
+ghost use Rattle.law_transcript.specs.Commands.{waiting};
 ghost use Rattle.law_transcript.specs.Lists.{Has};
 ghost use Rattle.law_transcript.specs.Restarts.{ticks_asked};
-ghost use Rattle.law_time.specs.Sessions.{is_final};
+ghost use Rattle.law_time.specs.Sessions.{is_final, is_open};
 ghost use Rattle.law_time.specs.Stretches.{accepted_for};
 ghost use Rattle.chip_sim.specs.Nodes.{is_marked};
 ghost use Rattle.device_sim.specs.State.{State};
+ghost use Rattle.host_model.specs.State.{node_of};
 ghost use Rattle.world_model.specs.State.{first_machine};
 ghost use Rattle.world_lines.specs.Spoken.{Spoken, after_all, transcript_of};
 ghost use Rattle.proof_in_time.specs.InHand.{ticks_of_all};
@@ -16,11 +18,13 @@ ghost use Rattle.proof_in_time.specs.Stretch.{IsStretchFor};
 
 use crate::commands_end_in_time;
 use proof_host::asides_keep_facts;
-use proof_spoken::{lines_keep_and_ask_well, restarts_go_on, the_machine_keeps_facts};
+use proof_spoken::{lines_tell_what_nodes_list, runs_have_their_tables, the_machine_keeps_facts};
 use proof_walk::time_goes_on;
 
 /// Over a stretch as in `commands_end_in_time`: each command for one of these nodes whose acceptance was entered in it has its final outcome in the entries,
-/// once lines have asked for 18 times as many ticks from then on as there are of these nodes, and four more.
+/// once lines have asked for 18 times as many ticks from then on as there are of these nodes, and four more (`accepted`); and so has each that waits as the
+/// stretch begins: after 16 times as many, where the last session of its node has its final outcome (`waiting`); or, where the wait after a series of that
+/// session runs, after 17 times as many and 102 more (`rests`).
 pub fn outcomes_come_in_time()
     ensures accepted { (these : List Bool) (n command : ℕ) (keys : Keys) (devices : List State) (before first lines : List Spoken) →
         IsStretchFor these keys devices before (first ++ lines) → is_marked these n ≡ true →
@@ -28,11 +32,25 @@ pub fn outcomes_come_in_time()
         ticks_asked (lines_run (transcript_of (first_machine keys (Some []) devices) (before ++ first))) + ticks_of_all these 18 ≤
         ticks_asked (lines_run (transcript_of (first_machine keys (Some []) devices) (before ++ (first ++ lines)))) →
         is_final (outcome command (transcript_of (first_machine keys (Some []) devices) (before ++ (first ++ lines)))) ≡ true }
+    ensures waiting { (these : List Bool) (n command : ℕ) (keys : Keys) (devices : List State) (before lines : List Spoken) →
+        IsStretchFor these keys devices before lines → is_marked these n ≡ true →
+        Has (waiting n (transcript_of (first_machine keys (Some []) devices) before)) command →
+        is_open n (transcript_of (first_machine keys (Some []) devices) before) ≡ false →
+        ticks_asked (lines_run (transcript_of (first_machine keys (Some []) devices) before)) + ticks_of_all these 16 ≤
+        ticks_asked (lines_run (transcript_of (first_machine keys (Some []) devices) (before ++ lines))) →
+        is_final (outcome command (transcript_of (first_machine keys (Some []) devices) (before ++ lines))) ≡ true }
+    ensures rests { (these : List Bool) (n command : ℕ) (keys : Keys) (devices : List State) (before lines : List Spoken) →
+        IsStretchFor these keys devices before lines → is_marked these n ≡ true →
+        Has (waiting n (transcript_of (first_machine keys (Some []) devices) before)) command →
+        (node_of (after_all (first_machine keys (Some []) devices) before).host.state n).again_wait ≢ 0 →
+        ticks_asked (lines_run (transcript_of (first_machine keys (Some []) devices) before)) + (102 + ticks_of_all these 17) ≤
+        ticks_asked (lines_run (transcript_of (first_machine keys (Some []) devices) (before ++ lines))) →
+        is_final (outcome command (transcript_of (first_machine keys (Some []) devices) (before ++ lines))) ≡ true }
 {
     asides_keep_facts();
     commands_end_in_time();
-    lines_keep_and_ask_well();
-    restarts_go_on();
+    lines_tell_what_nodes_list();
+    runs_have_their_tables();
     the_machine_keeps_facts();
     time_goes_on();
 }

@@ -6,7 +6,7 @@ use Rattle.std.proofs.lemmas.Bool.{cases_Bool, eq-eqb, or_left, or_right}
 use Rattle.zw_base.proofs.Each.{all-append, all-left, all-right, all-weaker}
 use Rattle.zw_base.specs.PropertyOrder.{same_property}
 use Rattle.zw_base.specs.declared.property.Setting.{Setting}
-use Rattle.serial_frame.specs.Frame.{FrameParts, checksum, framed, kind_code}
+use Rattle.serial_frame.specs.Frame.{FrameParts, checksum, kind_code}
 use Rattle.serial_frame.specs.Items.{unit_text}
 use Rattle.serial_frame.specs.declared.frame.Kind.{Kind}
 use Rattle.serial_frame.specs.declared.frame.Kind.TheVariants as kind
@@ -49,7 +49,7 @@ use Rattle.proof_waking.specs.host_model.May.{says_listens}
 use Rattle.proof_waking.specs.host_model.Outs.{ended_of}
 use Rattle.proof_waking.specs.host_model.Taking.{AreTaken, FinalEvents, FrameEvents, InterviewEvents, IsOpened, IsTaken, NonceGetEvents, NonceReportEvents, NoticeEvents, OpensTo, PayloadEvents, ReportEvents, ResponseEvents, SealedEvents, is_secure, resent, value_event, value_events}
 use Rattle.proof_waking.proofs.Always.{either, none, one}
-use Rattle.proof_waking.proofs.Followed.{brought_of, text_brings}
+use Rattle.proof_waking.proofs.Followed.{FramesAre, followers_all}
 use Rattle.proof_transcript.proofs.Classes.{IsNoInterview, LeavesRecords, event_kept}
 use Rattle.proof_known.specs.Noted.{IsOpenedIf, IsOpenedTo, ends_so, tells_end, tells_property, tells_report, tells_value}
 
@@ -319,38 +319,26 @@ module _ (keys : Keys) (known : Known) (unit : List ℕ) (n : ℕ) (payload : Li
   follows (Spends_unread m text) is = text_is m text is
   follows event is = tt
 
-response_all : (keys : Keys) (known : Known) (unit : List ℕ) (read : Result Response BodyFault) (events : List HostEvent) → ResponseEvents read events → AllByRecursion (FollowsBy keys known unit) events
-response_all keys known unit (Ok response) events is = one (FollowsBy keys known unit) _ events tt is
-response_all keys known unit (Err fault) events is = none (FollowsBy keys known unit) events is
-
-interview_all : (keys : Keys) (known : Known) (unit : List ℕ) (update : Update) (brought : Option ℕ) (events : List HostEvent) → InterviewEvents update brought events → AllByRecursion (FollowsBy keys known unit) events
-interview_all keys known unit (Received n basic generic specific classes) (Some capability) events is =
-    either (FollowsBy keys known unit) (Interviews n (says_listens capability) classes (Received n basic generic specific classes)) (Interview_unkept n (Received n basic generic specific classes)) events tt tt is
-interview_all keys known unit RequestFailed (Some capability) events is = none (FollowsBy keys known unit) events is
-interview_all keys known unit (Received n basic generic specific classes) None events is = one (FollowsBy keys known unit) _ events tt is
-interview_all keys known unit RequestFailed None events is = one (FollowsBy keys known unit) _ events tt is
+frames_follow : (keys : Keys) (known : Known) (unit : List ℕ) → FramesAre (FollowsBy keys known unit)
+frames_follow keys known unit = record {
+  responds = λ response. tt;
+  calls = λ id status. tt;
+  updates = λ update. tt;
+  interviewed = λ n listens classes update. tt;
+  unkept = λ n update. tt;
+}
 
 -- of a host
 abbrev pub known_of : HostState → ℕ → Option (List ℕ)
 known_of h n = (node_of h n).classes
 
-notice_all : LeavesRecords → (unit : List ℕ) (h : HostState) (read : Result Notice BodyFault) (events : List HostEvent) → bringing_in unit ≡ brought_of read → NoticeEvents h read events
-    → AllByRecursion (FollowsBy h.keys (known_of h) unit) events
-notice_all law unit h (Ok (ApplicationCommandHandler rx_status source payload)) events brings is =
-    all-weaker (IsToldIn h.keys source payload (heard_at payload) (node_of h source).classes) (FollowsBy h.keys (known_of h) unit) (follows h.keys (known_of h) unit source payload brings) events
-    (payload_all law source payload (heard_at payload) h events is)
-notice_all law unit h (Ok (SendData callback_id status)) events brings is = one (FollowsBy h.keys (known_of h) unit) _ events tt is
-notice_all law unit h (Ok (ApplicationUpdate update)) events brings is = interview_all h.keys (known_of h) unit update (interviewed_by h.requests update) events is
-notice_all law unit h (Ok (AddNode callback_id status information)) events brings is = none (FollowsBy h.keys (known_of h) unit) events is
-notice_all law unit h (Err fault) events brings is = none (FollowsBy h.keys (known_of h) unit) events is
-
-kind_all : LeavesRecords → (h : HostState) (k : Kind) (func : ℕ) (body : List ℕ) (sum : ℕ) (events : List HostEvent) → FrameEvents h k func body events
-    → AllByRecursion (FollowsBy h.keys (known_of h) (framed (kind_code k ∷ func ∷ body) sum)) events
-kind_all law h kind.Response func body sum events is = response_all h.keys (known_of h) (framed (1 ∷ func ∷ body) sum) (response_of func body) events is
-kind_all law h kind.Request func body sum events is = notice_all law (framed (0 ∷ func ∷ body) sum) h (notice_of func body) events (text_brings func body sum) is
-
 pub frame_follows : LeavesRecords → (h : HostState) (f : FrameParts) (events : List HostEvent) → FrameEvents h f.kind f.func f.body events → AllByRecursion (FollowsBy h.keys (known_of h) (unit_text (Framed f))) events
-frame_follows law h f events is = kind_all law h f.kind f.func f.body (checksum (kind_code f.kind ∷ f.func ∷ f.body)) events is
+frame_follows law h f events is =
+    let unit : List ℕ = unit_text (Framed f) in
+    followers_all (FollowsBy h.keys (known_of h) unit) (frames_follow h.keys (known_of h) unit) h f.kind f.func f.body (checksum (kind_code f.kind ∷ f.func ∷ f.body)) events
+    (λ rx_status source payload brings read of.
+    all-weaker (IsToldIn h.keys source payload (heard_at payload) (node_of h source).classes) (FollowsBy h.keys (known_of h) unit) (follows h.keys (known_of h) unit source payload brings) events
+    (payload_all law source payload (heard_at payload) h events of)) is
 
 -- ---- which of them notes nothing of messages, and which is no interview
 

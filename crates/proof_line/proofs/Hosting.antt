@@ -6,7 +6,10 @@ use Rattle.zw_base.proofs.Each.{all-append}
 use Rattle.serial_frame.specs.Frame.{FrameParts}
 use Rattle.serial_frame.specs.Items.{unit_text}
 use Rattle.serial_frame.specs.declared.unit.Unit.{Unit as LineUnit}
-use Rattle.serial_frame.specs.declared.unit.Unit.TheVariants.{Framed}
+use Rattle.serial_frame.specs.declared.unit.Unit.TheVariants.{Ack, Nak, Can, Framed}
+use Rattle.serial_frame.specs.declared.item.Item.{Item}
+use Rattle.serial_frame.specs.declared.item.Item.TheVariants.{Good, Refused}
+use Rattle.serial_frame.specs.declared.item.Refusal.TheVariants.{Stray, BadLength, BadSum, BadKind, Aborted}
 use Rattle.serial_link.specs.State.{tick_side, copy_due}
 use Rattle.serial_pipes.specs.Events.{told}
 use Rattle.zw_words.specs.declared.side.Side.TheVariants.{Host as by_host, Chip as by_chip}
@@ -21,7 +24,7 @@ use Rattle.proof_world.specs.host_model.Sessions.{open_command, settings_with}
 use Rattle.proof_world.specs.host_model.Ends.{attempt_entries}
 use Rattle.proof_world.specs.host_model.After.{is_full, is_held, gives_up, line_ticked}
 use Rattle.proof_world.specs.host_model.Events.{HostEvent, Accepts, Cancels, Joins, Queues, Queues_interview, Queues_probe, Hears, Requests_do, Finishes, Offers, Gives, Resends, Line_ticks, Node_ticks, Submits_abort, Submits_front, Starts, Gives_text, Gives_segment, Drops_no_more, Queues_no_more}
-use Rattle.proof_world.specs.host_model.Outs.{copy_out, noted, request_entries, failing_entries, dropped_if, stored_entries, held_entries, ended_of, outs, answers}
+use Rattle.proof_world.specs.host_model.Outs.{answer_to, copy_out, noted, request_entries, failing_entries, dropped_if, stored_entries, held_entries, ended_of, outs, answers}
 use Rattle.proof_world.specs.host_model.Did.{outs_all}
 use Rattle.proof_world.specs.host_model.Pumping.{no_more_event, IsNext}
 use Rattle.proof_world.proofs.Submitted.{SubmittedAre, next_is}
@@ -38,7 +41,8 @@ use Rattle.proof_walk.specs.Outside.{Moves, IsNote, session_begins}
 use Rattle.proof_walk.specs.ByLine.{IsAsked}
 use Rattle.proof_walk.proofs.Stamping.{stamped}
 use Rattle.proof_walk.proofs.HostOuts.{OutsAre}
-use Rattle.proof_walk.proofs.Machines.{UnitsAre, any_told, outs_keep, answers_keep}
+use Rattle.proof_walk.proofs.Machines.{any_told, outs_keep, answers_keep}
+pub use Rattle.proof_walk.proofs.Machines.{UnitsAre}
 use Rattle.proof_line.specs.Links.{TicksNot}
 use Rattle.proof_line.specs.Pipes.{MayTell, Mode, most, Held}
 pub use Rattle.proof_line.specs.Pipes.{HearsNothing}
@@ -49,37 +53,73 @@ use Rattle.proof_line.proofs.Chipping.{IsFrame, KnowsAs, apart_moves, number_sta
 -- ---- which units it writes
 
 module _ (Is : LineUnit → Type 0) where
-  noted_units : (entries : List Entry) → UnitsAre Is (noted entries)
+  pub noted_units : (entries : List Entry) → UnitsAre Is (noted entries)
   noted_units [] = tt
   noted_units (e ∷ entries) = noted_units entries
 
-  units-append : (xs ys : List HostOut) → UnitsAre Is xs → UnitsAre Is ys → UnitsAre Is (xs ++ ys)
+  pub units-append : (xs ys : List HostOut) → UnitsAre Is xs → UnitsAre Is ys → UnitsAre Is (xs ++ ys)
   units-append [] ys first later = later
   units-append (Write unit ∷ xs) ys first later = (first.0, units-append xs ys first.1 later)
   units-append (Note note ∷ xs) ys first later = units-append xs ys first later
 
-copy_frames : (copy : Option FrameParts) → UnitsAre IsFrame (copy_out copy)
-copy_frames None = tt
-copy_frames (Some f) = (tt, tt)
+-- Where an item may be answered so, and each frame is so, an event writes nothing else.
+abbrev pub MayWrite : (LineUnit → Type 0) → HostEvent → Type 0
+MayWrite Is (Hears item) = Is Ack × Is Nak
+MayWrite Is Line_ticks = (f : FrameParts) → Is (Framed f)
+MayWrite Is Submits_abort = (f : FrameParts) → Is (Framed f)
+MayWrite Is Submits_front = (f : FrameParts) → Is (Framed f)
+MayWrite Is (Starts n plan more payload) = (f : FrameParts) → Is (Framed f)
+MayWrite Is (Gives_text n payload) = (f : FrameParts) → Is (Framed f)
+MayWrite Is (Gives_segment n more payload) = (f : FrameParts) → Is (Framed f)
+MayWrite Is event = Unit {0}
+
+module _ (Is : LineUnit → Type 0) where
+  answer_units : (item : Item) → Is Ack × Is Nak → UnitsAre Is (answer_to item)
+  answer_units (Good Ack) may = tt
+  answer_units (Good Nak) may = tt
+  answer_units (Good Can) may = tt
+  answer_units (Good (Framed f)) may = (may.0, tt)
+  answer_units (Refused (Stray x)) may = tt
+  answer_units (Refused (BadLength n)) may = tt
+  answer_units (Refused (BadSum want got)) may = (may.1, tt)
+  answer_units (Refused (BadKind x)) may = (may.1, tt)
+  answer_units (Refused Aborted) may = tt
+
+  copy_units : (copy : Option FrameParts) → ((f : FrameParts) → Is (Framed f)) → UnitsAre Is (copy_out copy)
+  copy_units None may = tt
+  copy_units (Some f) may = (may f, tt)
+
+  pub outs_write : (h : HostState) (event : HostEvent) → MayWrite Is event → UnitsAre Is (outs h event)
+  outs_write h (Hears item) may = answer_units item may
+  outs_write h (Requests_do event moment) may = noted_units Is (request_entries h event)
+  outs_write h (Finishes n number id command status wake_request) may =
+      noted_units Is (entry.Out command (ended_of status) ∷ (stored_entries n (settings_with status (command_at h.commands command)) ++ held_entries n (is_held h n wake_request)))
+  outs_write h (Offers n) may = noted_units Is (dropped_if (is_full h) n)
+  outs_write h (Gives n drawn) may = noted_units Is (dropped_if (is_full h) n)
+  outs_write h (Resends n payload) may = noted_units Is (dropped_if (is_full h) n)
+  outs_write h Line_ticks may =
+      let failing : List Entry = failing_entries (gives_up h.side.turn (tick_side h.side).turn) (line_ticked h) in
+      units-append Is (copy_out (copy_due h.side.turn)) (noted failing) (copy_units (copy_due h.side.turn) may) (noted_units Is failing)
+  outs_write h (Node_ticks n) may = noted_units Is (attempt_entries n (tick_end (node_of h n)) (open_command (node_of h n)))
+  outs_write h Submits_abort may = (may _, tt)
+  outs_write h Submits_front may = (may _, tt)
+  outs_write h (Starts n plan more payload) may = (may _, tt)
+  outs_write h (Gives_text n payload) may = (may _, tt)
+  outs_write h (Gives_segment n more payload) may = (may _, tt)
+  outs_write h event may = tt
+
+may_frames : (event : HostEvent) → HearsNothing event → MayWrite IsFrame event
+may_frames (Hears item) nothing = absurd nothing
+may_frames Line_ticks nothing = λ f. tt
+may_frames Submits_abort nothing = λ f. tt
+may_frames Submits_front nothing = λ f. tt
+may_frames (Starts n plan more payload) nothing = λ f. tt
+may_frames (Gives_text n payload) nothing = λ f. tt
+may_frames (Gives_segment n more payload) nothing = λ f. tt
+may_frames event nothing = tt
 
 one_frames : (h : HostState) (event : HostEvent) → HearsNothing event → UnitsAre IsFrame (outs h event)
-one_frames h (Hears item) nothing = absurd nothing
-one_frames h (Requests_do event moment) nothing = noted_units IsFrame (request_entries h event)
-one_frames h (Finishes n number id command status wake_request) nothing =
-    noted_units IsFrame (entry.Out command (ended_of status) ∷ (stored_entries n (settings_with status (command_at h.commands command)) ++ held_entries n (is_held h n wake_request)))
-one_frames h (Offers n) nothing = noted_units IsFrame (dropped_if (is_full h) n)
-one_frames h (Gives n drawn) nothing = noted_units IsFrame (dropped_if (is_full h) n)
-one_frames h (Resends n payload) nothing = noted_units IsFrame (dropped_if (is_full h) n)
-one_frames h Line_ticks nothing =
-    let failing : List Entry = failing_entries (gives_up h.side.turn (tick_side h.side).turn) (line_ticked h) in
-    units-append IsFrame (copy_out (copy_due h.side.turn)) (noted failing) (copy_frames (copy_due h.side.turn)) (noted_units IsFrame failing)
-one_frames h (Node_ticks n) nothing = noted_units IsFrame (attempt_entries n (tick_end (node_of h n)) (open_command (node_of h n)))
-one_frames h Submits_abort nothing = (tt, tt)
-one_frames h Submits_front nothing = (tt, tt)
-one_frames h (Starts n plan more payload) nothing = (tt, tt)
-one_frames h (Gives_text n payload) nothing = (tt, tt)
-one_frames h (Gives_segment n more payload) nothing = (tt, tt)
-one_frames h event nothing = tt
+one_frames h event nothing = outs_write IsFrame h event (may_frames event nothing)
 
 pub frames_alone : (h : HostState) (event : HostEvent) → HearsNothing event → UnitsAre IsFrame (outs_all h (event ∷ []))
 frames_alone h event nothing = subst (UnitsAre IsFrame) (sym (append-nil (outs h event))) (one_frames h event nothing)

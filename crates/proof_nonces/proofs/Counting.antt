@@ -3,7 +3,7 @@ use Rattle.std.proofs.Common.{◌≡◌, ◌⊎◌, ℕ, ◌≤◌, ◌<◌, not
 use Rattle.std.specs.Prelude.{Option, Some, None}
 use Rattle.std.specs.List.{AllByRecursion, flat_map}
 use Rattle.std.proofs.lemmas.Bool.{and_right}
-use Rattle.zw_base.proofs.Each.{all-right, all-weaker}
+use Rattle.zw_base.proofs.Each.{all-weaker}
 use Rattle.s0_crypto.specs.declared.key_pair.Keys.{Keys}
 use Rattle.s0_session.specs.declared.account.Account.{Account}
 use Rattle.s0_session.specs.Nonces.{given_of}
@@ -61,9 +61,8 @@ use Rattle.proof_notes.specs.proof_known.proof_waking.Judged.{IsBehindFrame, IsO
 use Rattle.proof_notes.specs.proof_attempts.proof_walk.ByLine.{IsAsked}
 use Rattle.proof_notes.proofs.Apart.{acknowledged_frames}
 use Rattle.proof_notes.proofs.Events.{answers_are}
-use Rattle.proof_notes.proofs.Followed.{MayFollow, frame_all}
 use Rattle.proof_notes.proofs.Parts.{IsNoted, follow_told}
-use Rattle.proof_notes.proofs.Settling.{behind_brought}
+use Rattle.proof_notes.proofs.Settling.{behind_brought, may_come}
 use Rattle.proof_notes.proofs.proof_alone_Apart.{missed_are}
 use Rattle.proof_notes.proofs.InOrder.{is_asked}
 use Rattle.proof_notes.proofs.Walking.{NotBehind, between_not}
@@ -341,8 +340,7 @@ module _ (keys : Keys) (brings : PayloadsBring) (left : TextsLeft) (one_given : 
     frame_opens : IsBehindFrame past m (event ∷ rest) → Then
     frame_opens behind =
         let unit : List ℕ = unit_text (Framed behind.frame.frame) in
-        let follows = all-right (MayFollow unit) behind.frame.gone (event ∷ rest) (frame_all behind.frame.first behind.frame.frame (behind.frame.gone ++ event ∷ rest) behind.frame.followed) in
-        let noted = (follow_told unit m.state event told follows.0 are).noted_are in
+        let noted = (follow_told unit m.state event told (may_come past rest event behind.frame) are).noted_are in
         let stays : AllByRecursion Stays told = all-weaker IsNoted Stays note_stays told noted in
         by unit (behind_brought past m (event ∷ rest) behind) (brought_on past told stays) (before_on past told (all-weaker Stays NoAck (λ e stay. stay.acks) told stays)) (bringing_short unit)
       where

@@ -1,7 +1,7 @@
 -- Where a host takes a nonce, behind a frame, the payload of that frame tells it.
 use Rattle.std.proofs.Common.{◌≡◌, ℕ, Bool, true, false, if◌then◌else◌, inl, inr, List, [], ◌∷◌, ◌++◌, refl, sym, ap, ◌∙◌, subst}
 use Rattle.std.specs.Prelude.{nat_lt, Option, Some, None, Result, Ok, Err}
-use Rattle.std.specs.List.{AllByRecursion, flat_map, list_any}
+use Rattle.std.specs.List.{AllByRecursion, list_any}
 use Rattle.std.proofs.lemmas.Bool.{cases_Bool, or_left, or_right}
 use Rattle.zw_base.specs.declared.property.Setting.{Setting}
 use Rattle.serial_frame.specs.Frame.{FrameParts, checksum, framed, kind_code}
@@ -13,8 +13,6 @@ use Rattle.chip_functions.specs.declared.fault.BodyFault.{BodyFault}
 use Rattle.chip_functions.specs.declared.response.Response.{Response}
 use Rattle.chip_functions.specs.declared.notice.Notice.{Notice}
 use Rattle.chip_functions.specs.declared.notice.Notice.TheVariants.{ApplicationCommandHandler, SendData, ApplicationUpdate, AddNode}
-use Rattle.chip_functions.specs.declared.notice.Update.{Update}
-use Rattle.chip_functions.specs.declared.notice.Update.TheVariants.{Received, RequestFailed}
 use Rattle.chip_functions.specs.Response.{response_of}
 use Rattle.chip_functions.specs.Notice.{notice_of}
 use Rattle.class_info.specs.declared.report_status.ReportStatus.{ReportStatus}
@@ -29,7 +27,7 @@ use Rattle.s0_session.specs.Nonces.{live_of}
 use Rattle.value_store.specs.Values.{count_with}
 use Rattle.law_transcript.specs.Lists.{Has}
 use Rattle.law_transcript.specs.Payloads.{messages_of}
-use Rattle.law_transcript.specs.Units.{Carried, bringing_in, bringing_of, read_well}
+use Rattle.law_transcript.specs.Units.{Carried, bringing_in}
 use Rattle.proof_notes.specs.law_time.Judged.{may_tell}
 use Rattle.host_keep.specs.declared.final_status.FinalStatus.{FinalStatus}
 use Rattle.host_heard.specs.Telling.{heard_at}
@@ -43,11 +41,11 @@ use Rattle.host_model.specs.State.{HostState, node_of}
 use Rattle.host_model.specs.After.{after}
 use Rattle.host_model.specs.Did.{after_all}
 use Rattle.host_model.specs.Events.{HostEvent, Unreads, Is_unkept, Reports_old, Works, Finishes, Offers, Gives, Spends, Spends_unread, Takes_nonce, Notifies, Resends, Hears_value, Has_no_room}
-use Rattle.host_model.specs.Taking.{AreTaken, FinalEvents, FrameEvents, InterviewEvents, IsOpened, IsTaken, NonceGetEvents, NonceReportEvents, NoticeEvents, PayloadEvents, ReportEvents, ResponseEvents, SealedEvents, ends_from, is_secure, named_by, resent, value_events}
+use Rattle.host_model.specs.Taking.{AreTaken, FinalEvents, FrameEvents, IsOpened, IsTaken, NonceGetEvents, NonceReportEvents, NoticeEvents, PayloadEvents, ReportEvents, ResponseEvents, SealedEvents, ends_from, is_secure, named_by, resent, value_events}
 use Rattle.proof_notes.specs.proof_known.Noted.{IsOpenedIf}
 use Rattle.proof_notes.proofs.Always.{either, none, one}
-use Rattle.proof_notes.proofs.Bodies.{body_is}
 use Rattle.proof_notes.proofs.Followers.{bytes_same}
+use Rattle.proof_notes.proofs.Followed.{FramesAre, brought_of, interview_all, text_brings}
 use Rattle.proof_nonces.specs.Sealing.{IsTold, tells_nonce}
 
 -- ---- along events
@@ -217,24 +215,24 @@ module _ (keys : Keys) (n : ℕ) (payload : List ℕ) where
 
 -- ---- frames
 
-module _ (keys : Keys) where
-  abbrev brought_of : Result Notice BodyFault → List Carried
-  brought_of read = flat_map bringing_of (read_well read)
+takes_none : FramesAre TakesNone
+takes_none = record {
+  responds = λ response. tt;
+  calls = λ id status. tt;
+  updates = λ update. tt;
+  interviewed = λ n listens classes update. tt;
+  unkept = λ n update. tt;
+}
 
+module _ (keys : Keys) where
   response_all : (brought : List Carried) (h : HostState) (read : Result Response BodyFault) (events : List HostEvent) → ResponseEvents read events → Along (TakesTold keys brought) h events
   response_all brought h (Ok response) events is = free keys brought h events (one TakesNone _ events tt is)
   response_all brought h (Err fault) events is = free keys brought h events (none TakesNone events is)
 
-  interview_none : (update : Update) (asked : Option ℕ) (events : List HostEvent) → InterviewEvents update asked events → AllByRecursion TakesNone events
-  interview_none (Received n basic generic specific classes) (Some capability) events is = either TakesNone _ _ events tt tt is
-  interview_none RequestFailed (Some capability) events is = none TakesNone events is
-  interview_none (Received n basic generic specific classes) None events is = one TakesNone _ events tt is
-  interview_none RequestFailed None events is = one TakesNone _ events tt is
-
   notice_all : (h : HostState) (read : Result Notice BodyFault) (events : List HostEvent) → h.keys ≡ keys → NoticeEvents h read events → Along (TakesTold keys (brought_of read)) h events
   notice_all h (Ok (ApplicationCommandHandler rx_status source payload)) events same is = payload_all keys source payload h (heard_at payload) events same (λ such so. so) is
   notice_all h (Ok (SendData callback_id status)) events same is = free keys [] h events (one TakesNone _ events tt is)
-  notice_all h (Ok (ApplicationUpdate update)) events same is = free keys [] h events (interview_none update (interviewed_by h.requests update) events is)
+  notice_all h (Ok (ApplicationUpdate update)) events same is = free keys [] h events (interview_all TakesNone takes_none update (interviewed_by h.requests update) events is)
   notice_all h (Ok (AddNode callback_id status information)) events same is = free keys [] h events (none TakesNone events is)
   notice_all h (Err fault) events same is = free keys [] h events (none TakesNone events is)
 
@@ -242,7 +240,7 @@ module _ (keys : Keys) where
       → Along (TakesTold keys (bringing_in (framed (kind_code k ∷ func ∷ body) sum))) h events
   kind_all h kind.Response func body sum events same is = response_all (bringing_in (framed (1 ∷ func ∷ body) sum)) h (response_of func body) events is
   kind_all h kind.Request func body sum events same is =
-      subst (λ (b : List ℕ). Along (TakesTold keys (brought_of (notice_of func b))) h events) (sym (body_is body func sum)) (notice_all h (notice_of func body) events same is)
+      subst (λ (l : List Carried). Along (TakesTold keys l) h events) (sym (text_brings func body sum)) (notice_all h (notice_of func body) events same is)
 
   pub frame_takes : (h : HostState) (f : FrameParts) (events : List HostEvent) → h.keys ≡ keys → FrameEvents h f.kind f.func f.body events
       → Along (TakesTold keys (bringing_in (unit_text (Framed f)))) h events

@@ -1,7 +1,6 @@
--- What hosts keep over all that they heard, a host that starts with records keeps from its start on.
+-- What hosts keep over all that they heard, a host that starts with records keeps from its start on: so with its notes from there it is legal.
 use Rattle.std.proofs.Common.{ℕ, Bool, true, false, List, [], ◌∷◌, ◌++◌, refl, subst, append_assoc}
 use Rattle.std.specs.Prelude.{Option}
-use Rattle.s0_crypto.specs.declared.key_pair.Keys.{Keys}
 use Rattle.host_heard.specs.declared.told.Told.{Told}
 use Rattle.port_run.specs.host_core.Network.{keys_of}
 use Rattle.zw_text.specs.declared.entry.Entry.{Entry}
@@ -25,7 +24,7 @@ use Rattle.proof_asking.specs.proof_requests.law_host.HostLegal.{ShowsValues}
 use Rattle.proof_asking.specs.proof_requests.law_host.Notes.{Start}
 use Rattle.proof_asking.specs.proof_requests.law_host.Starting.{IsLegalFrom, StartsFrom}
 use Rattle.proof_noting.specs.Starts.{NotesFrom}
-use Rattle.proof_replay.specs.Laws.{HostsKeepLaws, KeepsFrom}
+use Rattle.proof_replay.specs.Laws.{HostsKeepLaws}
 
 -- the end of a whole run stands after all of it
 ended_from : (Law : List Entry → Entry → Type 0) (whole : Bool) (before heard : List Entry) → EachAfter Law [] (ended whole (before ++ heard)) → EachAfter Law before (ended whole heard)
@@ -43,49 +42,31 @@ prompt_after heeds whole before heard all = record {
   rests = record { between = each_from (Allows (may_rest heeds)) [] before heard all.rests.between; in_the_end = all.rests.in_the_end };
 }
 
-pub keeps_from : (keys : Keys) (before : List Entry) (whole : Bool) (heard : List Entry) (records : Option (List (List ℕ))) → HostsKeepLaws keys whole (before ++ heard) records
-    → KeepsFrom keys before whole heard records
-keeps_from keys before whole heard records laws = record {
-  answers = record {
-    between = each_from (MayAnswer listing_heard (refusals_by_host listing_heard)) [] before heard laws.said.answers.between;
-    in_the_end = laws.said.answers.in_the_end;
-  };
-  cancels = each_from MayCancel [] before heard laws.said.cancels;
-  sessions = each_from MayBegin [] before heard laws.said.sessions;
-  carries = laws.said.carries;
-  link = laws.link;
-  stores = laws.said.stores;
-  values = ended_from (ShowsValues listing_heard) whole before heard laws.said.values;
-  sends = λ key same. each_from (MayRequest listing_heard key) [] before heard (laws.sends key same);
-  prompt = (laws.prompt.0, prompt_after (heeds_alone laws.prompt.0) whole before heard laws.prompt.1);
-  records_kept = laws.said.records_kept;
-}
-
--- so it is legal from that start, with its notes from there
 pub legal_from : (key : List ℕ) (records : List (List ℕ)) (from : Start) (starts : StartsFrom records from) (whole : Bool) (heard : List Entry) (told : Option (List (List ℕ)))
     (taken : List Entry → Carried → List Told) → HostsKeepLaws (keys_of key) whole (from.before ++ heard) told → IsPrompt whole (heeds_alone taken) (from.before ++ heard)
     → NotesFrom key taken from starts.kept whole heard → IsLegalFrom key records whole heard told
-legal_from key records from starts whole heard told taken laws prompt noted =
-    let keeps : KeepsFrom (keys_of key) from.before whole heard told = keeps_from (keys_of key) from.before whole heard told laws in
-    record {
-      start = from;
-      starts = starts;
-      alone = record {
-        taken = taken;
-        legal = record {
-          answers = keeps.answers;
-          cancels = keeps.cancels;
-          sessions = keeps.sessions;
-          carries = keeps.carries;
-          link = keeps.link;
-          notes = noted.in_full.notes;
-          stores = keeps.stores;
-          values = keeps.values;
-          sends = keeps.sends key refl;
-          prompt = prompt_after (heeds_alone taken) whole from.before heard prompt;
-          records_kept = keeps.records_kept;
-        };
-        heeded = noted.in_full.heeded;
+legal_from key records from starts whole heard told taken laws prompt noted = record {
+  start = from;
+  starts = starts;
+  alone = record {
+    taken = taken;
+    legal = record {
+      answers = record {
+        between = each_from (MayAnswer listing_heard (refusals_by_host listing_heard)) [] from.before heard laws.said.answers.between;
+        in_the_end = laws.said.answers.in_the_end;
       };
-      live = noted.live;
-    }
+      cancels = each_from MayCancel [] from.before heard laws.said.cancels;
+      sessions = each_from MayBegin [] from.before heard laws.said.sessions;
+      carries = laws.said.carries;
+      link = laws.link;
+      notes = noted.in_full.notes;
+      stores = laws.said.stores;
+      values = ended_from (ShowsValues listing_heard) whole from.before heard laws.said.values;
+      sends = each_from (MayRequest listing_heard key) [] from.before heard (laws.sends key refl);
+      prompt = prompt_after (heeds_alone taken) whole from.before heard prompt;
+      records_kept = laws.said.records_kept;
+    };
+    heeded = noted.in_full.heeded;
+  };
+  live = noted.live;
+}

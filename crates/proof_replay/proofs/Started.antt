@@ -36,7 +36,7 @@ module _ (start : HostMachine) (before : List Entry) (records : List (List ℕ))
     };
   }
 
-  -- it starts behind the words of the line
+  -- it starts again, where the words of the line stand last
   pub starts_anew : (stage : Stage) (m : HostMachine) (state : HostState) → May (Asked lines.Restart) m (Restarts state) Open → m.records ≡ Some records → CarefulRun start stage (Asked lines.Restart) before m
       → (told : List Entry) → told ≡ before ++ [] → Started stage Open told (record m { state = state; came = [] })
   starts_anew stage m state may are words told told_is =

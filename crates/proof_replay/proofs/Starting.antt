@@ -36,11 +36,10 @@ use Rattle.proof_asking.proofs.Carefully.{Leads, found, stepped}
 use Rattle.proof_asking.specs.proof_known.Known.{AreSaidToHost, IsSaidToHost, KnowsRecords}
 use Rattle.proof_asking.proofs.ForHost.{said_for_host}
 use Rattle.proof_noting.specs.Starts.{HasStarted}
-use Rattle.proof_replay.specs.HostSteps.{HaveHeard, HearsMore, HearsRun, Holds, IsRunSteps, StartsAfter, restart_word}
+use Rattle.proof_replay.specs.HostSteps.{HaveHeard, HearsMore, HearsRun, Holds, IsRunSteps, StartsAfter, restart_word, texts_told}
 use Rattle.proof_replay.specs.Laws.{Agrees, HostsKeepLaws, IsHeardAlone}
 use Rattle.proof_replay.specs.Linked.{KnowsLine}
 use Rattle.proof_replay.proofs.Begun.{begun}
-use Rattle.proof_replay.proofs.From.{keeps_from}
 use Rattle.proof_replay.proofs.LineHeard.{HostsObey, first_rests, link_kept, open_kept, restart_line}
 use Rattle.proof_replay.proofs.Serving.{none_added, pump_part, restart_is, steps_go}
 use Rattle.proof_replay.proofs.Serving as serving
@@ -79,10 +78,10 @@ texts_held number (Some texts) held records holds many are = (texts, holds, are)
 
 -- ---- what it hears
 
--- what is so of the records that are held is so of those that are told
-told_if : (P : List (List ℕ) → Type 0) (records held : Option (List (List ℕ))) (texts : List (List ℕ)) → Agrees records held → held ≡ Some texts → P texts → IfSome records P
-told_if P None held texts agrees same is = tt
-told_if P (Some told) held texts agrees same is = subst (λ (o : Option (List (List ℕ))). IfSome o P) (sym same ∙ agrees) is
+-- the records that are told are those that are held
+holds_texts : (number : ℕ) (told held : Option (List (List ℕ))) (texts : List (List ℕ)) → Holds number told held → held ≡ Some texts → texts_told told ≡ texts
+holds_texts number None held texts holds same = let both : Some [] ≡ Some texts = sym holds.1 ∙ same in cc
+holds_texts number (Some told) held texts holds same = let both : Some told ≡ Some texts = sym holds ∙ same in cc
 
 -- with a network key they are legal over all of it
 legal_for : ((key : List ℕ) (whole : Bool) (heard : List Entry) (told : Option (List (List ℕ))) → IsHeardAlone (keys_of key) whole heard told → IsLegalAlone key first_start whole heard told)
@@ -126,6 +125,9 @@ module _ (laws : (keys : Keys) (whole : Bool) (heard : List Entry) (told : Optio
 
   opened_from : OpensFrom keys before.held (opened keys opens.records)
   opened_from = subst (λ (o : Option (List (List ℕ))). OpensFrom keys o (opened keys opens.records)) (sym held_texts.1) (opens.records, held_texts.2, opens.legal, refl)
+
+  told_texts : texts_told place.shelf.records ≡ held_texts.0
+  told_texts = ap texts_told (none_added told place.shelf.records adds) ∙ holds_texts number told before.held held_texts.0 before.holds held_texts.1
 
   agrees_held : Agrees place.shelf.records before.held
   agrees_held = subst (λ (r : Option (List (List ℕ))). Agrees r before.held) (sym (none_added told place.shelf.records adds)) (agrees_first number told before.held before.holds)
@@ -186,10 +188,9 @@ module _ (laws : (keys : Keys) (whole : Bool) (heard : List Entry) (told : Optio
         keeps = subst (λ (l : List Entry). HostsKeepLaws keys whole l records) (all_heard heard) keeps;
         legal = λ key same.
             subst (λ (l : List Entry). IsLegalAlone key first_start whole l records) (all_heard heard) (legal_for legal_so keys whole (restarted ++ heard) records alone key same);
-        starts = told_if (StartsAfter restarted) place.shelf.records before.held held_texts.0 agrees_held held_texts.1 starts_so;
-        from = keeps_from keys restarted whole heard records keeps;
+        starts = subst (StartsAfter restarted) (sym told_texts) starts_so;
         legal_from = λ key same.
-            told_if (λ (texts : List (List ℕ)). IsLegalFrom key texts whole heard records) place.shelf.records before.held held_texts.0 agrees_held held_texts.1
+            subst (λ (texts : List (List ℕ)). IsLegalFrom key texts whole heard records) (sym told_texts)
             (since_start legal_from keys restarted key held_texts.0 same starts_so whole heard records alone run.has);
         next = λ is many some. subst (λ (l : List Entry). HaveHeard keys many records l) (all_heard heard) (next is many some);
       }

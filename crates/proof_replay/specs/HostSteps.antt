@@ -1,7 +1,7 @@
 -- What the host of `host` hears at its steps (this project's own rule). A line is its words, and one that was refused has its refusal. Bytes that were read are
 -- the word `chip`, which is no line, and what came in them; a tick is a line `tick 1`; and a start from records is a line `restart` after what
 -- hosts heard before.
-use Rattle.std.specs.Prelude.{◌≡◌, ℕ, ◌+◌, Bool, true, false, List, [], ◌∷◌, ◌++◌, codes, Option, Some, None, IfSome, IsSome}
+use Rattle.std.specs.Prelude.{◌≡◌, ℕ, ◌+◌, Bool, true, false, List, [], ◌∷◌, ◌++◌, codes, Option, Some, None, IsSome}
 use Rattle.std.specs.List.{flat_map}
 use Rattle.s0_crypto.specs.declared.key_pair.Keys.{Keys}
 use Rattle.zw_text.specs.Line.{first_word}
@@ -32,7 +32,7 @@ use Rattle.proof_asking.specs.proof_requests.proof_alone.Careful.{Careful}
 use Rattle.proof_asking.specs.proof_known.Known.{AreSaidToHost}
 use Rattle.proof_replay.specs.Heard.{came_of}
 use Rattle.proof_replay.specs.Linked.{LineRests}
-use Rattle.proof_replay.specs.Laws.{HostsKeepLaws, KeepsFrom}
+use Rattle.proof_replay.specs.Laws.{HostsKeepLaws}
 
 -- ---- words
 
@@ -136,6 +136,11 @@ abbrev pub Holds : ℕ → Option (List (List ℕ)) → Option (List (List ℕ))
 Holds number None held = (number ≡ 0) × (held ≡ Some [])
 Holds number (Some texts) held = held ≡ Some texts
 
+-- the records that it holds so
+abbrev pub texts_told : Option (List (List ℕ)) → List (List ℕ)
+texts_told None = []
+texts_told (Some texts) = texts
+
 -- Hosts with these keys have heard this, in earlier runs, over a keeper that holds so many records now and tells these; so many ticks have passed. The last
 -- one was at rest, they judged what came as programs do, their links have kept the rules, and no line was for others.
 pub record HaveHeard (keys : Keys) (number : ℕ) (told : Option (List (List ℕ))) (past : List Entry) : Type 0 where
@@ -149,15 +154,14 @@ pub record HaveHeard (keys : Keys) (number : ℕ) (told : Option (List (List ℕ
   pub holds : Holds number told held
   pub said : AreSaidToHost past
 
--- From its start a host did these steps and heard this, and over what hosts have heard by now these laws hold; with a network key they are legal as one host alone is. What it heard itself keeps
--- laws from what stood before, up to its start, and their links kept the rules over all of it; what stood before shows what its keeper's records give, where it tells them, and with a network key it
--- is legal from such a start. Where it came to rest, and its keeper tells its records, hosts have heard all that when the next one starts.
+-- From its start a host did these steps and heard this, and over what hosts have heard by now these laws hold; with a network key they are legal as one host alone is. What stood before it shows
+-- what its keeper's records give, and with a network key it is legal from such a start, by what it heard itself. Where it came to rest, and its keeper tells its records, hosts have heard all that
+-- when the next one starts.
 pub record HearsMore (keys : Keys) (past : List Entry) (clock : ℕ) (whole : Bool) (steps : List Step) (old new : Place) : Type 0 where
   pub heard : List Entry
   pub hears : HearsRun clock steps old new heard
   pub keeps : HostsKeepLaws keys whole (past ++ Said restart_word ∷ heard) new.shelf.records
   pub legal : (key : List ℕ) → keys ≡ keys_of key → IsLegalAlone key first_start whole (past ++ Said restart_word ∷ heard) new.shelf.records
-  pub starts : IfSome old.shelf.records (StartsAfter (past ++ Said restart_word ∷ []))
-  pub from : KeepsFrom keys (past ++ Said restart_word ∷ []) whole heard new.shelf.records
-  pub legal_from : (key : List ℕ) → keys ≡ keys_of key → IfSome old.shelf.records (λ texts. IsLegalFrom key texts whole heard new.shelf.records)
+  pub starts : StartsAfter (past ++ Said restart_word ∷ []) (texts_told old.shelf.records)
+  pub legal_from : (key : List ℕ) → keys ≡ keys_of key → IsLegalFrom key (texts_told old.shelf.records) whole heard new.shelf.records
   pub next : whole ≡ true → (many : ℕ) → IsSome new.shelf.records → HaveHeard keys many new.shelf.records (past ++ Said restart_word ∷ heard)

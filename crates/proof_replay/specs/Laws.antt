@@ -1,5 +1,5 @@
 -- What a host keeps true over all that it heard, whatever that was (this project's own rule).
-use Rattle.std.specs.Prelude.{◌≡◌, ℕ, Bool, true, List, [], ◌++◌, Option, Some, None, IfSome}
+use Rattle.std.specs.Prelude.{◌≡◌, ℕ, Bool, true, List, [], Option, Some, None}
 use Rattle.zw_words.specs.declared.side.Side.TheVariants.{Host}
 use Rattle.zw_text.specs.declared.line.ReplayLine.{ReplayLine}
 use Rattle.zw_text.specs.declared.entry.Entry.{Entry}
@@ -7,18 +7,13 @@ use Rattle.s0_crypto.specs.declared.key_pair.Keys.{Keys}
 use Rattle.port_run.specs.host_core.Network.{keys_of}
 use Rattle.host_heard.specs.declared.told.Told.{Told}
 use Rattle.host_keep.specs.Keeping.{OptAdds}
-use Rattle.law_transcript.specs.Answers.{AnswersAfter, MayCancel, refusals_by_host}
 use Rattle.law_transcript.specs.Lists.{EachAfter}
-use Rattle.law_transcript.specs.Once.{CarriesOnce}
-use Rattle.law_transcript.specs.Payloads.{MayRequest, SendsWhatIsDue}
-use Rattle.law_transcript.specs.Records.{KeepsRecords}
-use Rattle.law_transcript.specs.Sessions.{MayBegin}
-use Rattle.law_transcript.specs.Stores.{StoresConfirmed}
+use Rattle.law_transcript.specs.Payloads.{SendsWhatIsDue}
 use Rattle.proof_asking.specs.proof_requests.law_host.Heard.{heeds_alone, listing_heard}
-use Rattle.proof_asking.specs.proof_requests.law_host.HostLegal.{IsLegalAlone, ShowsValues}
+use Rattle.proof_asking.specs.proof_requests.law_host.HostLegal.{IsLegalAlone}
 use Rattle.proof_asking.specs.proof_requests.law_host.Notes.{first_start}
 use Rattle.law_transcript.specs.Units.{Carried}
-use Rattle.law_time.specs.Prompt.{IsPrompt, IsPromptAfter}
+use Rattle.law_time.specs.Prompt.{IsPrompt}
 use Rattle.law_time.specs.Errands.{SaysHowDone}
 use Rattle.law_wire.specs.Links.{KeepsLink}
 use Rattle.law_wire.specs.Serial.{ended}
@@ -42,12 +37,9 @@ use Rattle.proof_noting.specs.proof_choice.proof_ends.proof_nonces.Sealing.{Seal
 use Rattle.proof_noting.specs.proof_choice.proof_ends.proof_notes.Unkept.{UnkeptWhereAsked}
 use Rattle.proof_replay.specs.Heard.{AreReplayed, AreSaid, Replayed, heard_of, told_of}
 
--- By some messages of each payload, those that the host took up, it does what it is asked for as soon as it can, each thing in its turn; and so after what stood before.
+-- By some messages of each payload, those that the host took up, it does what it is asked for as soon as it can, each thing in its turn.
 abbrev pub IsPromptByMessages : Bool → List Entry → Type 0
 IsPromptByMessages whole heard = (taken : List Entry → Carried → List Told) × IsPrompt whole (heeds_alone taken) heard
-
-abbrev pub IsPromptFrom : List Entry → Bool → List Entry → Type 0
-IsPromptFrom before whole heard = (taken : List Entry → Carried → List Told) × IsPromptAfter before whole (heeds_alone taken) heard
 
 -- One field a law. Orders, sessions and outcomes keep their laws.
 -- Each line has its answer; what is taken back, carried, stored and shown is so, and the records, where they are told, say what is shown.
@@ -86,20 +78,6 @@ pub record HostsKeepLaws (keys : Keys) (whole : Bool) (heard : List Entry) (reco
   pub seals_once : SealsOnce keys heard
   pub nonces : CountsNonces keys heard
   pub link : KeepsLink Host (ended whole heard)
-
--- Of a host that starts with records, after what stood before: the fields of `IsHostLegal` that are proved of it. It goes by what nodes listed in their interviews, and by
--- the whole of what it heard; where its keys are those of a network key, this key.
-pub record KeepsFrom (keys : Keys) (before : List Entry) (whole : Bool) (heard : List Entry) (records : Option (List (List ℕ))) : Type 0 where
-  pub answers : AnswersAfter before whole listing_heard (refusals_by_host listing_heard) heard
-  pub cancels : EachAfter MayCancel before heard
-  pub sessions : EachAfter MayBegin before heard
-  pub carries : (node : ℕ) → CarriesOnce node (before ++ heard)
-  pub link : KeepsLink Host (ended whole (before ++ heard))
-  pub stores : StoresConfirmed whole listing_heard (before ++ heard)
-  pub values : EachAfter (ShowsValues listing_heard) before (ended whole heard)
-  pub sends : (key : List ℕ) → keys ≡ keys_of key → EachAfter (MayRequest listing_heard key) before heard
-  pub prompt : IsPromptFrom before whole heard
-  pub records_kept : whole ≡ true → IfSome records (KeepsRecords (before ++ heard))
 
 -- where the keeper tells its records, they are those that a run holds
 abbrev pub Agrees : Option (List (List ℕ)) → Option (List (List ℕ)) → Type 0

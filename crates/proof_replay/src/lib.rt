@@ -1,13 +1,13 @@
 //! The hosts of `sim`, `replay` and `host` are hosts alone, over what they heard: so the laws of such hosts are theirs.
 //!
 //! All laws of a host alone (`proof_alone`) that are proved are one record (`hosts_keep_laws`), and with a network key such a host is legal in all that a host
-//! alone is asked (`hosts_are_legal`), from a start from records too (`hosts_are_legal_from_starts`). What the host of `sim` heard of its lines is told by a run of such a host, so it keeps these laws over that and is
-//! legal (`lines_that_ran_are_heard`, `lines_that_ran_are_legal`). Lines of `replay` that are run whole are one too, with the units that come in the bytes
-//! before what is made of them (`replays_are_a_hosts`, `texts_that_ran_are_heard`); and so are the steps of `host`, which go on from what hosts heard in
-//! earlier runs over the same keeper (`served_steps_are_heard`).
+//! alone is asked (`hosts_are_legal`), from a start from records too (`hosts_are_legal_from_starts`). What the host of `sim` heard of its lines is told by a
+//! run of such a host, so it keeps these laws over that and is legal (`lines_that_ran_are_heard`, `lines_that_ran_are_legal`). Lines of `replay` that are run
+//! whole are one too, with the units that come in the bytes before what is made of them (`replays_are_a_hosts`, `texts_that_ran_are_heard`); and so are the
+//! steps of `host`, which go on from what hosts heard in earlier runs over the same keeper (`served_steps_are_heard`), each from its start from the records.
 //! The definitions are in `specs/Heard` and `specs/HostSteps` (what is heard) and `specs/Laws`. `proofs/Replaying` goes over what a line is: what it asks
 //! for or the bytes that are taken, and a pump; or ticks, each with its pump. `proofs/Serving` goes over steps by the same parts. `proofs/Words` is of the
-//! lines that are heard, of which none is for others.
+//! lines that are heard, of which none is for others; `proofs/Started` of runs that have gone through a start, which `proofs/Starting` makes.
 #![tactic(auto)]
 
 mod port;

@@ -1,6 +1,6 @@
 -- What waits to be asked by a host alone can be read: each event adds such tasks alone.
 use Rattle.std.proofs.Common.{◌≡◌, ℕ, ◌≤◌, Bool, true, false, if◌then◌else◌, List, [], ◌∷◌, ◌++◌, length, refl, sym, ap, subst, arith}
-use Rattle.std.specs.Prelude.{Option, Some, None, Result, Ok, Err}
+use Rattle.std.specs.Prelude.{Option, Some, None}
 use Rattle.std.specs.Option.{option_or}
 use Rattle.std.specs.List.{AllByRecursion}
 use Rattle.zw_base.proofs.Each.{all-append}
@@ -11,19 +11,11 @@ use Rattle.serial_frame.specs.declared.item.Item.TheVariants.{Good, Refused as r
 use Rattle.serial_frame.specs.declared.unit.Unit.TheVariants.{Ack, Nak, Can, Framed}
 use Rattle.serial_link.specs.State.{Side, tick_side}
 use Rattle.serial_link.specs.declared.turn.Turn.{Turn}
-use Rattle.chip_functions.specs.declared.fault.BodyFault.{BodyFault}
-use Rattle.chip_functions.specs.declared.notice.Notice.{Notice}
-use Rattle.chip_functions.specs.declared.notice.Notice.TheVariants.{ApplicationCommandHandler, SendData, ApplicationUpdate, AddNode}
-use Rattle.chip_functions.specs.declared.notice.Update.{Update}
-use Rattle.chip_functions.specs.declared.notice.Update.TheVariants.{Received, RequestFailed}
-use Rattle.chip_functions.specs.declared.response.Response.{Response}
 use Rattle.chip_functions.specs.Field.{IsNode}
-use Rattle.chip_functions.specs.Notice.{notice_of}
-use Rattle.chip_functions.specs.Response.{response_of}
 use Rattle.s0_session.specs.Nonces.{live_of}
 use Rattle.host_heard.specs.Telling.{heard_at}
 use Rattle.host_requests.specs.Events as requests
-use Rattle.host_requests.specs.Events.{RequestsEvent, interviewed_by, task_begun}
+use Rattle.host_requests.specs.Events.{RequestsEvent, task_begun}
 use Rattle.host_requests.specs.Events.RequestsEvent.{Pushes, PushesInterview, PushesProbe, BeginsAbort, BeginsPrefix, BeginsAttempt, IsSent, Fails, Responds, CallsBack, Updates, Ticks, Forgets}
 use Rattle.host_requests.specs.Next.{at_callback, at_response, at_sent, at_tick, at_update, next_from, went_on}
 use Rattle.host_requests.specs.Facts.{ArePaired, due_second, first_of}
@@ -52,9 +44,9 @@ use Rattle.supervision.specs.Host.{open_session}
 use Rattle.proof_messages.specs.host_model.After.{after, failing_if, finishing, gives_up, giving, is_busy, is_full, is_held, line_ticked, node_does, offering, queues_if_room, request_does, requests_do}
 use Rattle.proof_messages.specs.host_model.Events.{HostEvent, Accepts, Cancels, Joins, Queues, Queues_interview, Queues_probe, Hears, Requests_do, Interviews, Interview_unkept, Unreads, Is_unkept, Reports_old, Works, Finishes, Offers, Gives, Spends, Spends_unread, Takes_nonce, Notifies, Resends, Hears_value, Has_no_room, Line_ticks, Node_ticks, Queues_no_more, Drops_no_more, Submits_abort, Submits_front, Starts, Gives_text, Gives_segment, Begins, Begin_unkept, IsOwn}
 use Rattle.proof_messages.specs.host_model.May.{IsStart, May}
-use Rattle.proof_messages.specs.host_model.Taking.{FrameEvents, InterviewEvents, IsFollowed, NoticeEvents, ResponseEvents, told_if}
-use Rattle.proof_waking.proofs.Always.{either, none, one}
-use Rattle.proof_waking.proofs.Followed.{FollowersAre, payload_all}
+use Rattle.proof_messages.specs.host_model.Taking.{FrameEvents, IsFollowed, told_if}
+use Rattle.proof_waking.proofs.Always.{none, one}
+use Rattle.proof_waking.proofs.Followed.{FollowersAre, payload_all, FramesAre, followers_all}
 use Rattle.proof_requests.specs.Carrying.{CarriesSo}
 use Rattle.proof_requests.specs.Walking.{AddsWell, AreRead, CanBeRead, IsOfChip}
 use Rattle.proof_requests.proofs.Carried.{open_none}
@@ -239,27 +231,20 @@ followers_add n is = record {
   no_room = λ property. tt;
 }
 
-response_adds : (read : Result Response BodyFault) (events : List HostEvent) → ResponseEvents read events → AllByRecursion AddsWell events
-response_adds (Ok response) events is = one AddsWell _ events tt is
-response_adds (Err fault) events is = none AddsWell events is
-
-interview_adds : (update : Update) (brought : Option ℕ) (events : List HostEvent) → InterviewEvents update brought events → AllByRecursion AddsWell events
-interview_adds (Received n basic generic specific classes) (Some capability) events is = either AddsWell _ _ events tt tt is
-interview_adds RequestFailed (Some capability) events is = none AddsWell events is
-interview_adds (Received n basic generic specific classes) None events is = one AddsWell _ events tt is
-interview_adds RequestFailed None events is = one AddsWell _ events tt is
-
-notice_adds : (func : ℕ) (body : List ℕ) (h : HostState) (read : Result Notice BodyFault) (events : List HostEvent) → notice_of func body ≡ read → NoticeEvents h read events → AllByRecursion AddsWell events
-notice_adds func body h (Ok (ApplicationCommandHandler status source payload)) events are is =
-    payload_all AddsWell source (followers_add source (source_is func body status source payload are)) h payload (heard_at payload) events (λ tells. tt) is
-notice_adds func body h (Ok (SendData id status)) events are is = one AddsWell _ events tt is
-notice_adds func body h (Ok (ApplicationUpdate update)) events are is = interview_adds update (interviewed_by h.requests update) events is
-notice_adds func body h (Ok (AddNode id status information)) events are is = none AddsWell events is
-notice_adds func body h (Err fault) events are is = none AddsWell events is
+frames_add : FramesAre AddsWell
+frames_add = record {
+  responds = λ response. tt;
+  calls = λ id status. tt;
+  updates = λ update. tt;
+  interviewed = λ n listens classes update. tt;
+  unkept = λ n update. tt;
+}
 
 frame_adds : (h : HostState) (k : Kind) (func : ℕ) (body : List ℕ) (events : List HostEvent) → FrameEvents h k func body events → AllByRecursion AddsWell events
-frame_adds h kind.Response func body events is = response_adds (response_of func body) events is
-frame_adds h kind.Request func body events is = notice_adds func body h (notice_of func body) events refl is
+frame_adds h k func body events is =
+    followers_all AddsWell frames_add h k func body 0 events
+    (λ rx_status source payload brings read of.
+    payload_all AddsWell source (followers_add source (source_is func body rx_status source payload read)) h payload (heard_at payload) events (λ tells. tt) of) is
 
 told_adds : (b : Bool) (event : RequestsEvent) (events : List HostEvent) → IsOfChip event → events ≡ told_if b event → AllByRecursion AddsWell events
 told_adds true event events told is = one AddsWell _ events told is

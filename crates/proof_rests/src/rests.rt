@@ -21,9 +21,10 @@ use proof_nonces::{
     lines_are_a_hosts, tasks_end_in_order, what_is_heard_is_a_hosts,
 };
 
-/// In any run of a host alone, over a keeper that tells its records and has none at first, the Sets, Gets and interviews that lines asked for are counted: at each line and each tick before which the last request was over,
-/// no abort is owed, and each Set, Get and interview that lines asked for since the host started has ended; of a node for which the keeper has failed since
-/// then an interview may be left without an end. Where the run ends at rest, with no tick of its line to come, so it is in the end.
+/// In any run of a host alone, over a keeper that tells its records and has none at first, the Sets, Gets and interviews that lines asked for
+/// are counted: at each line and each tick before which the last request was over, no abort is owed, and each Set, Get and interview that lines asked for since
+/// the host started has ended; of a node for which the keeper has failed since then an interview may be left without an end. Where the run ends at rest, with
+/// no tick of its line to come, so it is in the end.
 pub fn hosts_leave_nothing()
     ensures known { (keys : Keys) → AlongRuns keys KnowsAll }
     ensures told { (keys : Keys) (told : List Entry) → Told (first_alone keys (Some [])) told → LeavesNothing false told }

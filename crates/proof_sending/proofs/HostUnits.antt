@@ -20,6 +20,8 @@ use Rattle.proof_air.specs.law_transcript.Lists.{EachAfter}
 use Rattle.proof_air.specs.law_transcript.Payloads.{IsDue, MayRequest}
 use Rattle.proof_air.specs.law_transcript.Units.{sending_in}
 use Rattle.proof_line.proofs.Lists.{each-anywhere, each-append}
+use Rattle.proof_line.proofs.Hosting.{noted_units}
+pub use Rattle.proof_line.proofs.Hosting.{NoUnit}
 use Rattle.host_model.specs.State.{HostState, command_at, node_of}
 use Rattle.host_model.specs.Sessions.{open_command, settings_with}
 use Rattle.host_model.specs.Ends.{attempt_entries}
@@ -43,9 +45,6 @@ use Rattle.proof_air.proofs.Machines.{UnitsAre, answers_keep, outs_keep}
 use Rattle.proof_spoken.proofs.Entered.{IsMark, told_by_marks}
 use Rattle.proof_sending.proofs.OutsideUnits.{AreNotWritten, IsNotWritten, note_not, number_not, mark_not}
 
-abbrev pub NoUnit : LineUnit → Type 0
-NoUnit unit = ⊥
-
 -- no data frame
 abbrev pub IsShort : LineUnit → Type 0
 IsShort (Framed f) = ⊥
@@ -57,13 +56,9 @@ FirstAlone [] = Unit {0}
 FirstAlone (Write unit ∷ puts) = UnitsAre NoUnit puts
 FirstAlone (Note note ∷ puts) = UnitsAre NoUnit puts
 
-notes_alone : (es : List Entry) → UnitsAre NoUnit (noted es)
-notes_alone [] = tt
-notes_alone (e ∷ es) = notes_alone es
-
 noted_first : (es : List Entry) → FirstAlone (noted es)
 noted_first [] = tt
-noted_first (e ∷ es) = notes_alone es
+noted_first (e ∷ es) = noted_units NoUnit es
 
 answer_first : (item : Item) → FirstAlone (answer_to item)
 answer_first (Good Ack) = tt
@@ -78,13 +73,13 @@ answer_first (Refused Aborted) = tt
 
 copy_first : (copy : Option FrameParts) (es : List Entry) → FirstAlone (copy_out copy ++ noted es)
 copy_first None es = noted_first es
-copy_first (Some f) es = notes_alone es
+copy_first (Some f) es = noted_units NoUnit es
 
 pub event_first : (h : HostState) (event : HostEvent) → FirstAlone (outs h event)
 event_first h (Hears item) = answer_first item
 event_first h (Requests_do event moment) = noted_first (request_entries h event)
 event_first h (Finishes n session id command status wake_request) =
-    notes_alone (stored_entries n (settings_with status (command_at h.commands command)) ++ held_entries n (is_held h n wake_request))
+    noted_units NoUnit (stored_entries n (settings_with status (command_at h.commands command)) ++ held_entries n (is_held h n wake_request))
 event_first h (Offers n) = noted_first (dropped_if (is_full h) n)
 event_first h (Gives n drawn) = noted_first (dropped_if (is_full h) n)
 event_first h (Resends n payload) = noted_first (dropped_if (is_full h) n)

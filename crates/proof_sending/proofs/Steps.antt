@@ -2,10 +2,6 @@
 use Rattle.proof_air.specs.law_transcript.Nodes.{always}
 use Rattle.std.proofs.Common.{◌≡◌, ℕ, ◌&&◌, not, Bool, true, false, if◌then◌else◌, inl, inr, List, [], ◌∷◌, ◌++◌, refl, sym, subst, ◌∙◌}
 use Rattle.std.specs.List.{AllByRecursion}
-use Rattle.serial_frame.specs.declared.item.Item.{Item}
-use Rattle.serial_frame.specs.declared.item.Item.TheVariants.{Good, Refused}
-use Rattle.serial_frame.specs.declared.item.Refusal.TheVariants.{Stray, BadLength, BadSum, BadKind, Aborted}
-use Rattle.serial_frame.specs.declared.unit.Unit.TheVariants.{Ack, Nak, Can, Framed}
 use Rattle.s0_crypto.specs.Sealing.{keys_of}
 use Rattle.zw_text.specs.declared.entry.Entry.{Entry}
 use Rattle.zw_text.specs.declared.entry.Entry.TheVariants as entry
@@ -18,15 +14,12 @@ use Rattle.host_heard.specs.Telling.{heard_at}
 use Rattle.host_heard.specs.declared.told.Told.{Told}
 use Rattle.host_heard.specs.declared.told.Told.TheVariants.{NonceGet, NonceReport}
 use Rattle.host_requests.specs.Events.{RequestsEvent}
-use Rattle.host_node.specs.Steps.{tick_end}
-use Rattle.host_model.specs.State.{HostState, command_at, node_of}
-use Rattle.host_model.specs.Ends.{attempt_entries}
-use Rattle.host_model.specs.Sessions.{open_command, settings_with}
-use Rattle.host_model.specs.After.{after, is_full, is_held}
+use Rattle.host_model.specs.State.{HostState}
+use Rattle.host_model.specs.After.{after}
 use Rattle.host_model.specs.Did.{outs_all}
 use Rattle.host_model.specs.May.{May as MayHost}
-use Rattle.host_model.specs.Events.{HostEvent, Accepts, Cancels, Queues, Hears, Requests_do, Finishes, Offers, Gives, Takes_nonce, Resends, Line_ticks, Node_ticks, Submits_abort, Submits_front, Starts, Gives_text, Gives_segment, IsOwn}
-use Rattle.host_model.specs.Outs.{answer_to, answers, dropped_if, held_entries, noted, outs, request_entries, stored_entries, Silent}
+use Rattle.host_model.specs.Events.{HostEvent, Accepts, Cancels, Queues, Hears, Requests_do, Offers, Gives, Takes_nonce, Line_ticks, Submits_abort, Submits_front, Starts, Gives_text, Gives_segment, IsOwn}
+use Rattle.host_model.specs.Outs.{answers, outs, Silent}
 use Rattle.host_model.specs.declared.out.HostOut.{HostOut}
 use Rattle.host_model.specs.declared.out.HostOut.TheVariants.{Write, Note}
 use Rattle.outside_model.specs.State.{OuterState}
@@ -35,6 +28,7 @@ use Rattle.outside_model.specs.Did.{entries_all as entries_all_outside}
 use Rattle.proof_air.specs.world_model.State.{Machine, host_does, host_entries}
 use Rattle.proof_air.specs.world_model.Events.{Event, Outside_does, Host_does, Host_takes, Decoder_ticks, Refuses, Shows_values, Restarts, fed, happens, entries, notes, May}
 use Rattle.proof_spoken.proofs.Entered.{IsMark}
+use Rattle.proof_line.proofs.Hosting.{MayWrite, outs_write, units-append}
 use Rattle.proof_line.proofs.Lists.{each-append}
 use Rattle.proof_spoken.proofs.Plain.{IsPlain, own_plain}
 use Rattle.proof_air.specs.proof_walk.Outside.{IsHostNote, IsOfAir}
@@ -121,42 +115,18 @@ keys_stay m (Restarts state) = refl
 
 -- ---- what a host writes as it judges
 
-notes_short : (es : List Entry) → UnitsAre IsShort (noted es)
-notes_short [] = tt
-notes_short (e ∷ es) = notes_short es
-
-units-append : (xs ys : List HostOut) → UnitsAre IsShort xs → UnitsAre IsShort ys → UnitsAre IsShort (xs ++ ys)
-units-append [] ys first later = later
-units-append (Write unit ∷ xs) ys first later = (first.0, units-append xs ys first.1 later)
-units-append (Note note ∷ xs) ys first later = units-append xs ys first later
-
-answer_short : (item : Item) → UnitsAre IsShort (answer_to item)
-answer_short (Good Ack) = tt
-answer_short (Good Nak) = tt
-answer_short (Good Can) = tt
-answer_short (Good (Framed f)) = (tt, tt)
-answer_short (Refused (Stray x)) = tt
-answer_short (Refused (BadLength n)) = tt
-answer_short (Refused (BadSum want got)) = (tt, tt)
-answer_short (Refused (BadKind x)) = (tt, tt)
-answer_short (Refused Aborted) = tt
+may_short : (event : HostEvent) → WritesNoFrame event → MayWrite IsShort event
+may_short (Hears item) none = (tt, tt)
+may_short Line_ticks none = absurd none
+may_short Submits_abort none = absurd none
+may_short Submits_front none = absurd none
+may_short (Starts n plan more payload) none = absurd none
+may_short (Gives_text n payload) none = absurd none
+may_short (Gives_segment n more payload) none = absurd none
+may_short event none = tt
 
 event_short : (h : HostState) (event : HostEvent) → WritesNoFrame event → UnitsAre IsShort (outs h event)
-event_short h (Hears item) none = answer_short item
-event_short h (Requests_do event moment) none = notes_short (request_entries h event)
-event_short h (Finishes n session id command status wake_request) none =
-    notes_short (stored_entries n (settings_with status (command_at h.commands command)) ++ held_entries n (is_held h n wake_request))
-event_short h (Offers n) none = notes_short (dropped_if (is_full h) n)
-event_short h (Gives n drawn) none = notes_short (dropped_if (is_full h) n)
-event_short h (Resends n payload) none = notes_short (dropped_if (is_full h) n)
-event_short h (Node_ticks n) none = notes_short (attempt_entries n (tick_end (node_of h n)) (open_command (node_of h n)))
-event_short h Line_ticks none = absurd none
-event_short h Submits_abort none = absurd none
-event_short h Submits_front none = absurd none
-event_short h (Starts n plan more payload) none = absurd none
-event_short h (Gives_text n payload) none = absurd none
-event_short h (Gives_segment n more payload) none = absurd none
-event_short h event none = tt
+event_short h event none = outs_write IsShort h event (may_short event none)
 
 -- ---- reasons
 
@@ -200,7 +170,7 @@ module _ (listing : List Entry → ℕ → List ℕ) (key : List ℕ) where
   events_short : (past : List Entry) (h : HostState) (events : List HostEvent) → HaveReasons (IsShown listing key past) (keys_of key) h events → UnitsAre IsShort (outs_all h events)
   events_short past h [] reasons = tt
   events_short past h (event ∷ events) reasons =
-      units-append (outs h event) (outs_all (after h event) events) (event_short h event reasons.0.1) (events_short past (after h event) events reasons.1)
+      units-append IsShort (outs h event) (outs_all (after h event) events) (event_short h event reasons.0.1) (events_short past (after h event) events reasons.1)
 
   -- what the host judges at it was told
   abbrev pub HearsTold : List Entry → Event → Type 0

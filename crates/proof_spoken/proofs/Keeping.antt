@@ -1,5 +1,5 @@
--- What a change of one node, of the outcome of a command and of confirmed values keeps, that each event of a host keeps, unless it accepts an order, joins a node,
--- interviews one or hears a value.
+-- What a change of one node and of the outcome of a command keeps, that each event of a host keeps, unless it accepts an order, joins a node, interviews one, hears a
+-- value or ends a command; and one that ends a command, where confirmed values keep it too.
 use Rattle.std.proofs.Common.{◌≡◌, ℕ, ◌<◌, Bool, true, false, if◌then◌else◌, List, length, Option, Some, None, inl, inr, refl, sym, ap, ◌∙◌}
 use Rattle.std.proofs.lemmas.Bool.{cases_eq, cases_lt}
 use Rattle.std.proofs.lemmas.List.{get_or-set_same, get_or-set_other, set_past}
@@ -107,15 +107,18 @@ module _ (law : LeavesRecords) where
 
 -- ---- events of a host
 
--- what stays so where nothing of it changes, from one change to the next, and at each of the three
+-- what stays so where nothing of it changes, from one change to the next, and at each of the two
 pub record Keeping (Keeps : HostState → HostState → Type 0) : Type 0 where
-  pub still : (old new : HostState) → new.nodes ≡ old.nodes → new.commands ≡ old.commands → new.store ≡ old.store → Keeps old new
+  pub still : (old new : HostState) → new.nodes ≡ old.nodes → new.commands ≡ old.commands → new.store ≡ old.store → new.keys ≡ old.keys → Keeps old new
   pub both : (a b c : HostState) → Keeps a b → Keeps b c → Keeps a c
   pub node : (h : HostState) (n : ℕ) (event : NodeEvent) → IsOfNode event → Keeps h (node_does h n event)
   pub outcome : (h : HostState) (command : ℕ) (how : Outcome) → Keeps h (record h { commands = with_outcome h.commands command how })
-  pub confirms : (h : HostState) (n : ℕ) (settings : List Setting) → Keeps h (record h { store = confirming h.store n settings })
 
--- it is none of the four
+-- and where values are confirmed
+abbrev pub Confirms : (HostState → HostState → Type 0) → Type 0
+Confirms Keeps = (h : HostState) (n : ℕ) (settings : List Setting) → Keeps h (record h { store = confirming h.store n settings })
+
+-- it is none of the first four
 abbrev pub IsCommon : HostEvent → Type 0
 IsCommon (Accepts order carriage) = ⊥
 IsCommon (Joins n) = ⊥
@@ -123,14 +126,19 @@ IsCommon (Interviews n listens classes update) = ⊥
 IsCommon (Hears_value n setting) = ⊥
 IsCommon event = Unit {0}
 
+-- nor does a command end
+abbrev pub IsStill : HostEvent → Type 0
+IsStill (Finishes n session id command status wake_request) = ⊥
+IsStill event = IsCommon event
+
 module _ (Keeps : HostState → HostState → Type 0) (rules : Keeping Keeps) where
   same : (h : HostState) → Keeps h h
-  same h = rules.still h h refl refl refl
+  same h = rules.still h h refl refl refl refl
 
   -- something happens to a node, and to what is kept nothing else
-  does : (h new : HostState) (n : ℕ) (event : NodeEvent) → IsOfNode event → new.nodes ≡ (node_does h n event).nodes → new.commands ≡ h.commands → new.store ≡ h.store → Keeps h new
-  does h new n event of nodes commands store =
-      rules.both h (node_does h n event) new (rules.node h n event of) (rules.still (node_does h n event) new nodes commands store)
+  does : (h new : HostState) (n : ℕ) (event : NodeEvent) → IsOfNode event → new.nodes ≡ (node_does h n event).nodes → new.commands ≡ h.commands → new.store ≡ h.store → new.keys ≡ h.keys → Keeps h new
+  does h new n event of nodes commands store keys =
+      rules.both h (node_does h n event) new (rules.node h n event of) (rules.still (node_does h n event) new nodes commands store keys)
 
   attempt_kept : (h : HostState) (end : AttemptEnd) (command : Option ℕ) → Keeps h (attempt_ended h end command)
   attempt_kept h NoneRan command = same h
@@ -160,7 +168,7 @@ module _ (Keeps : HostState → HostState → Type 0) (rules : Keeping Keeps) wh
 
   request_kept : (h : HostState) (event : RequestsEvent) (moment : Moment) → Keeps h (after_end_if (requests_do h event) (end_at h.requests event) moment)
   request_kept h event moment =
-      rules.both h (requests_do h event) (after_end_if (requests_do h event) (end_at h.requests event) moment) (rules.still h (requests_do h event) refl refl refl)
+      rules.both h (requests_do h event) (after_end_if (requests_do h event) (end_at h.requests event) moment) (rules.still h (requests_do h event) refl refl refl refl)
       (end_if_kept (requests_do h event) (end_at h.requests event) moment)
 
   failing_kept : (gives : Bool) (h : HostState) → Keeps h (failing_if gives h)
@@ -172,7 +180,7 @@ module _ (Keeps : HostState → HostState → Type 0) (rules : Keeping Keeps) wh
     where
       by : (full : Bool) → Keeps h (if full then h else requests_do h (request_pushes task))
       by true = same h
-      by false = rules.still h (requests_do h (request_pushes task)) refl refl refl
+      by false = rules.still h (requests_do h (request_pushes task)) refl refl refl refl
 
   offering_kept : (h : HostState) (n : ℕ) (live : Option (List ℕ)) → Keeps h (offering h n live)
   offering_kept h n None = same h
@@ -182,45 +190,49 @@ module _ (Keeps : HostState → HostState → Type 0) (rules : Keeping Keeps) wh
   holding_kept h n true = rules.node h n node_holds tt
   holding_kept h n false = same h
 
-  finishing_kept : (h : HostState) (n id command : ℕ) (status : FinalStatus) → Keeps h (finishing h n id command status)
-  finishing_kept h n id command status =
-      let told : HostState = node_does h n (node_reports id (status_byte status)) in
-      let ended : HostState = record told { commands = with_outcome h.commands command (outcome_of status) } in
-      rules.both h told (finishing h n id command status) (rules.node h n (node_reports id (status_byte status)) tt)
-      (rules.both told ended (finishing h n id command status) (rules.outcome told command (outcome_of status)) (rules.confirms ended n (settings_with status (command_at h.commands command))))
-
-  pub each_kept : (h : HostState) (event : HostEvent) → IsCommon event → Keeps h (after h event)
-  each_kept h (Accepts order carriage) common = absurd common
-  each_kept h (Joins n) common = absurd common
-  each_kept h (Interviews n listens classes update) common = absurd common
-  each_kept h (Hears_value n setting) common = absurd common
-  each_kept h (Cancels command) common =
+  pub each_still : (h : HostState) (event : HostEvent) → IsStill event → Keeps h (after h event)
+  each_still h (Accepts order carriage) still = absurd still
+  each_still h (Joins n) still = absurd still
+  each_still h (Interviews n listens classes update) still = absurd still
+  each_still h (Hears_value n setting) still = absurd still
+  each_still h (Cancels command) still =
       let n = node_for h command in
       rules.both h (node_does h n (node_cancels command)) (after h (Cancels command)) (rules.node h n (node_cancels command) tt)
       (rules.outcome (node_does h n (node_cancels command)) command Cancelled)
-  each_kept h (Begins n session command) common =
+  each_still h (Begins n session command) still =
       rules.both h (node_does h n node_begins) (after h (Begins n session command)) (rules.node h n node_begins tt) (rules.outcome (node_does h n node_begins) command Begun)
-  each_kept h (Requests_do event moment) common = request_kept h event moment
-  each_kept h (Works n id) common = rules.node h n (node_reports id 1) tt
-  each_kept h (Finishes n session id command status wake_request) common =
-      let done = finishing h n id command status in
-      rules.both h done (after h (Finishes n session id command status wake_request)) (finishing_kept h n id command status) (holding_kept done n (is_held h n wake_request))
-  each_kept h (Offers n) common = offering_kept h n (live_of h.nonces n)
-  each_kept h (Gives n drawn) common =
+  each_still h (Requests_do event moment) still = request_kept h event moment
+  each_still h (Works n id) still = rules.node h n (node_reports id 1) tt
+  each_still h (Finishes n session id command status wake_request) still = absurd still
+  each_still h (Offers n) still = offering_kept h n (live_of h.nonces n)
+  each_still h (Gives n drawn) still =
       let given = giving h n drawn in
-      rules.both h given (after h (Gives n drawn)) (rules.still h given refl refl refl) (offering_kept given n (live_of given.nonces n))
-  each_kept h (Takes_nonce n seen text) common = rules.node h n (node_takes_nonce seen text) tt
-  each_kept h (Notifies n) common = rules.node h n node_notifies tt
-  each_kept h (Resends n payload) common = task_queued h (Segment n payload)
-  each_kept h Line_ticks common =
-      rules.both h (line_ticked h) (after h Line_ticks) (rules.still h (line_ticked h) refl refl refl) (failing_kept (gives_up h.side.turn (tick_side h.side).turn) (line_ticked h))
-  each_kept h (Node_ticks n) common =
+      rules.both h given (after h (Gives n drawn)) (rules.still h given refl refl refl refl) (offering_kept given n (live_of given.nonces n))
+  each_still h (Takes_nonce n seen text) still = rules.node h n (node_takes_nonce seen text) tt
+  each_still h (Notifies n) still = rules.node h n node_notifies tt
+  each_still h (Resends n payload) still = task_queued h (Segment n payload)
+  each_still h Line_ticks still =
+      rules.both h (line_ticked h) (after h Line_ticks) (rules.still h (line_ticked h) refl refl refl refl) (failing_kept (gives_up h.side.turn (tick_side h.side).turn) (line_ticked h))
+  each_still h (Node_ticks n) still =
       let ticked = node_does h n node_ticks in
       rules.both h ticked (after h (Node_ticks n)) (rules.node h n node_ticks tt) (attempt_kept ticked (tick_end (node_of h n)) (open_command (node_of h n)))
-  each_kept h (Queues_no_more n) common = does h (after h (Queues_no_more n)) n node_queues_no_more tt refl refl refl
-  each_kept h (Drops_no_more n) common = rules.node h n node_drops_no_more tt
-  each_kept h (Starts n plan more payload) common = does h (after h (Starts n plan more payload)) n (node_starts plan) tt refl refl refl
-  each_kept h (Gives_text n payload) common = does h (after h (Gives_text n payload)) n node_gives_text tt refl refl refl
-  each_kept h (Gives_segment n more payload) common = does h (after h (Gives_segment n more payload)) n node_gives_segment tt refl refl refl
-  each_kept h (Begin_unkept n) common = rules.node h n node_blocks tt
-  each_kept h event common = rules.still h (after h event) refl refl refl
+  each_still h (Queues_no_more n) still = does h (after h (Queues_no_more n)) n node_queues_no_more tt refl refl refl refl
+  each_still h (Drops_no_more n) still = rules.node h n node_drops_no_more tt
+  each_still h (Starts n plan more payload) still = does h (after h (Starts n plan more payload)) n (node_starts plan) tt refl refl refl refl
+  each_still h (Gives_text n payload) still = does h (after h (Gives_text n payload)) n node_gives_text tt refl refl refl refl
+  each_still h (Gives_segment n more payload) still = does h (after h (Gives_segment n more payload)) n node_gives_segment tt refl refl refl refl
+  each_still h (Begin_unkept n) still = rules.node h n node_blocks tt
+  each_still h event still = rules.still h (after h event) refl refl refl refl
+
+  finishing_kept : Confirms Keeps → (h : HostState) (n id command : ℕ) (status : FinalStatus) → Keeps h (finishing h n id command status)
+  finishing_kept confirms h n id command status =
+      let told : HostState = node_does h n (node_reports id (status_byte status)) in
+      let ended : HostState = record told { commands = with_outcome h.commands command (outcome_of status) } in
+      rules.both h told (finishing h n id command status) (rules.node h n (node_reports id (status_byte status)) tt)
+      (rules.both told ended (finishing h n id command status) (rules.outcome told command (outcome_of status)) (confirms ended n (settings_with status (command_at h.commands command))))
+
+  pub each_kept : Confirms Keeps → (h : HostState) (event : HostEvent) → IsCommon event → Keeps h (after h event)
+  each_kept confirms h (Finishes n session id command status wake_request) common =
+      let done = finishing h n id command status in
+      rules.both h done (after h (Finishes n session id command status wake_request)) (finishing_kept confirms h n id command status) (holding_kept done n (is_held h n wake_request))
+  each_kept confirms h event common = each_still h event common

@@ -48,11 +48,10 @@ Keeps old new = SameOrders old.commands new.commands
 
 keeping : Keeping Keeps
 keeping = record {
-  still = λ old new nodes commands store. by_table old.commands new.commands commands;
+  still = λ old new nodes commands store keys. by_table old.commands new.commands commands;
   both = λ a b c. then_same a.commands b.commands c.commands;
   node = λ h n event of. same_orders h.commands;
   outcome = λ h command how. outcome_same h.commands command how;
-  confirms = λ h n settings. same_orders h.commands;
 }
 
 pub event_kept : (h : HostState) (event : HostEvent) → IsNoOrder event → Keeps h (after h event)
@@ -60,7 +59,7 @@ event_kept h (Accepts order carriage) none = absurd none
 event_kept h (Joins n) none = same_orders h.commands
 event_kept h (Interviews n listens classes update) none = same_orders h.commands
 event_kept h (Hears_value n setting) none = same_orders h.commands
-event_kept h event none = each_kept Keeps keeping h event tt
+event_kept h event none = each_kept Keeps keeping (λ h n settings. same_orders h.commands) h event tt
 
 -- ---- a host that starts again
 

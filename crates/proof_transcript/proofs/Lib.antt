@@ -64,6 +64,7 @@ pub use Rattle.proof_air.proofs.Lists
 pub use Rattle.proof_spoken.proofs.Always
 pub use Rattle.proof_spoken.proofs.Heard as proof_spoken_Heard
 pub use Rattle.proof_spoken.proofs.Classes
+pub use Rattle.proof_spoken.proofs.Keeping
 pub use Rattle.proof_spoken.proofs.Hosts as proof_spoken_Hosts
 pub use Rattle.proof_spoken.proofs.Orders
 pub use Rattle.proof_spoken.proofs.HeldRecords

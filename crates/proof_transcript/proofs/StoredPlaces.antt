@@ -10,24 +10,9 @@ use Rattle.zw_base.specs.declared.order.Order.{Order}
 use Rattle.zw_base.specs.declared.property.Property.{Property}
 use Rattle.zw_base.specs.declared.property.Setting.{Setting}
 use Rattle.zw_text.specs.declared.entry.Outcome.TheVariants.{Waiting}
-use Rattle.serial_link.specs.State.{tick_side}
 use Rattle.supervision.specs.Host.{command_at as command_of_session}
-use Rattle.s0_session.specs.Nonces.{live_of}
 use Rattle.value_store.specs.declared.stored.Stored.{Stored}
 use Rattle.value_store.specs.Values.{Values, IsReserved, is_among, stored_of}
-use Rattle.host_requests.specs.declared.end.End.{End}
-use Rattle.host_requests.specs.declared.end.How.{How}
-use Rattle.host_requests.specs.declared.task.Purpose.{Purpose}
-use Rattle.host_requests.specs.declared.task.Purpose.TheVariants.{Housekeeping, Attempt, Abort}
-use Rattle.host_requests.specs.declared.task.Task.{Task}
-use Rattle.host_requests.specs.declared.task.Task.TheVariants.{NoMore}
-use Rattle.host_requests.specs.Events.{end_at}
-use Rattle.host_requests.specs.Events.RequestsEvent.{Fails as request_fails}
-use Rattle.host_node.specs.declared.attempt.Moment.{Moment}
-use Rattle.host_node.specs.declared.attempt.Moment.TheVariants.{BeforeItsTick}
-use Rattle.host_node.specs.declared.attempt.AttemptEnd.{AttemptEnd}
-use Rattle.host_node.specs.declared.attempt.AttemptEnd.TheVariants.{NoneRan, Again, Unanswered}
-use Rattle.host_node.specs.Steps.{attempt_end, tick_end}
 use Rattle.host_node.specs.TableState.{node_of}
 use Rattle.host_keep.specs.declared.final_status.FinalStatus.{FinalStatus}
 use Rattle.host_keep.specs.declared.final_status.FinalStatus.TheVariants as final
@@ -35,16 +20,16 @@ use Rattle.host_keep.specs.Kept.{Kept, Taken, properties_for}
 use Rattle.host_orders.specs.declared.carriage.Carriage.{Carriage}
 use Rattle.host_orders.specs.Settings.{properties_of, settings}
 use Rattle.proof_air.specs.host_model.State.{HostState, Command, command_at}
-use Rattle.proof_air.specs.host_model.Sessions.{open_command, settings_with}
-use Rattle.proof_air.specs.host_model.Ends.{PartEnd, Good, Passed_over, Bad, part_end, after_part, after_task, after_end, after_end_if, attempt_ended}
-use Rattle.proof_air.specs.host_model.After.{after, confirming, failing_if, gives_up, giving, hearing, is_full, is_held, finishing, line_ticked, offering, requests_do}
-use Rattle.proof_air.specs.host_model.Events.{HostEvent, Accepts, Finishes, Gives, Hears_value, Line_ticks, Node_ticks, Offers, Requests_do, Resends}
+use Rattle.proof_air.specs.host_model.Sessions.{settings_with}
+use Rattle.proof_air.specs.host_model.After.{after, confirming, hearing, is_held, finishing}
+use Rattle.proof_air.specs.host_model.Events.{HostEvent, Accepts, Finishes, Hears_value, Interviews, Joins}
 use Rattle.proof_air.specs.host_model.Facts.{HostFacts, IsCommandOf}
 use Rattle.proof_air.specs.host_model.May.{May}
 use Rattle.proof_air.specs.host_model.Holding.{HoldsAlone, taken_as}
 use Rattle.proof_air.proofs.host_model_Values.{get-one, heard-confirming, reserved-reserving, stored-one, stored-reserving}
 use Rattle.proof_air.specs.proof_host.Tables.{taken_at, taken_by}
 use Rattle.proof_spoken.specs.proof_once.Tied.{KeepsOrders}
+use Rattle.proof_spoken.proofs.Keeping.{Keeping, each_still}
 use Rattle.proof_spoken.proofs.Orders.{push_is}
 use Rattle.supervision.proofs.OnceLemmas.{All-slice_get as at_place}
 use Rattle.proof_air.proofs.Effects.{held_store}
@@ -193,41 +178,16 @@ accepted h order carriage keeps no_more n p there =
 
 -- ---- other events leave the store
 
-attempt_store : (h : HostState) (end : AttemptEnd) (command : Option ℕ) → (attempt_ended h end command).store ≡ h.store
-attempt_store h NoneRan command = refl
-attempt_store h Again command = refl
-attempt_store h (Unanswered fell) None = refl
-attempt_store h (Unanswered fell) (Some command) = refl
+abbrev SameStore : HostState → HostState → Type 0
+SameStore old new = new.store ≡ old.store
 
-part_store : (h : HostState) (n : ℕ) (end : PartEnd) (moment : Moment) → (after_part h n end moment).store ≡ h.store
-part_store h n Good moment = refl
-part_store h n Passed_over moment = refl
-part_store h n Bad moment = attempt_store _ (attempt_end (node_of h.nodes n)) (open_command (node_of h.nodes n))
-
-task_store : (h : HostState) (task : Task) → (after_task h task).store ≡ h.store
-task_store h (NoMore n) = refl
-task_store h _ = refl
-
-end_store : (h : HostState) (purpose : Purpose) (how : How) (moment : Moment) → (after_end h (record { purpose = purpose; how = how }) moment).store ≡ h.store
-end_store h (Attempt n more payload) how moment = part_store h n (part_end more how) moment
-end_store h (Housekeeping task) how moment = task_store h task
-end_store h Abort how moment = refl
-
-end_if_store : (h : HostState) (end : Option End) (moment : Moment) → (after_end_if h end moment).store ≡ h.store
-end_if_store h None moment = refl
-end_if_store h (Some end) moment = end_store h end.purpose end.how moment
-
-failing_store : (gives : Bool) (h : HostState) → (failing_if gives h).store ≡ h.store
-failing_store true h = end_if_store (requests_do h request_fails) (end_at h.requests request_fails) BeforeItsTick
-failing_store false h = refl
-
-if_store : (b : Bool) (one other : HostState) (store : Values) → one.store ≡ store → other.store ≡ store → (if b then one else other).store ≡ store
-if_store true one other store is so = is
-if_store false one other store is so = so
-
-offering_store : (h : HostState) (n : ℕ) (live : Option (List ℕ)) → (offering h n live).store ≡ h.store
-offering_store h n None = refl
-offering_store h n (Some nonce) = if_store (is_full h) h _ h.store refl refl
+keeping : Keeping SameStore
+keeping = record {
+  still = λ old new nodes commands store keys. store;
+  both = λ a b c first later. later ∙ first;
+  node = λ h n event of. refl;
+  outcome = λ h command how. refl;
+}
 
 -- it neither accepts an order nor ends a session, and hears no value
 abbrev IsStill : HostEvent → Type 0
@@ -240,13 +200,9 @@ event_store : (h : HostState) (event : HostEvent) → IsStill event → (after h
 event_store h (Accepts order carriage) is = absurd is
 event_store h (Finishes n session id command status wake_request) is = absurd is
 event_store h (Hears_value n setting) is = absurd is
-event_store h (Requests_do event moment) is = end_if_store (requests_do h event) (end_at h.requests event) moment
-event_store h (Offers n) is = offering_store h n (live_of h.nonces n)
-event_store h (Gives n drawn) is = offering_store (giving h n drawn) n (live_of (giving h n drawn).nonces n)
-event_store h (Resends n payload) is = if_store (is_full h) h _ h.store refl refl
-event_store h Line_ticks is = failing_store (gives_up h.side.turn (tick_side h.side).turn) (line_ticked h)
-event_store h (Node_ticks n) is = attempt_store _ (tick_end (node_of h.nodes n)) (open_command (node_of h.nodes n))
-event_store h event is = refl
+event_store h (Joins n) is = refl
+event_store h (Interviews n listens classes update) is = refl
+event_store h event is = each_still SameStore keeping h event tt
 
 -- ---- any event
 

@@ -19,6 +19,7 @@ use Rattle.chip_functions.specs.declared.notice.Update.{Update}
 use Rattle.chip_functions.specs.declared.notice.Update.TheVariants.{Received, RequestFailed}
 use Rattle.chip_functions.specs.Response.{response_of}
 use Rattle.chip_functions.specs.Notice.{notice_of}
+use Rattle.chip_functions.specs.declared.notice.TransmitStatus.{TransmitStatus}
 use Rattle.class_info.specs.declared.report_status.ReportStatus.{ReportStatus}
 use Rattle.class_info.specs.Values.{status_byte}
 use Rattle.supervision.specs.Host.{told_of}
@@ -35,6 +36,8 @@ use Rattle.host_heard.specs.declared.payload.Heard.TheVariants.{Messages, Sealed
 use Rattle.host_heard.specs.declared.told.Told.{Told}
 use Rattle.host_heard.specs.declared.told.Told.TheVariants.{Report, NonceGet, NonceReport, Notification, SegmentRequest, Values}
 use Rattle.host_requests.specs.Events.{interviewed_by}
+use Rattle.host_requests.specs.Events.RequestsEvent.{CallsBack, Responds, Updates}
+use Rattle.host_node.specs.declared.attempt.Moment.TheVariants.{BetweenTicks}
 use Rattle.proof_alone.specs.host_model.State.{HostState, node_of}
 use Rattle.proof_alone.specs.host_model.After.{after}
 use Rattle.proof_alone.specs.host_model.Did.{after_all}
@@ -197,34 +200,67 @@ own_payload unit source payload is tells =
     ∙ ap (λ (b : Bool). may_wake_by ((if b then payload ∷ [] else []) ++ [])) (eq-eqb source source refl)
     ∙ ap (λ (b : Bool). b || false) tells
 
-response_all : (unit : List ℕ) (read : Result Response BodyFault) (events : List HostEvent) → ResponseEvents read events → AllByRecursion (MayFollow unit) events
-response_all unit (Ok response) events is = one (MayFollow unit) _ events tt is
-response_all unit (Err fault) events is = none (MayFollow unit) events is
+-- of what the request under way hears of a frame, and of the end of an interview
+pub record FramesAre (Is : HostEvent → Type 0) : Type 0 where
+  pub responds : (response : Response) → Is (Requests_do (Responds response) BetweenTicks)
+  pub calls : (id : ℕ) (status : TransmitStatus) → Is (Requests_do (CallsBack id status) BetweenTicks)
+  pub updates : (update : Update) → Is (Requests_do (Updates update) BetweenTicks)
+  pub interviewed : (n : ℕ) (listens : Bool) (classes : List ℕ) (update : Update) → Is (Interviews n listens classes update)
+  pub unkept : (n : ℕ) (update : Update) → Is (Interview_unkept n update)
 
-interview_all : (unit : List ℕ) (update : Update) (brought : Option ℕ) (events : List HostEvent) → InterviewEvents update brought events → AllByRecursion (MayFollow unit) events
-interview_all unit (Received n basic generic specific classes) (Some capability) events is =
-    either (MayFollow unit) (Interviews n (says_listens capability) classes (Received n basic generic specific classes)) (Interview_unkept n (Received n basic generic specific classes)) events tt tt is
-interview_all unit RequestFailed (Some capability) events is = none (MayFollow unit) events is
-interview_all unit (Received n basic generic specific classes) None events is = one (MayFollow unit) _ events tt is
-interview_all unit RequestFailed None events is = one (MayFollow unit) _ events tt is
+-- and of what a payload that it brings asks for
+module _ (Is : HostEvent → Type 0) (are : FramesAre Is) where
+  response_all : (read : Result Response BodyFault) (events : List HostEvent) → ResponseEvents read events → AllByRecursion Is events
+  response_all (Ok response) events is = one Is (Requests_do (Responds response) BetweenTicks) events (are.responds response) is
+  response_all (Err fault) events is = none Is events is
 
-notice_all : (unit : List ℕ) (h : HostState) (read : Result Notice BodyFault) (events : List HostEvent) → bringing_in unit ≡ brought_of read → NoticeEvents h read events
-    → AllByRecursion (MayFollow unit) events
-notice_all unit h (Ok (ApplicationCommandHandler rx_status source payload)) events brings is =
-    payload_all (MayFollow unit) source (may_follow unit source) h payload (heard_at payload) events (own_payload unit source payload brings) is
-notice_all unit h (Ok (SendData callback_id status)) events brings is = one (MayFollow unit) _ events tt is
-notice_all unit h (Ok (ApplicationUpdate update)) events brings is = interview_all unit update (interviewed_by h.requests update) events is
-notice_all unit h (Ok (AddNode callback_id status information)) events brings is = none (MayFollow unit) events is
-notice_all unit h (Err fault) events brings is = none (MayFollow unit) events is
+  pub interview_all : (update : Update) (brought : Option ℕ) (events : List HostEvent) → InterviewEvents update brought events → AllByRecursion Is events
+  interview_all (Received n basic generic specific classes) (Some capability) events is =
+      let update : Update = Received n basic generic specific classes in
+      either Is (Interviews n (says_listens capability) classes update) (Interview_unkept n update) events (are.interviewed n (says_listens capability) classes update) (are.unkept n update) is
+  interview_all RequestFailed (Some capability) events is = none Is events is
+  interview_all (Received n basic generic specific classes) None events is =
+      let update : Update = Received n basic generic specific classes in one Is (Requests_do (Updates update) BetweenTicks) events (are.updates update) is
+  interview_all RequestFailed None events is = one Is (Requests_do (Updates RequestFailed) BetweenTicks) events (are.updates RequestFailed) is
 
-kind_all : (h : HostState) (k : Kind) (func : ℕ) (body : List ℕ) (sum : ℕ) (events : List HostEvent) → FrameEvents h k func body events
-    → AllByRecursion (MayFollow (framed (kind_code k ∷ func ∷ body) sum)) events
-kind_all h kind.Response func body sum events is = response_all (framed (1 ∷ func ∷ body) sum) (response_of func body) events is
-kind_all h kind.Request func body sum events is = notice_all (framed (0 ∷ func ∷ body) sum) h (notice_of func body) events (text_brings func body sum) is
+  abbrev AllOf : HostState → List HostEvent → ℕ → List ℕ → Type 0
+  AllOf h events source payload = PayloadEvents h source payload (heard_at payload) events → AllByRecursion Is events
+
+  notice_all : (h : HostState) (func : ℕ) (body : List ℕ) (read : Result Notice BodyFault) (events : List HostEvent) → notice_of func body ≡ read
+      → ((rx_status source : ℕ) (payload : List ℕ) → notice_of func body ≡ Ok (ApplicationCommandHandler rx_status source payload) → AllOf h events source payload)
+      → NoticeEvents h read events → AllByRecursion Is events
+  notice_all h func body (Ok (ApplicationCommandHandler rx_status source payload)) events read payloads is = payloads rx_status source payload read is
+  notice_all h func body (Ok (SendData callback_id status)) events read payloads is = one Is (Requests_do (CallsBack callback_id status) BetweenTicks) events (are.calls callback_id status) is
+  notice_all h func body (Ok (ApplicationUpdate update)) events read payloads is = interview_all update (interviewed_by h.requests update) events is
+  notice_all h func body (Ok (AddNode callback_id status information)) events read payloads is = none Is events is
+  notice_all h func body (Err fault) events read payloads is = none Is events is
+
+  -- so of all that follows it
+  pub followers_all : (h : HostState) (k : Kind) (func : ℕ) (body : List ℕ) (sum : ℕ) (events : List HostEvent)
+      → ((rx_status source : ℕ) (payload : List ℕ) → bringing_in (framed (kind_code k ∷ func ∷ body) sum) ≡ record { node = source; payload = payload } ∷ []
+      → notice_of func body ≡ Ok (ApplicationCommandHandler rx_status source payload) → AllOf h events source payload)
+      → FrameEvents h k func body events → AllByRecursion Is events
+  followers_all h kind.Response func body sum events payloads is = response_all (response_of func body) events is
+  followers_all h kind.Request func body sum events payloads is =
+      notice_all h func body (notice_of func body) events refl
+      (λ rx_status source payload read of. payloads rx_status source payload (text_brings func body sum ∙ ap brought_of read) read of) is
+
+frames_may : (unit : List ℕ) → FramesAre (MayFollow unit)
+frames_may unit = record {
+  responds = λ response. tt;
+  calls = λ id status. tt;
+  updates = λ update. tt;
+  interviewed = λ n listens classes update. tt;
+  unkept = λ n update. tt;
+}
 
 -- each event that follows a frame may follow it
 pub frame_all : (h : HostState) (f : FrameParts) (events : List HostEvent) → FrameEvents h f.kind f.func f.body events → AllByRecursion (MayFollow (unit_text (Framed f))) events
-frame_all h f events is = kind_all h f.kind f.func f.body (checksum (kind_code f.kind ∷ f.func ∷ f.body)) events is
+frame_all h f events is =
+    let unit : List ℕ = unit_text (Framed f) in
+    followers_all (MayFollow unit) (frames_may unit) h f.kind f.func f.body (checksum (kind_code f.kind ∷ f.func ∷ f.body)) events
+    (λ rx_status source payload brings read of.
+    payload_all (MayFollow unit) source (may_follow unit source) h payload (heard_at payload) events (own_payload unit source payload brings) of) is
 
 -- ---- a payload that tells a Wake Up Notification and nothing else
 

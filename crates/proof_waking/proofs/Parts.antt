@@ -1,5 +1,5 @@
 -- What a host puts out in each part: of itself, and behind an item.
-use Rattle.std.proofs.Common.{◌≡◌, ℕ, List, [], ◌∷◌, ◌++◌, refl, sym, ◌∙◌, subst, ap, append-nil}
+use Rattle.std.proofs.Common.{◌≡◌, ℕ, List, [], ◌∷◌, refl, sym, ◌∙◌, subst, ap, append-nil}
 use Rattle.std.specs.List.{AllByRecursion}
 use Rattle.zw_base.proofs.Each.{all-append, all-weaker}
 use Rattle.serial_frame.specs.Items.{unit_text}
@@ -11,17 +11,14 @@ use Rattle.serial_frame.specs.declared.item.Refusal.TheVariants.{Stray, BadLengt
 use Rattle.zw_words.specs.declared.side.Side.TheVariants.{Host}
 use Rattle.zw_text.specs.declared.entry.Entry.{Entry}
 use Rattle.zw_text.specs.declared.entry.Entry.TheVariants as entry
-use Rattle.host_node.specs.Steps.{tick_end}
-use Rattle.proof_alone.specs.host_model.State.{HostState, command_at, node_of}
-use Rattle.proof_alone.specs.host_model.Sessions.{open_command, settings_with}
-use Rattle.proof_alone.specs.host_model.Ends.{attempt_entries}
-use Rattle.proof_alone.specs.host_model.After.{is_full, is_held}
-use Rattle.proof_alone.specs.host_model.Events.{HostEvent, Accepts, Hears, Requests_do, Interviews, Interview_unkept, Unreads, Is_unkept, Reports_old, Finishes, Offers, Gives, Spends_unread, Notifies, Resends, Hears_value, Has_no_room, Line_ticks, Node_ticks, Queues_no_more, Drops_no_more, Submits_abort, Submits_front, Starts, Gives_text, Gives_segment, Begins, Begin_unkept, IsOwn}
-use Rattle.proof_alone.specs.host_model.Outs.{answer_to, dropped_if, held_entries, noted, outs, request_entries, stored_entries}
+use Rattle.proof_alone.specs.host_model.State.{HostState}
+use Rattle.proof_alone.specs.host_model.Events.{HostEvent, Accepts, Hears, Requests_do, Line_ticks, Node_ticks, Queues_no_more, Drops_no_more, Submits_abort, Submits_front, Starts, Gives_text, Gives_segment, Begins, Begin_unkept, IsOwn}
+use Rattle.proof_alone.specs.host_model.Outs.{answer_to, noted, outs}
 use Rattle.proof_alone.specs.host_model.declared.out.HostOut.{HostOut}
 use Rattle.proof_alone.specs.host_model.declared.out.HostOut.TheVariants.{Note, Write}
 use Rattle.proof_alone.proofs.HostOuts.{OutsAre, OwnIs, SharedAre, outs_are}
 use Rattle.proof_alone.specs.Steps.{AreTold, IsOfUnit}
+use Rattle.proof_alone.proofs.proof_line_Hosting.{MayWrite, NoUnit, UnitsAre, outs_write}
 pub use Rattle.proof_alone.proofs.proof_line_Hosting.{HearsNothing, IsFrameOr, next_nothing, no_more_nothing, puts_frames_or}
 use Rattle.proof_waking.specs.Judged.{IsOfRequest}
 use Rattle.proof_alone.specs.proof_walk.Outside.{IsHostNote}
@@ -124,34 +121,23 @@ WritesNothing (Gives_text n payload) = ⊥
 WritesNothing (Gives_segment n more payload) = ⊥
 WritesNothing event = Unit {0}
 
+may_none : (event : HostEvent) → WritesNothing event → MayWrite NoUnit event
+may_none (Hears item) nothing = absurd nothing
+may_none Line_ticks nothing = absurd nothing
+may_none Submits_abort nothing = absurd nothing
+may_none Submits_front nothing = absurd nothing
+may_none (Starts n plan more payload) nothing = absurd nothing
+may_none (Gives_text n payload) nothing = absurd nothing
+may_none (Gives_segment n more payload) nothing = absurd nothing
+may_none event nothing = tt
+
+none_written : (puts : List HostOut) → UnitsAre NoUnit puts → AllByRecursion IsNote puts
+none_written [] none = tt
+none_written (Write unit ∷ puts) none = absurd none.0
+none_written (Note e ∷ puts) none = (tt, none_written puts none)
+
 pub writes_nothing : (h : HostState) (event : HostEvent) → WritesNothing event → AllByRecursion IsNote (outs h event)
-writes_nothing h (Hears item) nothing = absurd nothing
-writes_nothing h Line_ticks nothing = absurd nothing
-writes_nothing h Submits_abort nothing = absurd nothing
-writes_nothing h Submits_front nothing = absurd nothing
-writes_nothing h (Starts n plan more payload) nothing = absurd nothing
-writes_nothing h (Gives_text n payload) nothing = absurd nothing
-writes_nothing h (Gives_segment n more payload) nothing = absurd nothing
-writes_nothing h (Requests_do event moment) nothing = noted_notes (request_entries h event)
-writes_nothing h (Interviews n listens classes update) nothing = (tt, tt)
-writes_nothing h (Interview_unkept n update) nothing = (tt, tt)
-writes_nothing h (Unreads n payload) nothing = (tt, tt)
-writes_nothing h (Is_unkept n) nothing = (tt, tt)
-writes_nothing h (Reports_old n id) nothing = (tt, tt)
-writes_nothing h (Finishes n session id command status wake_request) nothing =
-    (tt, noted_notes (stored_entries n (settings_with status (command_at h.commands command)) ++ held_entries n (is_held h n wake_request)))
-writes_nothing h (Offers n) nothing = noted_notes (dropped_if (is_full h) n)
-writes_nothing h (Gives n drawn) nothing = noted_notes (dropped_if (is_full h) n)
-writes_nothing h (Spends_unread n payload) nothing = (tt, tt)
-writes_nothing h (Notifies n) nothing = (tt, tt)
-writes_nothing h (Resends n payload) nothing = noted_notes (dropped_if (is_full h) n)
-writes_nothing h (Hears_value n setting) nothing = (tt, tt)
-writes_nothing h (Has_no_room n property) nothing = (tt, tt)
-writes_nothing h (Node_ticks n) nothing = noted_notes (attempt_entries n (tick_end (node_of h n)) (open_command (node_of h n)))
-writes_nothing h (Drops_no_more n) nothing = (tt, tt)
-writes_nothing h (Begins n session command) nothing = (tt, tt)
-writes_nothing h (Begin_unkept n) nothing = (tt, tt)
-writes_nothing h event nothing = tt
+writes_nothing h event nothing = none_written (outs h event) (outs_write NoUnit h event (may_none event nothing))
 
 -- nor does a request or an attempt end
 abbrev pub NotesAlone : HostEvent → Type 0

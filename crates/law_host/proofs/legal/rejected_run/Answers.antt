@@ -16,3 +16,7 @@ returns-clause-line c after legal = c.rejected_links.ensures.nothing legal.line.
 pub returns-clause-end : goal.returns-clause-end
 unfolding computing
 returns-clause-end c after legal = said_dropped legal.line.marks.1.1.1.1.1.1.0
+
+pub returns-clause-host : goal.returns-clause-host
+unfolding computing
+returns-clause-host c after legal = legal.host.legal.prompt.begins.1.1.1.1.0

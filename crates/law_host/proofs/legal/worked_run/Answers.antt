@@ -31,6 +31,7 @@ use Rattle.law_wire.proofs.Moves.{acts_of}
 use Rattle.law_wire.proofs.ShownRecords.{blank_at, gives_plain, shows_nodes}
 use Rattle.law_transcript.proofs.Computing.{computing_devices}
 use Rattle.law_time.proofs.Computing.{computing}
+use Rattle.law_host.proofs.WithRecords.{legal_with}
 use Rattle.law_host.proofs.legal.worked_run.Goals as goal
 
 -- up to its end
@@ -97,25 +98,6 @@ keeps_heard = record { kept = kept_of plain_records; gives = gives_plain; shows 
 heard_is : plain_heard ≡ heard_by_host plain_exchange
 unfolding computing
 heard_is = refl
-
-with_records : IsLegalAlone [] first_start true plain_heard None → IsLegalAlone [] first_start true plain_heard (Some records)
-with_records alone = record {
-  taken = alone.taken;
-  legal = record {
-    answers = alone.legal.answers;
-    cancels = alone.legal.cancels;
-    sessions = alone.legal.sessions;
-    carries = alone.legal.carries;
-    link = alone.legal.link;
-    notes = alone.legal.notes;
-    stores = alone.legal.stores;
-    values = alone.legal.values;
-    sends = alone.legal.sends;
-    prompt = alone.legal.prompt;
-    records_kept = λ whole. keeps_heard;
-  };
-  heeded = alone.heeded;
-}
 
 -- there is one device, of node 2
 abbrev after : State
@@ -225,7 +207,7 @@ returns c = record {
     serves = c.worked_service.ensures.plain;
     times = ends MayBeTold told timed;
   };
-  host = subst (λ (heard : List Entry). IsLegalAlone [] first_start true heard (Some records)) heard_is (with_records c.worked_legal.ensures.plain);
+  host = subst (λ (heard : List Entry). IsLegalAlone [] first_start true heard (Some records)) heard_is (legal_with [] first_start true plain_heard None (Some records) c.worked_legal.ensures.plain (λ whole. keeps_heard));
   sends = c.worked_payloads.ensures.plain;
   cancels = c.worked_cancels.ensures.plain;
   stores = c.worked_stores.ensures.plain;

@@ -6,7 +6,7 @@ use Rattle.proof_calm.proofs.proof_traffic_Parts.{Airs}
 use Rattle.proof_answered.specs.Few.{IsStretched}
 use Rattle.proof_answered.specs.Workers.{IsWorkedFor, KnowStaff}
 use Rattle.proof_answered.specs.FirstAttempts.{IsInTime, KnowFirst}
-use Rattle.proof_answered.specs.Heard.{IsHeardThen, KnowHeard}
+use Rattle.proof_answered.specs.Heard.{IsHeardFor, KnowHeard}
 use Rattle.proof_answered.specs.Outward.{IsSentTo, KnowListening, KnowNetwork}
 use Rattle.proof_answered.proofs.AttemptEnds.{call_signs}
 use Rattle.proof_answered.proofs.Beginning.{first_attempts}
@@ -26,7 +26,7 @@ pub returns-clause-first : goal.returns-clause-first
 returns-clause-first c = first_attempts
 
 pub returns-clause-walk : goal.returns-clause-walk
-returns-clause-walk c = first_walk airs IsHeardThen IsStretched any_stretch KnowHeard c.payloads_are_heard.ensures.walk (λ here past m known is. known is)
+returns-clause-walk c = λ these. first_walk airs (IsHeardFor these) IsStretched any_stretch (λ m. these) (KnowHeard these) (c.payloads_are_heard.ensures.walk these) (λ here past m known is. known is)
   where
     airs : Airs
     airs = record {
@@ -38,7 +38,7 @@ returns-clause-walk c = first_walk airs IsHeardThen IsStretched any_stretch Know
     }
 
 pub returns-clause-listening : goal.returns-clause-listening
-returns-clause-listening c = λ these many. first_walk airs (IsSentTo these) IsStretched any_stretch (KnowListening these) (c.nodes_hear.ensures.walk these many) (λ here past m known is. (known is).0)
+returns-clause-listening c = λ these many. first_walk airs (IsSentTo these) IsStretched any_stretch (λ m. these) (KnowListening these) (c.nodes_hear.ensures.walk these many) (λ here past m known is. (known is).0)
   where
     airs : Airs
     airs = record {
@@ -50,7 +50,7 @@ returns-clause-listening c = λ these many. first_walk airs (IsSentTo these) IsS
     }
 
 pub returns-clause-network : goal.returns-clause-network
-returns-clause-network c = first_walk_freely airs IsStretched any_stretch KnowNetwork c.networks_hear.ensures.walk (λ here past m known is. (known is).0)
+returns-clause-network c = first_walk_freely airs IsStretched any_stretch (λ m. m.outside.outer.chip.state.joined) KnowNetwork c.networks_hear.ensures.walk (λ here past m known is. (known is).0)
   where
     airs : Airs
     airs = record {
@@ -63,7 +63,7 @@ returns-clause-network c = first_walk_freely airs IsStretched any_stretch KnowNe
 
 pub returns-clause-working : goal.returns-clause-working
 returns-clause-working c = λ these many.
-    first_walk_freely airs (IsWorkedFor these) (worked these) (KnowStaff these) (c.workers_alone_speak.ensures.walk these many) (λ here past m known is. ((known is).0.0 is.stretched).0)
+    first_walk_freely airs (IsWorkedFor these) (worked these) (λ m. these) (KnowStaff these) (c.workers_alone_speak.ensures.walk these many) (λ here past m known is. ((known is).0.0 is.stretched).0)
   where
     airs : Airs
     airs = record {

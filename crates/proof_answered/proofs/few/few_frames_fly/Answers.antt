@@ -3,10 +3,11 @@ use Rattle.std.proofs.Common.{◌≡◌, ℕ, zero, suc, inr, List, [], ◌∷�
 use Rattle.device_sim.specs.State.{State}
 use Rattle.air_frames.specs.Frames.{no_frames}
 use Rattle.outside_model.specs.State.{first_outer}
-use Rattle.proof_calm.proofs.Lines.{lines_lead}
+use Rattle.proof_calm.proofs.Where.{where_whole}
 use Rattle.proof_calm.specs.proof_work.Phases.{AsksNothing}
 use Rattle.proof_calm.proofs.proof_traffic_Parts.{Airs}
 use Rattle.proof_answered.specs.Few.{AreIdle, KnowFew, work_at}
+use Rattle.proof_answered.specs.Outward.{IsSentTo}
 use Rattle.proof_answered.proofs.Walking.{begins_known, few_walk}
 use Rattle.proof_answered.proofs.few.few_frames_fly.Goals as goal
 
@@ -23,7 +24,7 @@ returns-clause-first c = λ keys records devices idle. record {
 }
 
 pub returns-clause-walk : goal.returns-clause-walk
-returns-clause-walk c = few_walk airs c.when_changes_come.ensures.heard c.requests_stay_tied.ensures.walk
+returns-clause-walk c = λ these. few_walk airs c.when_changes_come.ensures.heard these (c.requests_stay_tied.ensures.walk these)
   where
     airs : Airs
     airs = record {
@@ -35,8 +36,8 @@ returns-clause-walk c = few_walk airs c.when_changes_come.ensures.heard c.reques
     }
 
 pub returns-clause-lines : goal.returns-clause-lines
-returns-clause-lines c = λ m lines are whole stretched tied few.
-    let known = (lines_lead AsksNothing KnowFew (returns-clause-walk c) [] m lines are whole (λ is. begins_known m tied few)).1 stretched in
+returns-clause-lines c = λ these m lines are whole sent stretched tied few.
+    let known = where_whole (IsSentTo these) AsksNothing (KnowFew these) (returns-clause-walk c these) [] m lines are whole sent (λ is. begins_known m tied few) stretched in
     let at = known.tied stretched.quiet in (
       record { rests = at.0; awaits = at.1; routed = at.3; on_line = at.4; pumped = at.5; tie = at.6; peopled = at.7 },
       record { fly = let fly = known.few.fly in let told = known.told in omega (arith, fly, told); work = known.few.work },

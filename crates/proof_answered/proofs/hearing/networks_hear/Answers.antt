@@ -5,7 +5,7 @@ use Rattle.proof_calm.specs.proof_work.Phases.{AsksNothing}
 use Rattle.proof_calm.proofs.proof_traffic_Parts.{Airs}
 use Rattle.proof_answered.specs.Outward.{KnowNetwork}
 use Rattle.proof_answered.proofs.HeardCalls.{rests_heard}
-use Rattle.proof_answered.proofs.Outwards.{network_walk}
+use Rattle.proof_answered.proofs.Networked.{network_walk}
 use Rattle.proof_answered.proofs.Walking.{begins_known}
 use Rattle.proof_answered.proofs.hearing.networks_hear.Goals as goal
 

@@ -10,7 +10,7 @@ use Rattle.proof_answered.proofs.Walking.{begins_known}
 use Rattle.proof_answered.proofs.hearing.nodes_hear.Goals as goal
 
 pub returns-clause-walk : goal.returns-clause-walk
-returns-clause-walk c = λ these many. listening_walk airs c.devices_go_on.ensures.each c.devices_stay_the_same.ensures.all these many c.payloads_are_heard.ensures.walk
+returns-clause-walk c = λ these many. listening_walk airs c.devices_go_on.ensures.each c.devices_stay_the_same.ensures.all these many (c.payloads_are_heard.ensures.walk these)
   where
     airs : Airs
     airs = record {

@@ -6,7 +6,7 @@ use Rattle.proof_work.specs.Phases.{AsksNothing}
 use Rattle.proof_waking.specs.proof_traffic.Requests.{no_traffic}
 use Rattle.proof_waking.proofs.Flights.{follows_on_air}
 use Rattle.proof_waking.proofs.proof_traffic_Parts.{Airs}
-use Rattle.proof_calm.specs.Tied.{IsOrderly, KnowTied, Nowhere}
+use Rattle.proof_calm.specs.Tied.{IsOrderlyFor, KnowTied, Nowhere}
 use Rattle.proof_calm.proofs.Awaiting.{Outsides}
 use Rattle.host_model.specs.State.{first_host}
 use Rattle.proof_calm.proofs.Begun.{Ids}
@@ -19,18 +19,18 @@ use Rattle.proof_calm.proofs.tied.requests_stay_tied.Goals as goal
 
 pub returns-clause-first : goal.returns-clause-first
 unfolding first_outer
-returns-clause-first c = λ keys records devices nodes. record {
+returns-clause-first c = λ these keys records devices few nodes. record {
   rests = c.the_line_rests.ensures.first keys records devices;
   awaits = record { course = no_traffic; log = []; follows = follows_on_air no_traffic [] [] first_outer c.outsides_make_requests.ensures.first; each_call = refl; nodes = nodes };
   routed = record { none_due = refl; of_frames = tt };
   on_line = c.requests_stay_on_the_line.ensures.first keys;
   pumped = rests_pumped (first_host keys) ((c.hosts_are_tended.ensures.first keys [] devices).1.rests (record { none_under_way = refl; free_line = refl }));
   tie = record { paid = refl; tied = Nowhere (record { none = refl; idle = refl; leave = tt; nothing = refl }) };
-  peopled = first_peopled c.facts_are_kept.ensures.first keys records devices;
+  peopled = first_peopled c.facts_are_kept.ensures.first these few keys records devices;
 }
 
 pub returns-clause-walk : goal.returns-clause-walk
-returns-clause-walk c = tied_walk outsides ids payloads pumps stays c.facts_are_kept.ensures.each c.a_restart_keeps_what_is_held.ensures.opened_facts
+returns-clause-walk c = λ these. tied_walk outsides ids payloads pumps stays c.facts_are_kept.ensures.each c.a_restart_keeps_what_is_held.ensures.opened_facts these
   where
     airs : Airs
     airs = record {
@@ -61,9 +61,9 @@ returns-clause-walk c = tied_walk outsides ids payloads pumps stays c.facts_are_
     pumps = record { told = c.turns_of_a_pump_leave_nothing.ensures.told; submits = c.turns_of_a_pump_leave_nothing.ensures.submits }
 
 pub returns-clause-lines : goal.returns-clause-lines
-returns-clause-lines c = λ m lines are whole orderly quiet is.
-    let at = where_whole IsOrderly AsksNothing KnowTied (returns-clause-walk c) [] m lines are whole orderly (λ said. (is.rests, is.awaits, tt, is.routed, is.on_line, is.pumped, is.tie, is.peopled)) quiet in
+returns-clause-lines c = λ these m lines are whole orderly quiet is.
+    let at = where_whole (IsOrderlyFor these) AsksNothing (KnowTied these) (returns-clause-walk c these) [] m lines are whole orderly (λ said. (is.rests, is.awaits, tt, is.routed, is.on_line, is.pumped, is.tie, is.peopled)) quiet in
     record { rests = at.0; awaits = at.1; routed = at.3; on_line = at.4; pumped = at.5; tie = at.6; peopled = at.7 }
 
 pub returns-clause-rests : goal.returns-clause-rests
-returns-clause-rests c = λ m is. request_rests m is
+returns-clause-rests c = λ these m is. request_rests m is

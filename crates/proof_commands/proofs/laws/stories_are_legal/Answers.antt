@@ -6,7 +6,8 @@ use Rattle.law_transcript.specs.Records.{KeepsRecords}
 use Rattle.law_host.specs.Heard.{heard_by_host}
 use Rattle.law_host.specs.Notes.{first_start}
 use Rattle.proof_commands.specs.Laws.{AreSchedules, first, kept_anew, transcript, told_anew}
-use Rattle.proof_commands.proofs.Legally.{has_given, if_anew, legal_with, stored_so_far}
+use Rattle.law_host.proofs.WithRecords.{legal_with}
+use Rattle.proof_commands.proofs.Legally.{has_given, if_anew, stored_so_far}
 use Rattle.proof_commands.proofs.Told.{records_left}
 use Rattle.proof_commands.proofs.laws.stories_are_legal.Goals as goal
 

@@ -28,13 +28,13 @@ use Rattle.proof_answered.proofs.Walking.{begins_known}
 use Rattle.proof_answered.proofs.Outwards.{marked_within}
 use Rattle.proof_answered.specs.proof_calm.proof_work.proof_walk.Phases.{Between}
 use Rattle.proof_in_time.specs.Coming.{IsKeptFor, IsReadyFor, KnowPlainly}
-use Rattle.proof_in_time.specs.InHand.{HasEnded, IsInHand, ticks_begun, ticks_of_all}
+use Rattle.proof_in_time.specs.InHand.{HasEnded, IsInHand, RestsBefore, ticks_begun, ticks_of_all}
 use Rattle.proof_answered.specs.Few.{AreIdle}
 use Rattle.proof_in_time.specs.InStep.{GoesInStep, IsPlainly, IsPlainOver}
 use Rattle.proof_in_time.specs.Stretch.{IsStretchFor}
 use Rattle.proof_in_time.proofs.Bounded.{Devices}
 use Rattle.proof_in_time.proofs.Lasting.{node_within}
-use Rattle.proof_in_time.proofs.Nearing.{AreServed, KnowSoon, Soon, served_walk, soon_past, soon_then, soon_walk}
+use Rattle.proof_in_time.proofs.Nearing.{AreServed, KnowSoon, Soon, served_walk, soon_past, soon_rested, soon_then, soon_walk}
 use Rattle.proof_in_time.proofs.Plainly.{Tells}
 use Rattle.proof_answered.proofs.Speaking.{Same}
 use Rattle.proof_in_time.proofs.Spoken.{after_both, done_later, each_along, events_both, told_both, whole_parts}
@@ -114,6 +114,16 @@ module _ (airs : Airs) (devices_of : Devices) (facts_kept : (h : HostState) (eve
       (λ is. soon_then these n command more (most - ticks_begun then_at) (transcript_of ready_at first) then_at marked (node_within these many none n marked) known.0 in_hand (as_many (ticks_begun then_at) (ticks_of_all these (suc more))) is)
       (subst (λ (x : Machine). ticks_begun x + ticks_of_all these (suc more) ≤ ticks_begun (after_all start (before ++ (first ++ lines)))) there enough)
 
+  rested : (n command more : ℕ) → is_marked these n ≡ true → RestsBefore command more (node_of (after_all start (before ++ first)).host.state n)
+      → ticks_begun (after_all start (before ++ first)) + ((node_of (after_all start (before ++ first)).host.state n).again_wait + (1 + ticks_of_all these (suc (suc more)))) ≤ ticks_begun (after_all start (before ++ (first ++ lines)))
+      → HasEnded command (node_of (after_all start (before ++ (first ++ lines))).host.state n).book
+  rested n command more marked rests enough =
+      let wait : ℕ = (node_of then_at.host.state n).again_wait + (1 + ticks_of_all these (suc (suc more))) in
+      ended n command (ticks_begun then_at + wait) marked
+      (λ is. soon_rested these n command more ((ticks_begun then_at + wait) - ticks_begun then_at) (transcript_of ready_at first) then_at marked known.0 (subst (λ (x : Machine). RestsBefore command more (node_of x.host.state n)) there rests)
+      (as_many (ticks_begun then_at) wait) is)
+      (subst (λ (x : Machine). ticks_begun x + ((node_of x.host.state n).again_wait + (1 + ticks_of_all these (suc (suc more)))) ≤ ticks_begun (after_all start (before ++ (first ++ lines)))) there enough)
+
   was_accepted : (n command : ℕ) (found : Command) → is_marked these n ≡ true → command_at (after_all start (before ++ first)).host.state.commands command ≡ Some found → found.order.node ≡ n → length ready_at.host.state.commands + 1 ≤ command
       → ticks_begun (after_all start (before ++ first)) + ticks_of_all these 18 ≤ ticks_begun (after_all start (before ++ (first ++ lines)))
       → HasEnded command (node_of (after_all start (before ++ (first ++ lines))).host.state n).book
@@ -153,6 +163,14 @@ module _ (these : List Bool) (keys : Keys) (devices : List State) (before first 
       was_in_hand p.airs p.devices_of p.facts_kept these is.many is.none p.workers p.same p.tells (p.plainly is.many is.none) (first_machine keys (Some []) devices) before first lines is.done whole_then steps is.kept is.ready
       (record { serve = is.serves; speak = is.speak }) n command more marked hand enough
 
+  rests_then : (n command more : ℕ) → is_marked these n ≡ true → RestsBefore command more (node_of (after_all (first_machine keys (Some []) devices) (before ++ first)).host.state n)
+      → ticks_begun (after_all (first_machine keys (Some []) devices) (before ++ first)) + ((node_of (after_all (first_machine keys (Some []) devices) (before ++ first)).host.state n).again_wait + (1 + ticks_of_all these (suc (suc more))))
+      ≤ ticks_begun (after_all (first_machine keys (Some []) devices) (before ++ (first ++ lines)))
+      → HasEnded command (node_of (after_all (first_machine keys (Some []) devices) (before ++ (first ++ lines))).host.state n).book
+  rests_then n command more marked rests enough =
+      rested p.airs p.devices_of p.facts_kept these is.many is.none p.workers p.same p.tells (p.plainly is.many is.none) (first_machine keys (Some []) devices) before first lines is.done whole_then steps is.kept is.ready
+      (record { serve = is.serves; speak = is.speak }) n command more marked rests enough
+
   accepted_then : (n command : ℕ) (found : Command) → is_marked these n ≡ true → command_at (after_all (first_machine keys (Some []) devices) (before ++ first)).host.state.commands command ≡ Some found → found.order.node ≡ n
       → length (after_all (first_machine keys (Some []) devices) before).host.state.commands + 1 ≤ command
       → ticks_begun (after_all (first_machine keys (Some []) devices) (before ++ first)) + ticks_of_all these 18 ≤ ticks_begun (after_all (first_machine keys (Some []) devices) (before ++ (first ++ lines)))
@@ -163,6 +181,30 @@ module _ (these : List Bool) (keys : Keys) (devices : List State) (before first 
 
 pub returns-clause-in_hand : goal.returns-clause-in_hand
 returns-clause-in_hand c = λ these n command more keys devices before first lines is. hand_then these keys devices before first lines (proved these keys devices before (first ++ lines)) is n command more
+  where
+    airs : Airs
+    airs = record {
+      goes = c.frames_fly_in_order.ensures.goes;
+      next = c.frames_fly_in_order.ensures.next;
+      lands = c.frames_fly_in_order.ensures.lands;
+      count = c.frames_fly_in_order.ensures.count;
+      begins = c.frames_fly_in_order.ensures.begins;
+    }
+
+    proved : (these : List Bool) (keys : Keys) (devices : List State) (before lines : List Spoken) → Proved these keys devices before lines
+    proved these keys devices before lines = record {
+      airs = airs;
+      devices_of = record { heard = c.messages_are_answered.ensures.heard; at_once = c.messages_are_answered.ensures.at_once };
+      facts_kept = c.facts_are_kept.ensures.each;
+      workers = c.nodes_are_served_in_turn.ensures.workers these;
+      same = c.devices_stay_the_same.ensures.event;
+      tells = c.reports_tell.ensures.plainly;
+      plainly = c.waits_never_run_out.ensures.first these;
+      step = λ n within plain idle done. c.nodes_stay_in_step.ensures.along n keys devices (before ++ lines) within plain idle done;
+    }
+
+pub returns-clause-rests : goal.returns-clause-rests
+returns-clause-rests c = λ these n command more keys devices before first lines is. rests_then these keys devices before first lines (proved these keys devices before (first ++ lines)) is n command more
   where
     airs : Airs
     airs = record {

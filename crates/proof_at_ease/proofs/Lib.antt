@@ -1,0 +1,5 @@
+mod Hosts
+mod Marked
+mod Counted
+mod Stalled
+mod Grounds
