@@ -43,3 +43,7 @@ pub use Rattle.proof_calm.proofs.Where
 pub use Rattle.proof_calm.proofs.Links
 pub use Rattle.proof_calm.proofs.Tying
 pub use Rattle.proof_calm.proofs.Awaiting
+pub use Rattle.proof_calm.proofs.Rested
+pub use Rattle.proof_calm.proofs.Living
+pub use Rattle.proof_serial.proofs.HostRuns
+pub use Rattle.proof_serial.proofs.HostFits

@@ -2,4 +2,5 @@ mod Hosts
 mod Marked
 mod Counted
 mod Stalled
+mod Reached
 mod Grounds

@@ -1,6 +1,8 @@
 -- A machine at ease (this project's own rule): what is so of it where its transcript, with its devices, is calm.
-use Rattle.std.specs.Prelude.{◌≡◌, ℕ, List, [], Some}
+use Rattle.std.specs.Prelude.{◌≡◌, ℕ, Bool, true, false, List, [], Some, None}
+use Rattle.std.specs.List.{AllByRecursion}
 use Rattle.s0_crypto.specs.declared.key_pair.Keys.{Keys}
+use Rattle.serial_link.specs.declared.turn.Turn.TheVariants as turns
 use Rattle.air_frames.specs.Frames.{FramesState}
 use Rattle.zw_text.specs.declared.entry.Entry.{Entry}
 use Rattle.zw_text.specs.Transcript.{lines_run}
@@ -10,10 +12,18 @@ use Rattle.law_time.specs.Interviews.{listens}
 use Rattle.law_time.specs.Waking.{counts_awake}
 use Rattle.proof_alone.specs.host_model.May.{IsFree}
 use Rattle.proof_alone.specs.host_model.State.{HostState, node_of}
+use Rattle.law_wire.specs.Reach.{CanBeReached}
+use Rattle.law_wire.specs.law_transcript.Nodes.{is_joined}
+use Rattle.proof_line.specs.mesh_sim.Air.{is_joined as is_joined_in_air}
+use Rattle.proof_line.specs.world_lines.chip_sim.Nodes.{is_marked}
+use Rattle.proof_line.specs.outside_model.State.{OuterState}
+use Rattle.proof_line.specs.proof_serial.Chip.{HasFrames}
+use Rattle.proof_line.specs.proof_serial.Line.{AreAtRest}
 use Rattle.proof_alone.specs.world_model.State.{Machine, first_machine}
 use Rattle.proof_alone.specs.world_lines.Spoken.{Spoken, after_all, transcript_of}
 use Rattle.proof_alone.specs.world_lines.Done.{AreDone}
 use Rattle.proof_alone.specs.world_lines.Whole.{AreWhole}
+use Rattle.proof_answered.specs.proof_calm.Known.{HasShortPlain, IsBlank, IsMember}
 use Rattle.proof_answered.specs.proof_calm.proof_traffic.OnAir.{on_air}
 use Rattle.proof_answered.specs.proof_calm.proof_work.Rests.{Rests}
 
@@ -27,6 +37,35 @@ abbrev pub AfterLines : (List State → List Entry → Machine → Type 0) → T
 AfterLines So =
     (keys : Keys) (devices : List State) (lines : List Spoken) → AreDone (first_machine keys (Some []) devices) lines → AreWhole (first_machine keys (Some []) devices) lines
     → So devices (transcript_of (first_machine keys (Some []) devices) lines) (after_all (first_machine keys (Some []) devices) lines)
+
+-- the host has heard all that was on its way; neither side holds part of a unit, and the format carries each frame of the chip
+pub record HostHasHeard (m : Machine) : Type 0 where
+  pub to_host : m.outside.outer.to_host.bytes ≡ []
+  pub at_rest : AreAtRest m
+  pub fit : HasFrames m.outside.outer.chip.state.port
+
+-- the chip sends nothing, and waits for no call
+pub record AwaitsNothing (o : OuterState) : Type 0 where
+  pub sending : o.chip.state.sending ≡ None
+  pub aborted : o.chip.state.aborted ≡ 0
+  pub calls : o.calls ≡ []
+
+-- the chip has heard all that was on its way, has nothing for the host, and no result is due to it
+pub record ChipRests (o : OuterState) : Type 0 where
+  pub to_chip : o.to_chip.bytes ≡ []
+  pub turn : o.chip.state.port.side.turn ≡ turns.Idle
+  pub waiting : o.chip.state.port.waiting ≡ []
+  pub due : o.due ≡ []
+
+-- nothing is known of a node that the chip has not joined, each that the air has is one of the chip's, and what nodes are still to have sealed is short
+pub record KnowsItsMembers (m : Machine) : Type 0 where
+  pub others : (n : ℕ) → is_marked m.outside.outer.chip.state.joined n ≡ false → IsBlank (node_of m.host.state n)
+  pub nodes : (n : ℕ) → is_joined_in_air m.outside.outer.air n ≡ true → IsMember m.outside.outer.chip.state.joined n
+  pub plains : AllByRecursion HasShortPlain m.host.state.nodes
+
+-- so many nodes are joined by the transcript, and can be reached by it
+abbrev pub AreToReach : List Bool → List State → List Entry → Type 0
+AreToReach these devices past = (n : ℕ) → is_marked these n ≡ true → (is_joined past n ≡ true) × CanBeReached devices past n
 
 -- the host has no request under way, its side of the line is free, and it leaves nothing undone
 pub record HostIsDone (h : HostState) : Type 0 where

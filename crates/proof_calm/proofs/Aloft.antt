@@ -11,11 +11,15 @@ use Rattle.air_frames.specs.Frames.{FramesState, kept, landing, next_of, peer_of
 use Rattle.air_frames.specs.Peer.{showing}
 use Rattle.air_frames.specs.declared.frame.Departure.{Departure}
 use Rattle.proof_waking.specs.proof_traffic.OnAir.{on_air}
-use Rattle.proof_calm.proofs.Homing.{all_left}
 
 -- no more frames are kept than were sent
 abbrev pub IsSized : FramesState → Type 0
 IsSized state = length state.frames ≤ state.sent
+
+all_left : {A : Type 0} (P : A → Type 0) (k : ℕ) (xs : List A) → AllByRecursion P xs → AllByRecursion P (drop k xs)
+all_left P zero xs all = all
+all_left P (suc k) [] all = tt
+all_left P (suc k) (x ∷ xs) all = all_left P k xs all.1
 
 module _ {A : Type 0} (P : A → Type 0) where
   -- behind a place, and so behind a later one

@@ -79,7 +79,7 @@ blank_nodes keys =
     set_blank IsBlank two_joined g 2 (after_node (node_among g.nodes 2) (Interviews true first_classes)) member.is_joined once
 
 first_speaks : SpeaksHome two_joined first_outer
-unfolding first_outer two_joined none_marked no_frames
+unfolding first_outer two_joined none_marked no_frames on_air
 first_speaks = record { frames = tt; nodes = λ n is. two_member n (only_two n is) }
 
 no_pairs : AllPairs (λ (a b : ℕ). a ≢ b) []

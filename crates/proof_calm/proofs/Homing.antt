@@ -1,15 +1,14 @@
 -- Frames of devices are of joined nodes, and so are payloads that come to the chip, at each event of quiet lines and ticks.
-use Rattle.std.proofs.Common.{◌≡◌, if◌then◌else◌, ℕ, zero, suc, ◌+◌, ◌-◌, Bool, true, false, List, [], ◌∷◌, ◌++◌, length, drop, refl, sym, subst}
+use Rattle.std.proofs.Common.{◌≡◌, if◌then◌else◌, ℕ, ◌+◌, Bool, true, false, List, [], ◌∷◌, refl, sym, subst}
 use Rattle.std.specs.Prelude.{◌||◌, nat_le, nat_lt, Option, Some, None, option_map, slice_get, slice_set}
 use Rattle.std.specs.Option.{is_none, unwrap_or}
 use Rattle.std.specs.List.{AllByRecursion}
-use Rattle.zw_base.proofs.Each.{all-append, all-get, all-weaker}
+use Rattle.zw_base.proofs.Each.{all-append, all-weaker}
 use Rattle.serial_frame.specs.Stream.{after_tick}
 use Rattle.route_table.specs.Network.{Network}
 use Rattle.route_table.specs.declared.route.Route.{Route}
-use Rattle.air_frames.specs.Flown.{Flown, flown}
-use Rattle.air_frames.specs.Frames.{FramesState, landing, next_of, peer_of, putting}
-use Rattle.air_frames.specs.Peer.{showing}
+use Rattle.air_frames.specs.Flown.{Flown}
+use Rattle.air_frames.specs.Frames.{FramesState, next_of, peer_of}
 use Rattle.air_frames.specs.declared.frame.Departure.{Departure}
 use Rattle.air_frames.specs.declared.frame.Heading.{Heading}
 use Rattle.air_frames.specs.declared.frame.Heading.TheVariants.{Outward, Homeward}
@@ -42,32 +41,26 @@ use Rattle.proof_work.specs.Phases.{AsksNothing}
 use Rattle.proof_calm.specs.Homeward.{IsOfMember, SpeaksHome}
 use Rattle.proof_calm.specs.Known.{IsMember}
 use Rattle.proof_calm.specs.Marks.{IsQuietEvent}
+use Rattle.proof_waking.specs.proof_traffic.OnAir.{on_air}
+use Rattle.proof_calm.proofs.Aloft.{IsSized, land_all, next_all, put_all}
 use Rattle.proof_calm.proofs.Counting.{IsAside, done_aside, outs_aside}
 use Rattle.proof_calm.proofs.Pending.{IsFromAs, IsFromOf}
 use Rattle.proof_calm.proofs.Heard.{Keeps, replied_if, steps_keep}
 use Rattle.proof_calm.proofs.Unmarked.{hosts, nothing_asked}
 
-pub all_left : {A : Type 0} (P : A → Type 0) (k : ℕ) (xs : List A) → AllByRecursion P xs → AllByRecursion P (drop k xs)
-all_left P zero xs all = all
-all_left P (suc k) [] all = tt
-all_left P (suc k) (x ∷ xs) all = all_left P k xs all.1
-
 module _ (joined : List Bool) where
   abbrev Home : AirState → Type 0
-  Home air = AllByRecursion (IsOfMember joined) air.frames.frames × ((n : ℕ) → is_joined air n ≡ true → IsMember joined n)
+  Home air = AllByRecursion (IsOfMember joined) (on_air air.frames) × ((n : ℕ) → is_joined air n ≡ true → IsMember joined n)
 
   -- ---- the air
 
   departs_home : (air : AirState) (node : ℕ) (heading : Heading) (route : Option Route) (payload : List ℕ) → (heading ≡ Homeward → IsMember joined node) → Home air → Home (departing air node heading route payload)
-  unfolding putting
   departs_home air node heading route payload member home =
       let d : Departure = record { node = node; heading = heading; route = unwrap_or route no_route; lost = nat_lt 0 air.losing || is_none route; payload = payload } in
-      let peer = showing (peer_of air.frames node) heading payload in
-      (all_left (IsOfMember joined) _ (air.frames.frames ++ flown d peer ∷ []) (all-append (IsOfMember joined) air.frames.frames (flown d peer ∷ []) home.0 (member, tt)), home.1)
+      (put_all (IsOfMember joined) air.frames d member home.0, home.1)
 
   lands_home : (air : AirState) → Home air → Home (landed air)
-  unfolding landing
-  lands_home air home = (all_left (IsOfMember joined) _ air.frames.frames home.0, home.1)
+  lands_home air home = (land_all (IsOfMember joined) air.frames home.0, home.1)
 
   keeps : Keeps Home (IsMember joined)
   keeps = record {
@@ -128,6 +121,7 @@ module _ (joined : List Bool) where
   deals_home devices o (air_event.Changed node at) speaks = speaks
 
   begins_home : (o : OuterState) (node sessions : ℕ) → Speaks o → Speaks (record o { air = begins o.air node sessions })
+  unfolding on_air
   begins_home o node sessions speaks = by (nat_le (peer_of o.air.frames node).begun sessions)
     where
       by : (b : Bool) → Speaks (record o { air = if b then beginning o.air node sessions else o.air })
@@ -239,12 +233,8 @@ module _ (Is : ℕ → List ℕ → Type 0) where
 
 -- where the frames are of joined nodes
 module _ (joined : List Bool) where
-  pub next_of_member : (frames : FramesState) → AllByRecursion (IsOfMember joined) frames.frames → (frame : Flown) → next_of frames ≡ Some frame → IsOfMember joined frame
-  next_of_member frames all frame is = by_test (nat_lt frames.landed frames.sent) is
-    where
-      by_test : (b : Bool) → (if b then slice_get frames.frames (frames.landed - (frames.sent - length frames.frames)) else None) ≡ Some frame → IsOfMember joined frame
-      by_test true found = all-get (IsOfMember joined) frames.frames (frames.landed - (frames.sent - length frames.frames)) frame all found
-      by_test false found = absurd cc
+  next_of_member : (frames : FramesState) → IsSized frames → AllByRecursion (IsOfMember joined) (on_air frames) → (frame : Flown) → next_of frames ≡ Some frame → IsOfMember joined frame
+  next_of_member frames sized all frame is = next_all (IsOfMember joined) frames frame sized is all
 
-  pub arrival_from : (w : Outside) (drawn : List ℕ) (route : Option Route) → SpeaksHome joined w.outer → AllByRecursion (IsFromOf joined) (mesh_outs (mesh_of w) (mesh.Arrives drawn route))
-  arrival_from w drawn route speaks = arrival_of (λ from payload. IsMember joined from) w drawn route (next_of_member w.outer.air.frames speaks.frames)
+  pub arrival_from : (w : Outside) (drawn : List ℕ) (route : Option Route) → IsSized w.outer.air.frames → SpeaksHome joined w.outer → AllByRecursion (IsFromOf joined) (mesh_outs (mesh_of w) (mesh.Arrives drawn route))
+  arrival_from w drawn route sized speaks = arrival_of (λ from payload. IsMember joined from) w drawn route (next_of_member w.outer.air.frames sized speaks.frames)

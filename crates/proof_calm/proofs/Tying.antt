@@ -238,7 +238,7 @@ arrives_tied : {these : List Bool} (m : Machine) (drawn : List ℕ) (route : Opt
 unfolding outcome
 arrives_tied m drawn route few given later peopled tie =
     given_tied 0 m (Arrives drawn route) later.has
-    (steps_step (kept m.host.state) m.outside (mesh.Arrives drawn route) (arrival_from m.outside.outer.chip.state.joined m.outside drawn route peopled.speaks) (few_in m (Arrives drawn route) few) (chip_tied 0 m given.has tie)).tie
+    (steps_step (kept m.host.state) m.outside (mesh.Arrives drawn route) (arrival_from m.outside.outer.chip.state.joined m.outside drawn route peopled.live.sized peopled.speaks) (few_in m (Arrives drawn route) few) (chip_tied 0 m given.has tie)).tie
 
 gives_tied : (m : Machine) (route : Option Route) → length (happens m (Outside_does (Gives route))).outside.outer.chip.state.port.waiting ≤ 31 → IsGiven 0 m → IsGiven 0 (happens m (Outside_does (Gives route))) → TieOf false m [] → TieOf false (happens m (Outside_does (Gives route))) []
 unfolding outcome

@@ -58,7 +58,7 @@ lines_keep_facts aside all past m (spoken ∷ more) (is, are) facts =
 
 -- ---- a command whose acceptance was entered
 
-is_accepted : (n command : ℕ) (entry : Entry) → Has (accepted_for n entry) command → entry ≡ Accepted command n
+pub is_accepted : (n command : ℕ) (entry : Entry) → Has (accepted_for n entry) command → entry ≡ Accepted command n
 is_accepted n command (Accepted number node) has = by (node == n) refl has
   where
     by : (b : Bool) → (node == n) ≡ b → Has (if b then number ∷ [] else []) command → Accepted number node ≡ Accepted command n

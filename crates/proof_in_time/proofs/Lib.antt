@@ -25,3 +25,4 @@ mod Queued
 mod Nearing
 mod Accepted
 mod Endings
+mod LastOrder

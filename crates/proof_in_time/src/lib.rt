@@ -5,8 +5,9 @@
 //! and waits anew at a report of work (`reports_are_taken`). A device without levels is at no work, and in step with the host, over any lines
 //! (`nodes_stay_in_step`). So over a stretch of lines for nodes with such devices that listen, the wait of no attempt of these runs out
 //! (`waits_never_run_out`): while one runs, its request, its message or the report of its device is on its way. And each command that waits or is open is over
-//! within as many ticks as there are of them, and four more, for each session up to its own (`commands_end_in_time`); so the
-//! entries have the final outcome of each command that was accepted (`outcomes_come_in_time`). There is no code here.
+//! within as many ticks as there are of them, and four more, for each session up to its own (`commands_end_in_time`); so the entries have the final outcome of
+//! each command that was accepted or waited (`outcomes_come_in_time`), for 16 nodes within 500 ticks after the last order (`stretches_end_in_time`). There is
+//! no code here.
 //! The definitions are in `specs/`: `Answering` (what a device that is asked comes to, and tells), `Reporting` (what the host makes of that), `InStep` (which
 //! devices are in step, and from what that follows), `Coming` (what is on its way while an attempt runs, at each phase, and within how many ticks the host
 //! is told), `InHand` (when the session of a command is over, and the ticks until then), `Plainly` (what asks the host for nothing), and `Stretch`.
@@ -23,5 +24,5 @@ pub use answering::messages_are_answered;
 pub use in_hand::commands_end_in_time;
 pub use in_step::nodes_stay_in_step;
 pub use in_time::waits_never_run_out;
-pub use outcomes::outcomes_come_in_time;
+pub use outcomes::{outcomes_come_in_time, stretches_end_in_time};
 pub use reporting::reports_are_taken;

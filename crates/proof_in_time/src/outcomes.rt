@@ -1,24 +1,28 @@
 //! Final outcomes of commands, as the entries tell them.
 
-ghost use Rattle.std.specs.Prelude.{◌≡◌, ◌≢◌, ◌≤◌, ◌+◌, ◌++◌, Bool, List, Some, [], false, true, ℕ};
+ghost use Rattle.std.specs.Prelude.{◌≡◌, ◌≢◌, ◌⊎◌, ◌≤◌, ◌+◌, ◌++◌, Bool, List, Some, [], false, true, ℕ};
 ghost use Rattle.s0_crypto.specs.declared.key_pair.Keys.{Keys};
 ghost use Rattle.zw_text.specs.Transcript.{lines_run, outcome, shown};
 ghost use Rattle.law_transcript.specs.Commands.{waiting};
 ghost use Rattle.law_transcript.specs.Lists.{Has};
 ghost use Rattle.law_transcript.specs.Restarts.{ticks_asked};
 ghost use Rattle.law_time.specs.Sessions.{is_final, is_open};
-ghost use Rattle.law_time.specs.Stretches.{accepted_for};
+ghost use Rattle.law_time.specs.Stretches.{accepted_for, commands_in, waited};
 ghost use Rattle.chip_sim.specs.Nodes.{is_marked};
 ghost use Rattle.device_sim.specs.State.{State};
 ghost use Rattle.host_model.specs.State.{node_of};
 ghost use Rattle.world_model.specs.State.{first_machine};
 ghost use Rattle.world_lines.specs.Spoken.{Spoken, after_all, transcript_of};
+ghost use Rattle.proof_answered.specs.Turns.{marked_to};
 ghost use Rattle.proof_in_time.specs.InHand.{ticks_of_all};
 ghost use Rattle.proof_in_time.specs.Stretch.{IsStretchFor};
 
 use crate::commands_end_in_time;
 use proof_host::asides_keep_facts;
-use proof_spoken::{lines_tell_what_nodes_list, runs_have_their_tables, the_machine_keeps_facts};
+use proof_spoken::{
+    answers_stand_after_their_lines, interviews_give_what_is_known, lines_tell_what_nodes_list,
+    runs_have_their_tables, the_machine_keeps_facts,
+};
 use proof_walk::time_goes_on;
 
 /// Over a stretch as in `commands_end_in_time`: each command for one of these nodes whose acceptance was entered in it has its final outcome in the entries,
@@ -53,4 +57,25 @@ pub fn outcomes_come_in_time()
     runs_have_their_tables();
     the_machine_keeps_facts();
     time_goes_on();
+}
+
+/// So over such a stretch, for 16 nodes at most, that waits for 500 ticks after its last order: each command of one of these nodes, whether it waited before
+/// the stretch or was accepted in it, has its final outcome in the entries. As the stretch begins, a node for which a command waits has no session open, or
+/// the wait after a series of that one runs.
+pub fn stretches_end_in_time()
+    ensures { (these : List Bool) (n command : ℕ) (keys : Keys) (devices : List State) (before lines : List Spoken) →
+        IsStretchFor these keys devices before lines → is_marked these n ≡ true → marked_to these 232 ≤ 16 →
+        (Has (waiting n (transcript_of (first_machine keys (Some []) devices) before)) command →
+        (is_open n (transcript_of (first_machine keys (Some []) devices) before) ≡ false) ⊎
+        ((node_of (after_all (first_machine keys (Some []) devices) before).host.state n).again_wait ≢ 0)) →
+        Has (commands_in (transcript_of (first_machine keys (Some []) devices) before)
+        (transcript_of (after_all (first_machine keys (Some []) devices) before) lines) n) command →
+        500 ≤ waited (transcript_of (after_all (first_machine keys (Some []) devices) before) lines) →
+        is_final (outcome command (transcript_of (first_machine keys (Some []) devices) (before ++ lines))) ≡ true }
+{
+    answers_stand_after_their_lines();
+    interviews_give_what_is_known();
+    lines_tell_what_nodes_list();
+    outcomes_come_in_time();
+    the_machine_keeps_facts();
 }

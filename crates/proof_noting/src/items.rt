@@ -22,8 +22,8 @@ use proof_hearing::{
     hosts_tell_of_ends,
 };
 
-/// Along such runs the course goes on with each item that is judged and brings no payload of a node: a frame that may end the request or an interview, an answer
-/// of the chip, and what is refused; and with the event that is left of it.
+/// Along such runs the course goes on with each item that is judged and brings no payload of a node: a frame that may end the request or an interview, an
+/// answer of the chip, and what is refused; and with the event that is left of it.
 pub fn notes_go_with_items()
     ensures judged { (key : List ℕ) (taken : List Entry → Carried → List Told) (from : Outset) → GroundAlong taken (first_of key) → (next : Phase)
         (past told : List Entry) (m : HostMachine) (item : Item) (rest : List LineUnit) (behind : List HostEvent) → (BringsPayload item → ⊥) →

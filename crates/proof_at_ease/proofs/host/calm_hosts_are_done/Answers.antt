@@ -1,6 +1,9 @@
 -- The host of the machine is read as a host alone at rest.
-use Rattle.std.proofs.Common.{[], refl}
+use Rattle.std.proofs.Common.{[], refl, sym, subst}
 use Rattle.std.specs.Prelude.{Some}
+use Rattle.proof_alone.specs.host_model.State.{HostState}
+use Rattle.proof_answered.specs.proof_calm.proof_work.Line.{IsOnLine}
+use Rattle.proof_answered.proofs.Rested.{rests_pumped}
 use Rattle.proof_alone.specs.Reading.{read_of}
 use Rattle.proof_line.specs.proof_serial.Units.{good_units}
 use Rattle.proof_line.specs.world_model.State.{first_machine}
@@ -14,6 +17,12 @@ returns-clause-free c = λ keys devices lines are whole rest.
     let past = transcript_of m lines in
     let reads = (c.lines_leave_a_host_at_rest.ensures keys devices lines are whole).1 in
     is_done keys past (read_of 0 (after_all m lines) (good_units reads.down)) reads.run.run refl c.hosts_tell_of_sleep.ensures reads.only rest
+
+pub returns-clause-pumped : goal.returns-clause-pumped
+returns-clause-pumped c = λ keys devices lines are whole rest.
+    let h : HostState = (after_all (first_machine keys (Some []) devices) lines).host.state in
+    let done = returns-clause-free c keys devices lines are whole rest in
+    (subst (λ o. IsOnLine o h.side.turn) (sym done.free.none_under_way) tt, rests_pumped h done.rests)
 
 pub returns-clause-idle : goal.returns-clause-idle
 returns-clause-idle c = λ keys devices lines are whole n from to idle.

@@ -1,0 +1,29 @@
+//! The tie of the host's request in a calm moment.
+
+ghost use Rattle.std.specs.Prelude.{◌≡◌, Bool, List, false, true};
+ghost use Rattle.law_time.specs.Calm.{air_is_empty, is_stalled, no_marks};
+ghost use Rattle.law_time.specs.Rests.{is_rest};
+ghost use Rattle.proof_line.specs.proof_traffic.OutsideTraffic.{AreNodes};
+ghost use Rattle.proof_answered.specs.proof_calm.Tied.{IsTied};
+ghost use Rattle.proof_at_ease.specs.Ease.{AfterLines, AreToReach, ChipRests, KnowsItsMembers, clock_of};
+
+use crate::{
+    calm_air_is_empty, calm_hosts_are_done, calm_hosts_have_heard_all, calm_machines_are_reached,
+    calm_machines_are_unmarked, lines_await_calls, lines_leave_hosts_fit,
+};
+
+/// Where the last request is over, no mark is left, no stall lasts and each frame has had its fate by the transcript, and some nodes can be reached by it, the
+/// request of the host is tied for these nodes: if the chip rests too, and the host knows its members. Neither of these two is shown of the transcript here.
+pub fn calm_requests_are_tied()
+    ensures { AfterLines (λ devices past m. AreNodes devices → is_rest past (clock_of past) ≡ true → no_marks past ≡ true →
+        is_stalled past (clock_of past) ≡ false → air_is_empty past ≡ true → ChipRests m.outside.outer → KnowsItsMembers m →
+        (these : List Bool) → AreToReach these devices past → IsTied these m) }
+{
+    calm_air_is_empty();
+    calm_hosts_are_done();
+    calm_hosts_have_heard_all();
+    calm_machines_are_reached();
+    calm_machines_are_unmarked();
+    lines_await_calls();
+    lines_leave_hosts_fit();
+}
