@@ -25,6 +25,6 @@ pub use few::few_frames_fly;
 pub use heard::payloads_are_heard;
 pub use hearing::{networks_hear, nodes_hear};
 pub use listening::listeners_hear;
-pub use proof_calm::frames_fly_in_order;
+pub use proof_calm::{frames_fly_in_order, hosts_are_tended, work_in_order_means};
 pub use serving::nodes_are_served_in_turn;
 pub use working::{workers_alone_speak, workers_hear};

@@ -1,6 +1,5 @@
 -- A machine at ease (this project's own rule): what is so of it where its transcript, with its devices, is calm.
-use Rattle.std.specs.Prelude.{◌≡◌, ℕ, Bool, true, false, List, [], Some, None}
-use Rattle.std.specs.List.{AllByRecursion}
+use Rattle.std.specs.Prelude.{◌≡◌, ℕ, ◌+◌, Bool, true, false, List, [], ◌∷◌, length, Some, None}
 use Rattle.s0_crypto.specs.declared.key_pair.Keys.{Keys}
 use Rattle.serial_link.specs.declared.turn.Turn.TheVariants as turns
 use Rattle.air_frames.specs.Frames.{FramesState}
@@ -12,10 +11,14 @@ use Rattle.law_time.specs.Interviews.{listens}
 use Rattle.law_time.specs.Waking.{counts_awake}
 use Rattle.proof_alone.specs.host_model.May.{IsFree}
 use Rattle.proof_alone.specs.host_model.State.{HostState, node_of}
+use Rattle.zw_words.specs.declared.side.Side.TheVariants.{Host}
+use Rattle.law_wire.specs.Links.{arrival_of}
+use Rattle.law_wire.specs.Serial.{SerialEvent}
+use Rattle.law_wire.specs.Serial.SerialEvent.{Writes}
 use Rattle.law_wire.specs.Reach.{CanBeReached}
 use Rattle.law_wire.specs.law_transcript.Nodes.{is_joined}
-use Rattle.proof_line.specs.mesh_sim.Air.{is_joined as is_joined_in_air}
 use Rattle.proof_line.specs.world_lines.chip_sim.Nodes.{is_marked}
+use Rattle.proof_line.specs.world_lines.chip_sim.Rules.{WaitsWell}
 use Rattle.proof_line.specs.outside_model.State.{OuterState}
 use Rattle.proof_line.specs.proof_serial.Chip.{HasFrames}
 use Rattle.proof_line.specs.proof_serial.Line.{AreAtRest}
@@ -23,7 +26,7 @@ use Rattle.proof_alone.specs.world_model.State.{Machine, first_machine}
 use Rattle.proof_alone.specs.world_lines.Spoken.{Spoken, after_all, transcript_of}
 use Rattle.proof_alone.specs.world_lines.Done.{AreDone}
 use Rattle.proof_alone.specs.world_lines.Whole.{AreWhole}
-use Rattle.proof_answered.specs.proof_calm.Known.{HasShortPlain, IsBlank, IsMember}
+use Rattle.proof_answered.specs.proof_calm.Known.{IsBlank}
 use Rattle.proof_answered.specs.proof_calm.proof_traffic.OnAir.{on_air}
 use Rattle.proof_answered.specs.proof_calm.proof_work.Rests.{Rests}
 
@@ -38,11 +41,18 @@ AfterLines So =
     (keys : Keys) (devices : List State) (lines : List Spoken) → AreDone (first_machine keys (Some []) devices) lines → AreWhole (first_machine keys (Some []) devices) lines
     → So devices (transcript_of (first_machine keys (Some []) devices) lines) (after_all (first_machine keys (Some []) devices) lines)
 
--- the host has heard all that was on its way; neither side holds part of a unit, and the format carries each frame of the chip
+-- the host has heard all that was on its way; neither side holds part of a unit, the format carries each frame of the chip, and of these some wait only while one is on the line
 pub record HostHasHeard (m : Machine) : Type 0 where
   pub to_host : m.outside.outer.to_host.bytes ≡ []
   pub at_rest : AreAtRest m
   pub fit : HasFrames m.outside.outer.chip.state.port
+  pub waits : WaitsWell m.outside.outer.chip.state.port
+
+-- how many units of the host have arrived for the chip since a line or tick began
+abbrev pub arrived_from : ℕ → List SerialEvent → ℕ
+arrived_from count [] = count
+arrived_from count (Writes side unit arriving lacking ∷ events) = arrived_from (count + length (arrival_of Host (Writes side unit arriving lacking))) events
+arrived_from count (event ∷ events) = arrived_from 0 events
 
 -- the chip sends nothing, and waits for no call
 pub record AwaitsNothing (o : OuterState) : Type 0 where
@@ -50,18 +60,15 @@ pub record AwaitsNothing (o : OuterState) : Type 0 where
   pub aborted : o.chip.state.aborted ≡ 0
   pub calls : o.calls ≡ []
 
--- the chip has heard all that was on its way, has nothing for the host, and no result is due to it
+-- the chip has heard all that was on its way, has no frame on the line, and no result is due to it
 pub record ChipRests (o : OuterState) : Type 0 where
   pub to_chip : o.to_chip.bytes ≡ []
   pub turn : o.chip.state.port.side.turn ≡ turns.Idle
-  pub waiting : o.chip.state.port.waiting ≡ []
   pub due : o.due ≡ []
 
--- nothing is known of a node that the chip has not joined, each that the air has is one of the chip's, and what nodes are still to have sealed is short
-pub record KnowsItsMembers (m : Machine) : Type 0 where
-  pub others : (n : ℕ) → is_marked m.outside.outer.chip.state.joined n ≡ false → IsBlank (node_of m.host.state n)
-  pub nodes : (n : ℕ) → is_joined_in_air m.outside.outer.air n ≡ true → IsMember m.outside.outer.chip.state.joined n
-  pub plains : AllByRecursion HasShortPlain m.host.state.nodes
+-- nothing is known of a node that the chip has not joined
+abbrev pub KnowsItsMembers : Machine → Type 0
+KnowsItsMembers m = (n : ℕ) → is_marked m.outside.outer.chip.state.joined n ≡ false → IsBlank (node_of m.host.state n)
 
 -- so many nodes are joined by the transcript, and can be reached by it
 abbrev pub AreToReach : List Bool → List State → List Entry → Type 0

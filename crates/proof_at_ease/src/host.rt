@@ -13,8 +13,8 @@ use crate::lines_leave_a_host_at_rest;
 use proof_rests::{hosts_run_series_as_told, hosts_tell_of_sleep};
 
 /// Where the last request of the host is over by the transcript, no request is under way in the host, its side of the line is free, no task waits, no abort is
-/// owed, and nothing that is due lacks its request: so it has submitted what it can. Where no series of a node runs by it, none is due or runs in the host; and the host takes each node to
-/// listen and to be awake as it tells.
+/// owed, and nothing that is due lacks its request: so it has submitted what it can. Where no series of a node runs by it, none is due or runs in the host; and
+/// the host takes each node to listen and to be awake as it tells.
 pub fn calm_hosts_are_done()
     ensures free { AfterLines (λ devices past m. is_rest past (clock_of past) ≡ true → HostIsDone m.host.state) }
     ensures pumped { AfterLines (λ devices past m. is_rest past (clock_of past) ≡ true → HasOnLine m.host.state × IsPumped m.host.state) }

@@ -27,6 +27,11 @@ pub use facts::lines_leave_hosts_fit;
 pub use host::calm_hosts_are_done;
 pub use marks::calm_machines_are_unmarked;
 pub use pipes::calm_hosts_have_heard_all;
-pub use reach::calm_machines_are_reached;
+pub use proof_answered::listeners_hear;
+pub use proof_devices::networks_go_on;
+pub use proof_rests::{
+    hosts_keep_what_is_said, hosts_know_what_was_told, hosts_show_open_sessions,
+};
+pub use reach::{calm_machines_are_reached, lines_join_the_same_nodes};
 pub use reading::lines_leave_a_host_at_rest;
 pub use tied::calm_requests_are_tied;

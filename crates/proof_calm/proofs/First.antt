@@ -58,7 +58,7 @@ two_member n is = subst (IsMember two_joined) (sym is) (record { is_node = (omeg
 -- ---- the others
 
 blank_one : (k : ℕ) → IsBlank (unknown k)
-blank_one k = record { unlisted = refl; idle = refl; none_waits = refl; asleep = refl }
+blank_one k = record { unlisted = refl; idle = refl; none_waits = refl }
 
 blank_from : (number count : ℕ) → AllByRecursion IsBlank (unknown_from number count)
 blank_from number zero = tt

@@ -1,7 +1,7 @@
 -- Each node that the host serves is one of those it has to do with, and each request that it submits asks to send a payload of 1 to 46 bytes to such a node.
 use Rattle.std.proofs.Common.{◌≡◌, ◌≢◌, ◌≤◌, ℕ, Bool, true, false, if◌then◌else◌, List, [], ◌∷◌, length, refl, sym, ap, ◌∙◌, subst, arith}
-use Rattle.std.specs.Option.{is_none}
-use Rattle.std.specs.Prelude.{Option, Some, None, nat_lt}
+use Rattle.std.specs.Option.{is_none, is_some}
+use Rattle.std.specs.Prelude.{◌&&◌, ◌==◌, Option, Some, None, nat_lt}
 use Rattle.std.specs.List.{AllByRecursion}
 use Rattle.supervision.specs.Host.{open_session}
 use Rattle.chip_sim.specs.Nodes.{is_marked}
@@ -10,7 +10,7 @@ use Rattle.host_requests.specs.declared.task.Purpose.TheVariants.{Attempt}
 use Rattle.host_requests.specs.declared.task.Task.{Task}
 use Rattle.host_requests.specs.declared.task.Task.TheVariants.{NoMore, Offer, Segment}
 use Rattle.host_node.specs.Search.{first_wanting, least_above, next_of}
-use Rattle.host_node.specs.State.{NodeState, unknown, has_waiting, has_work, is_false, is_up, wants_no_more}
+use Rattle.host_node.specs.State.{NodeState, unknown, has_waiting, has_work, is_false, is_idle, is_unasked, is_up, wants_no_more}
 use Rattle.host_node.specs.TableState.{node_of as node_among}
 use Rattle.host_node.specs.declared.attempt.Plan.{Plan}
 use Rattle.host_node.specs.declared.series.Series.{Series}
@@ -48,17 +48,25 @@ none_works n idle none_waits works =
     let none : has_waiting n ≡ false = ap (λ (l : List ℕ). nat_lt 0 (length l)) none_waits in
     let wrong : true ≡ false = sym all.1 ∙ none in cc
 
+-- without a class list it is told nothing
+none_told : (a b c d e f g : Bool) → c ≡ false → (a && b && c && d && e && f && g) ≡ true → ⊥
+none_told true true true d e f g unlisted wants = absurd (let wrong : true ≡ false = unlisted in cc)
+none_told true true false d e f g unlisted wants = absurd (let wrong : false ≡ true = wants in cc)
+none_told true false c d e f g unlisted wants = absurd (let wrong : false ≡ true = wants in cc)
+none_told false b c d e f g unlisted wants = absurd (let wrong : false ≡ true = wants in cc)
+
 blank_still : (n : NodeState) → IsBlank n → wants_no_more n ≡ true → ⊥
-blank_still n blank wants = let wrong : false ≡ true = subst (λ (a : Bool). wants_no_more (record n { awake = a }) ≡ true) blank.asleep wants in cc
+blank_still n blank wants =
+    none_told n.awake (is_false n.listens) (is_some n.classes) (is_unasked n.no_more) (is_false (has_waiting n)) (is_idle n.series) (n.hold == 0) (ap (λ o. is_some o) blank.unlisted) wants
 
 -- it stays so in a tick
 blank_so : StaysSo IsBlank
 blank_so = record {
   idle = λ n blank. blank.idle;
   none_waits = λ n blank. blank.none_waits;
-  holds = λ n blank. record { unlisted = blank.unlisted; idle = blank.idle; none_waits = blank.none_waits; asleep = blank.asleep };
-  again = λ n ticks blank. record { unlisted = blank.unlisted; idle = blank.idle; none_waits = blank.none_waits; asleep = blank.asleep };
-  waits = λ n ticks blank. record { unlisted = blank.unlisted; idle = blank.idle; none_waits = blank.none_waits; asleep = blank.asleep };
+  holds = λ n blank. record { unlisted = blank.unlisted; idle = blank.idle; none_waits = blank.none_waits };
+  again = λ n ticks blank. record { unlisted = blank.unlisted; idle = blank.idle; none_waits = blank.none_waits };
+  waits = λ n ticks blank. record { unlisted = blank.unlisted; idle = blank.idle; none_waits = blank.none_waits };
 }
 
 pub blank_rests : Resting IsBlank

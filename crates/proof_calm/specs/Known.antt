@@ -34,7 +34,6 @@ pub record IsBlank (n : NodeState) : Type 0 where
   pub unlisted : n.classes ≡ None
   pub idle : n.series ≡ Idle
   pub none_waits : n.waiting ≡ []
-  pub asleep : n.awake ≡ false
 
 -- a task that sends a payload to such a node
 abbrev pub IsTaskFor : List Bool → Task → Type 0

@@ -30,6 +30,7 @@ pub use marks::quiet_lines_mark_nothing;
 pub use members::quiet_lines_leave_the_network;
 pub use passes::each_pass_brings_a_frame;
 pub use proof_waking::frames_fly_in_order;
+pub use proof_work::{hosts_are_tended, work_in_order_means};
 pub use resting::the_line_rests;
 pub use taking::the_chip_takes_payloads;
 pub use tied::requests_stay_tied;

@@ -1,0 +1,6 @@
+mod Untold
+mod Stillness
+mod Workers
+mod Listening
+mod Marks
+mod Reading

@@ -1,0 +1,196 @@
+-- What the transcript says of the nodes at work in a stretch, one by one.
+use Rattle.std.proofs.Common.{◌≡◌, ◌⊎◌, ℕ, ◌≤◌, ◌<◌, ◌==◌, ◌&&◌, ◌||◌, not, nat_le, Bool, true, false, if◌then◌else◌, List, [], ◌∷◌, ◌++◌, length, arith, inl, inr, refl, sym, ap, subst, ◌∙◌}
+use Rattle.std.proofs.lemmas.Bool.{and_parts, cases_lt, eqb-true, false≢true}
+use Rattle.std.specs.Prelude.{Option, Some, None, bytes_eq, filter}
+use Rattle.std.specs.List.{AllByRecursion, flat_map, list_all, list_any}
+use Rattle.chip_sim.specs.Nodes.{is_marked}
+use Rattle.device_kinds.specs.Kind.{classes_of, listens as kind_listens}
+use Rattle.zw_text.specs.declared.entry.Entry.{Entry}
+use Rattle.zw_text.specs.Transcript.{joined, lines_run, shown}
+use Rattle.law_wire.specs.law_transcript.Commands.{waiting}
+use Rattle.law_wire.specs.law_transcript.Nodes.{always, device_of, is_interviewed, is_joined, known_at_first, known_classes, listed_by, listing_of}
+use Rattle.law_time.specs.Calm.{IsStill, has_judged_all, is_asleep_if_known, is_idle, is_not_working, is_stalled}
+use Rattle.law_time.specs.Interviews.{listens}
+use Rattle.law_time.specs.Judged.{acknowledged, frames_come}
+use Rattle.law_time.specs.Questions.{same_bool}
+use Rattle.law_time.specs.Requests.{are_none}
+use Rattle.law_time.specs.Stretches.{accepted_for, are_listed, are_plain_listeners, commands_in, has_key, is_plain_listener, is_quiet, is_quiet_line, is_woken_so, knows_classes, knows_device, knows_node, woken_by, workers}
+use Rattle.proof_at_ease.specs.proof_alone.device_sim.State.{State}
+use Rattle.proof_at_ease.specs.proof_alone.proof_device.GoingOn.{AreSame, IsSame}
+use Rattle.proof_at_ease.specs.proof_answered.Workers.{IsAway}
+use Rattle.proof_at_ease.specs.Ease.{clock_of}
+use Rattle.proof_ready.specs.Ready.{AreKnown, AreWorkers, HostIsStill, marks_of}
+use Rattle.proof_ready.proofs.Marks.{marked_is, unmarked_beyond}
+
+-- ---- lists
+
+-- what is so of all is so of one
+pub of_one : (so : ℕ → Bool) (l : List ℕ) (n : ℕ) → list_all so l ≡ true → list_any (λ one. one == n) l ≡ true → so n ≡ true
+of_one so [] n all has = absurd (false≢true has)
+of_one so (one ∷ more) n all has = by (one == n) refl has (of_one so more n (and_parts (so one) (list_all so more) all).1)
+  where
+    by : (b : Bool) → (one == n) ≡ b → b || list_any (λ one. one == n) more ≡ true → (list_any (λ one. one == n) more ≡ true → so n ≡ true) → so n ≡ true
+    by true same has later = subst (λ (k : ℕ). so k ≡ true) (eqb-true one n same) (and_parts (so one) (list_all so more) all).0
+    by false other has later = later has
+
+-- those of a list of which something is so
+in_filter : (so : ℕ → Bool) (l : List ℕ) (n : ℕ) → list_any (λ one. one == n) (filter so l) ≡ true → (list_any (λ one. one == n) l ≡ true) × (so n ≡ true)
+in_filter so [] n has = absurd (false≢true has)
+in_filter so (one ∷ more) n has = pick (so one) (one == n) refl refl has (in_filter so more n)
+  where
+    pick : (b c : Bool) → so one ≡ b → (one == n) ≡ c → list_any (λ k. k == n) (if b then one ∷ filter so more else filter so more) ≡ true
+        → (list_any (λ k. k == n) (filter so more) ≡ true → (list_any (λ k. k == n) more ≡ true) × (so n ≡ true)) → ((one == n) || list_any (λ k. k == n) more ≡ true) × (so n ≡ true)
+    pick true true is same has rest = (ap (λ (b : Bool). b || list_any (λ k. k == n) more) same, subst (λ (k : ℕ). so k ≡ true) (eqb-true one n same) is)
+    pick true false is other has rest =
+        let later = rest (sym (ap (λ (b : Bool). b || list_any (λ k. k == n) (filter so more)) other) ∙ has) in
+        (ap (λ (b : Bool). b || list_any (λ k. k == n) more) other ∙ later.0, later.1)
+    pick false true is same has rest = (ap (λ (b : Bool). b || list_any (λ k. k == n) more) same, (rest has).1)
+    pick false false is other has rest = let later = rest has in (ap (λ (b : Bool). b || list_any (λ k. k == n) more) other ∙ later.0, later.1)
+
+out_filter : (so : ℕ → Bool) (l : List ℕ) (n : ℕ) → list_any (λ one. one == n) (filter so l) ≡ false → list_any (λ one. one == n) l ≡ true → so n ≡ false
+out_filter so [] n none has = absurd (false≢true has)
+out_filter so (one ∷ more) n none has = pick (so one) (one == n) refl refl none has (out_filter so more n)
+  where
+    pick : (b c : Bool) → so one ≡ b → (one == n) ≡ c → list_any (λ k. k == n) (if b then one ∷ filter so more else filter so more) ≡ false → (one == n) || list_any (λ k. k == n) more ≡ true
+        → (list_any (λ k. k == n) (filter so more) ≡ false → list_any (λ k. k == n) more ≡ true → so n ≡ false) → so n ≡ false
+    pick true true is same none has rest = absurd (false≢true (sym none ∙ ap (λ (b : Bool). b || list_any (λ k. k == n) (filter so more)) same))
+    pick true false is other none has rest =
+        rest (sym (ap (λ (b : Bool). b || list_any (λ k. k == n) (filter so more)) other) ∙ none) (sym (ap (λ (b : Bool). b || list_any (λ k. k == n) more) other) ∙ has)
+    pick false true is same none has rest = subst (λ (k : ℕ). so k ≡ false) (eqb-true one n same) is
+    pick false false is other none has rest = rest none (sym (ap (λ (b : Bool). b || list_any (λ k. k == n) more) other) ∙ has)
+
+none_before : (waits more : List ℕ) → not (are_none (waits ++ more)) ≡ false → waits ≡ []
+none_before [] more none = refl
+none_before (command ∷ waits) more none = absurd (false≢true (sym none))
+
+third_of : (a b c d : Bool) → a && b && c && d ≡ true → c ≡ true
+third_of true true true d all = refl
+third_of true true false d all = absurd (let bad : false ≡ true = all in cc)
+third_of true false c d all = absurd (let bad : false ≡ true = all in cc)
+third_of false b c d all = absurd (let bad : false ≡ true = all in cc)
+
+fourth_of : (a b c d : Bool) → a && b && c && d ≡ true → d ≡ true
+fourth_of true true true d all = all
+fourth_of true true false d all = absurd (let bad : false ≡ true = all in cc)
+fourth_of true false c d all = absurd (let bad : false ≡ true = all in cc)
+fourth_of false b c d all = absurd (let bad : false ≡ true = all in cc)
+
+not_so : (b : Bool) → not b ≡ true → b ≡ false
+not_so true none = absurd (false≢true none)
+not_so false none = refl
+
+-- ---- all is still
+
+pub still_host : (listing : List Entry → ℕ → List ℕ) (now : List State) (past : List Entry) → IsStill listing now past (clock_of past) → HostIsStill listing past
+still_host listing now past still = record {
+  rest = still.host;
+  idle = λ n is. of_one (λ node. is_idle past (clock_of past) node) (joined past) n still.idle is;
+  asleep = λ n is. of_one (λ node. is_asleep_if_known listing past node) (joined past) n still.asleep is;
+}
+
+pub all_away : (these : List Bool) (devices : List State) → list_all is_not_working devices ≡ true → AllByRecursion (IsAway these) devices
+all_away these [] none = tt
+all_away these (device ∷ devices) none =
+    let both = and_parts (is_not_working device) (list_all is_not_working devices) none in
+    (λ other. eqb-true device.work_left 0 both.0, all_away these devices both.1)
+
+-- no stall lasts where the host has judged all
+pub moves : (past : List Entry) → has_judged_all past (clock_of past) ≡ true → is_stalled past (clock_of past) ≡ false
+moves past judged = not_so (is_stalled past (clock_of past)) (and_parts (not (is_stalled past (clock_of past))) (acknowledged past == length (frames_come past)) judged).0
+
+-- a node that is none of these is not joined, where each that is joined is one
+pub not_joined : (these : List Bool) (past : List Entry) (n : ℕ) → (is_joined past n ≡ true → is_marked these n ≡ true) → is_marked these n ≡ false → is_joined past n ≡ false
+not_joined these past n is apart = by (is_joined past n) refl
+  where
+    by : (b : Bool) → is_joined past n ≡ b → is_joined past n ≡ false
+    by true joined = absurd (false≢true (sym apart ∙ is joined))
+    by false unjoined = unjoined
+
+-- ---- devices that are the same
+
+same_device : {A : Type 0} (of : Option State → A) → ((old new : State) → IsSame old new → of (Some new) ≡ of (Some old)) → (n : ℕ) (olds news : List State) → AreSame olds news
+    → of (device_of n news) ≡ of (device_of n olds)
+same_device of kind n [] [] same = refl
+same_device of kind n [] (new ∷ news) same = absurd same
+same_device of kind n (old ∷ olds) [] same = absurd same
+same_device of kind n (old ∷ olds) (new ∷ news) same =
+    ap (λ (b : Bool). of (if b then Some new else device_of n news)) (ap (λ (k : ℕ). k == n) same.0.node) ∙ by (old.node == n) (same_device of kind n olds news same.1)
+  where
+    by : (b : Bool) → of (device_of n news) ≡ of (device_of n olds) → of (if b then Some new else device_of n news) ≡ of (if b then Some old else device_of n olds)
+    by true rest = kind old new same.0
+    by false rest = rest
+
+same_listing : (n : ℕ) (olds news : List State) → AreSame olds news → listing_of news n ≡ listing_of olds n
+same_listing n olds news same = same_device listed_by (λ old new is. ap classes_of is.kind) n olds news same
+
+listed_so : (past : List Entry) (n : ℕ) (olds news : List State) → listing_of news n ≡ listing_of olds n
+    → are_listed news n (known_classes (always (listing_of news)) past n) ≡ are_listed olds n (known_classes (always (listing_of olds)) past n)
+listed_so past n olds news same = by (is_interviewed past n) (known_at_first n)
+  where
+    by : (b : Bool) (o : Option (List ℕ)) → are_listed news n (if b then Some (listing_of news n) else o) ≡ are_listed olds n (if b then Some (listing_of olds n) else o)
+    by true o = ap (λ (l : List ℕ). bytes_eq l l) same
+    by false None = refl
+    by false (Some classes) = ap (λ (l : List ℕ). bytes_eq classes l) same
+
+-- what is known with the devices as they are is known with them as they were
+pub known_before : (these : List Bool) (past : List Entry) (olds news : List State) → AreSame olds news → AreKnown these news past → AreKnown these olds past
+known_before these past olds news same known n marked =
+    let now = known n marked in
+    let listing : listing_of news n ≡ listing_of olds n = same_listing n olds news same in
+    record {
+      device = sym (same_device (λ (o : Option State). knows_device olds n past o) (λ old new is. ap (λ k. same_bool (listens n past) (kind_listens k)) is.kind) n olds news same)
+          ∙ (any_device olds news past n (device_of n news) ∙ now.device);
+      classes = sym (listed_so past n olds news listing) ∙ now.classes;
+      plain = ap (λ (l : List ℕ). list_any (λ class. (class == 0x55) || (class == 0x98)) l) (sym listing) ∙ now.plain;
+    }
+  where
+    any_device : (olds news : List State) (past : List Entry) (n : ℕ) (o : Option State) → knows_device olds n past o ≡ knows_device news n past o
+    any_device olds news past n None = refl
+    any_device olds news past n (Some device) = refl
+
+-- ---- the nodes at work
+
+module _ (key : List ℕ) (devices : List State) (past stretch : List Entry) (quiet : is_quiet key devices past stretch ≡ true) (listeners : are_plain_listeners devices past stretch ≡ true)
+    (within : (n : ℕ) → is_joined past n ≡ true → n ≤ 232) where
+  abbrev these : List Bool
+  these = marks_of (workers past stretch)
+
+  at_work : (n : ℕ) → is_marked these n ≡ true → list_any (λ one. one == n) (workers past stretch) ≡ true
+  at_work n marked = by (cases_lt n 233)
+    where
+      by : (n < 233) ⊎ (233 ≤ n) → list_any (λ one. one == n) (workers past stretch) ≡ true
+      by (inl near) = sym (marked_is (workers past stretch) n (omega (arith, near))) ∙ marked
+      by (inr far) = absurd (false≢true (sym (unmarked_beyond (workers past stretch) n far) ∙ marked))
+
+  knows : (n : ℕ) → is_marked these n ≡ true → knows_node key devices past n ≡ true
+  knows n marked =
+      of_one (λ node. knows_node key devices past node) (workers past stretch) n
+      (third_of (list_all is_quiet_line (lines_run stretch)) (nat_le (length (workers past stretch)) 16) (list_all (λ node. knows_node key devices past node) (workers past stretch))
+      (list_all (is_woken_so past stretch) (joined past ++ flat_map woken_by (lines_run stretch))) quiet) (at_work n marked)
+
+  plain : (n : ℕ) → is_marked these n ≡ true → (listens n past ≡ true) × (not (list_any (λ class. (class == 0x55) || (class == 0x98)) (listing_of devices n)) ≡ true)
+  plain n marked =
+      and_parts (listens n past) (not (list_any (λ class. (class == 0x55) || (class == 0x98)) (listing_of devices n)))
+      (of_one (λ node. is_plain_listener devices past node) (workers past stretch) n listeners (at_work n marked))
+
+  joined_one : (n : ℕ) → is_marked these n ≡ true → is_joined past n ≡ true
+  joined_one n marked = (in_filter (λ node. not (are_none (commands_in past stretch node))) (joined past) n (at_work n marked)).0
+
+  pub workers_are : AreWorkers these past
+  workers_are = record {
+    joined = joined_one;
+    listen = λ n marked. (plain n marked).0;
+    others = λ n apart is.
+        none_before (waiting n past) (shown (accepted_for n) stretch)
+        (out_filter (λ node. not (are_none (commands_in past stretch node))) (joined past) n (sym (marked_is (workers past stretch) n (within n is)) ∙ apart) is);
+  }
+
+  pub known_are : AreKnown these devices past
+  known_are n marked =
+      let known = knows n marked in
+      record {
+        device = third_of (is_joined past n) (has_key key (device_of n devices)) (knows_device devices n past (device_of n devices)) (knows_classes devices past n) known;
+        classes = (and_parts (are_listed devices n (known_classes (always (listing_of devices)) past n)) _
+            (fourth_of (is_joined past n) (has_key key (device_of n devices)) (knows_device devices n past (device_of n devices)) (knows_classes devices past n) known)).0;
+        plain = not_so _ (plain n marked).1;
+      }

@@ -1,0 +1,86 @@
+-- Nodes that are ready for a stretch by the transcript (this project's own rule): what is so of them in the machine.
+use Rattle.std.specs.Prelude.{◌≡◌, ℕ, zero, suc, ◌≤◌, ◌==◌, ◌||◌, Bool, true, false, List, [], ◌∷◌, length}
+use Rattle.std.specs.List.{AllByRecursion, list_any}
+use Rattle.zw_text.specs.declared.entry.Entry.{Entry}
+use Rattle.device_kinds.specs.Kind.{listens as kind_listens}
+use Rattle.mesh_sim.specs.Air.{is_joined as is_in_air}
+use Rattle.chip_sim.specs.Nodes.{is_marked}
+use Rattle.law_wire.specs.law_transcript.Commands.{waiting}
+use Rattle.law_wire.specs.law_transcript.Nodes.{always, device_of, is_joined, known_classes, listing_of}
+use Rattle.law_time.specs.Interviews.{listens}
+use Rattle.law_time.specs.Calm.{is_asleep_if_known, is_idle}
+use Rattle.law_time.specs.Rests.{is_rest}
+use Rattle.law_time.specs.Stretches.{are_listed, knows_device}
+use Rattle.proof_at_ease.specs.proof_alone.device_sim.State.{State}
+use Rattle.proof_at_ease.specs.proof_alone.host_model.State.{HostState, node_of}
+use Rattle.proof_at_ease.specs.proof_alone.world_model.State.{Machine}
+use Rattle.proof_at_ease.specs.proof_answered.FirstAttempts.{AllFirst}
+use Rattle.proof_at_ease.specs.proof_answered.Outward.{AllListen}
+use Rattle.proof_at_ease.specs.proof_answered.Workers.{IsAway, KnowsWorkers}
+use Rattle.proof_at_ease.specs.proof_answered.proof_calm.proof_work.proof_walk.Phases.{Between}
+use Rattle.proof_in_time.specs.Coming.{AllWaitFor, AreInAir}
+use Rattle.proof_at_ease.specs.Ease.{clock_of}
+
+-- ---- by the transcript
+
+-- the last request of the host is over; no series of a joined node runs; and none that was interviewed and does not listen counts as awake
+pub record HostIsStill (listing : List Entry → ℕ → List ℕ) (past : List Entry) : Type 0 where
+  pub rest : is_rest past (clock_of past) ≡ true
+  pub idle : (n : ℕ) → is_joined past n ≡ true → is_idle past (clock_of past) n ≡ true
+  pub asleep : (n : ℕ) → is_joined past n ≡ true → is_asleep_if_known listing past n ≡ true
+
+-- these nodes are joined and listen, and no command waits for another that is joined
+pub record AreWorkers (these : List Bool) (past : List Entry) : Type 0 where
+  pub joined : (n : ℕ) → is_marked these n ≡ true → is_joined past n ≡ true
+  pub listen : (n : ℕ) → is_marked these n ≡ true → listens n past ≡ true
+  pub others : (n : ℕ) → is_marked these n ≡ false → is_joined past n ≡ true → waiting n past ≡ []
+
+-- the host knows of a node whether it listens, and what it lists; and that is neither Transport Service nor Security 0
+pub record IsKnown (devices : List State) (past : List Entry) (n : ℕ) : Type 0 where
+  pub device : knows_device devices n past (device_of n devices) ≡ true
+  pub classes : are_listed devices n (known_classes (always (listing_of devices)) past n) ≡ true
+  pub plain : list_any (λ class. (class == 0x55) || (class == 0x98)) (listing_of devices n) ≡ false
+
+abbrev pub AreKnown : List Bool → List State → List Entry → Type 0
+AreKnown these devices past = (n : ℕ) → is_marked these n ≡ true → IsKnown devices past n
+
+-- the nodes of a list, as marks: so many from one on, and all
+abbrev pub marks_from : List ℕ → ℕ → ℕ → List Bool
+marks_from nodes number zero = []
+marks_from nodes number (suc more) = list_any (λ one. one == number) nodes ∷ marks_from nodes (suc number) more
+
+unfoldable pub marks_of : List ℕ → List Bool
+marks_of nodes = marks_from nodes 0 233
+
+-- ---- devices
+
+-- those of a kind that listens are awake, as their makers leave them
+abbrev pub AreUp : List State → Type 0
+AreUp devices = AllByRecursion (λ (device : State). kind_listens device.kind ≡ true → device.awake ≡ true) devices
+
+-- ---- in the machine
+
+-- a node has a place in the tables, and is joined in the air
+pub record IsThere (n : ℕ) (m : Machine) : Type 0 where
+  pub from : 2 ≤ n
+  pub to : n ≤ 232
+  pub in_air : is_in_air m.outside.outer.air n ≡ true
+
+-- the host has to do with these nodes alone: no task waits, none is to be done for another, and each series that is due or runs is at its first attempt; and
+-- each of these listens
+pub record HostIsReady (these : List Bool) (h : HostState) : Type 0 where
+  pub knows : KnowsWorkers these h
+  pub first : AllFirst h
+  pub no_task : h.requests.queue ≡ []
+  pub listen : (n : ℕ) → is_marked these n ≡ true → (node_of h n).listens ≡ true
+
+-- So it is. Each of these is joined in the air, has a device that listens, and is no reason for the host to wait; no frame is on the air for another, and no
+-- device of another is at work.
+pub record MachineIsReady (these : List Bool) (m : Machine) : Type 0 where
+  pub many : length these ≡ 233
+  pub none : is_marked these 0 ≡ false
+  pub host : HostIsReady these m.host.state
+  pub joined : AreInAir these m
+  pub listen : AllListen these m
+  pub away : AllByRecursion (IsAway these) m.outside.devices
+  pub waits : AllWaitFor these Between m
