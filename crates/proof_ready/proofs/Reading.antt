@@ -1,5 +1,5 @@
 -- What the transcript says of the nodes at work in a stretch, one by one.
-use Rattle.std.proofs.Common.{◌≡◌, ◌⊎◌, ℕ, ◌≤◌, ◌<◌, ◌==◌, ◌&&◌, ◌||◌, not, nat_le, Bool, true, false, if◌then◌else◌, List, [], ◌∷◌, ◌++◌, length, arith, inl, inr, refl, sym, ap, subst, ◌∙◌}
+use Rattle.std.proofs.Common.{◌≡◌, ◌⊎◌, ℕ, ◌≤◌, ◌<◌, ◌==◌, ◌&&◌, ◌||◌, not, nat_le, Bool, true, false, if◌then◌else◌, List, [], ◌∷◌, ◌++◌, length, arith, inl, inr, refl, sym, ap, ap₂, subst, ◌∙◌}
 use Rattle.std.proofs.lemmas.Bool.{and_parts, cases_lt, eqb-true, false≢true}
 use Rattle.std.specs.Prelude.{Option, Some, None, bytes_eq, filter}
 use Rattle.std.specs.List.{AllByRecursion, flat_map, list_all, list_any}
@@ -8,7 +8,12 @@ use Rattle.device_kinds.specs.Kind.{classes_of, listens as kind_listens}
 use Rattle.zw_text.specs.declared.entry.Entry.{Entry}
 use Rattle.zw_text.specs.Transcript.{joined, lines_run, shown}
 use Rattle.law_wire.specs.law_transcript.Commands.{waiting}
-use Rattle.law_wire.specs.law_transcript.Nodes.{always, device_of, is_interviewed, is_joined, known_at_first, known_classes, listed_by, listing_of}
+use Rattle.law_wire.specs.law_transcript.Nodes.{always, controller, device_of, first_node, is_interviewed, is_joined, known_at_first, known_classes, listed_by, listing_of}
+use Rattle.law_wire.specs.Networks.{air_links, air_network, chip_links, chip_network, is_listener, listens_at, network_of, repeaters}
+use Rattle.law_wire.specs.Reach.{CanBeReached}
+use Rattle.law_wire.specs.Routes.{IsRouteTo}
+use Rattle.route_table.specs.Network.{Network}
+use Rattle.route_table.specs.Walk.{Hops, Walk}
 use Rattle.law_time.specs.Calm.{IsStill, has_judged_all, is_asleep_if_known, is_idle, is_not_working, is_stalled}
 use Rattle.law_time.specs.Interviews.{listens}
 use Rattle.law_time.specs.Judged.{acknowledged, frames_come}
@@ -148,6 +153,37 @@ known_before these past olds news same known n marked =
     any_device olds news past n None = refl
     any_device olds news past n (Some device) = refl
 
+filter_same : (so other : ℕ → Bool) → ((n : ℕ) → so n ≡ other n) → (l : List ℕ) → filter so l ≡ filter other l
+filter_same so other same [] = refl
+filter_same so other same (one ∷ more) = ap₂ (λ (b : Bool) (l : List ℕ). if b then one ∷ l else l) (same one) (filter_same so other same more)
+
+same_repeaters : (past : List Entry) (olds news : List State) → AreSame olds news → repeaters news past ≡ repeaters olds past
+same_repeaters past olds news same =
+    filter_same (listens_at news) (listens_at olds)
+    (λ n. ap (λ (b : Bool). (n == first_node) || b) (same_device is_listener (λ old new is. ap kind_listens is.kind) n olds news same)) (joined past)
+
+-- so a node that is reached with the one is reached with the other
+pub reached_before : (past : List Entry) (olds news : List State) → AreSame olds news → (n : ℕ) → CanBeReached news past n → CanBeReached olds past n
+reached_before past olds news same n can =
+    let nodes = same_repeaters past olds news same in
+    let air : air_network news past ≡ air_network olds past = ap (λ (l : List ℕ). network_of (air_links past) l) nodes in
+    let chip : chip_network news past ≡ chip_network olds past = ap (λ (l : List ℕ). network_of (chip_links past) l) nodes in
+    record {
+      repeaters = can.repeaters;
+      route = subst (λ (net : Network). IsRouteTo net n can.repeaters) chip can.route;
+      live = subst (λ (net : Network). Hops net controller can.repeaters n) air can.live;
+      back = can.back;
+      way = subst (λ (net : Network). Walk net n can.back) air can.way;
+    }
+
+all_of_one : (So : ℕ → Type 0) (l : List ℕ) (n : ℕ) → AllByRecursion So l → list_any (λ one. one == n) l ≡ true → So n
+all_of_one So [] n all has = absurd (false≢true has)
+all_of_one So (one ∷ more) n all has = by (one == n) refl has (all_of_one So more n all.1)
+  where
+    by : (b : Bool) → (one == n) ≡ b → b || list_any (λ k. k == n) more ≡ true → (list_any (λ k. k == n) more ≡ true → So n) → So n
+    by true same has later = subst So (eqb-true one n same) all.0
+    by false other has later = later has
+
 -- ---- the nodes at work
 
 module _ (key : List ℕ) (devices : List State) (past stretch : List Entry) (quiet : is_quiet key devices past stretch ≡ true) (listeners : are_plain_listeners devices past stretch ≡ true)
@@ -194,3 +230,6 @@ module _ (key : List ℕ) (devices : List State) (past stretch : List Entry) (qu
             (fourth_of (is_joined past n) (has_key key (device_of n devices)) (knows_device devices n past (device_of n devices)) (knows_classes devices past n) known)).0;
         plain = not_so _ (plain n marked).1;
       }
+
+  pub reached_are : AllByRecursion (CanBeReached devices past) (workers past stretch) → (n : ℕ) → is_marked these n ≡ true → CanBeReached devices past n
+  reached_are all n marked = all_of_one (CanBeReached devices past) (workers past stretch) n all (at_work n marked)

@@ -5,7 +5,7 @@ use Rattle.zw_text.specs.declared.entry.Entry.{Entry}
 use Rattle.chip_sim.specs.Nodes.{is_marked}
 use Rattle.law_wire.specs.law_transcript.Nodes.{always, listing_of}
 use Rattle.law_time.specs.Calm.{IsStill}
-use Rattle.law_time.specs.Stretches.{are_plain_listeners, is_quiet, workers}
+use Rattle.law_time.specs.Stretches.{IsStretch, are_plain_listeners, workers}
 use Rattle.proof_at_ease.specs.proof_alone.device_sim.State.{State}
 use Rattle.proof_at_ease.specs.proof_alone.host_model.State.{node_of}
 use Rattle.proof_at_ease.specs.proof_alone.world_model.State.{Machine, first_machine}
@@ -14,8 +14,9 @@ use Rattle.proof_at_ease.specs.proof_alone.world_lines.Done.{AreDone, events_of}
 use Rattle.proof_at_ease.specs.proof_alone.world_lines.Whole.{AreWhole}
 use Rattle.proof_at_ease.specs.proof_line.proof_traffic.OutsideTraffic.{AreNodes}
 use Rattle.proof_at_ease.specs.proof_answered.Few.{AreIdle}
-use Rattle.proof_at_ease.specs.Ease.{AreToReach, ChipRests, clock_of}
-use Rattle.proof_in_time.specs.Coming.{GoWhole, IsKeptFor}
+use Rattle.proof_at_ease.specs.proof_answered.Workers.{IsWorkedFor}
+use Rattle.proof_at_ease.specs.Ease.{ChipRests, clock_of}
+use Rattle.proof_in_time.specs.Coming.{GoWhole}
 use Rattle.proof_in_time.specs.InStep.{ArePlainOver}
 use Rattle.proof_ready.specs.Ready.{AreUp, marks_of}
 
@@ -35,8 +36,8 @@ told_in keys devices before lines = transcript_of (moment keys devices before) l
 abbrev pub at_work : Keys → List State → List Spoken → List Spoken → List Bool
 at_work keys devices before lines = marks_of (workers (told_before keys devices before) (told_in keys devices before lines))
 
--- All lines were run whole; the devices are of nodes that have a place, and as their makers left them. All is still as the stretch begins, and it is quiet; the
--- nodes at work are plain listeners that can be reached, the keeper does not fail in it, and the orders for these nodes go unsealed.
+-- All lines were run whole; the devices are of nodes that have a place, and as their makers left them. All is still as the stretch begins; it is
+-- one by the law, and its nodes at work are plain listeners; its lines and the orders that are accepted in it are for these, and these go unsealed.
 pub record IsStretchByText (key : List ℕ) (keys : Keys) (devices : List State) (before lines : List Spoken) : Type 0 where
   pub before_done : AreDone (first_of keys devices) before
   pub before_whole : AreWhole (first_of keys devices) before
@@ -47,10 +48,9 @@ pub record IsStretchByText (key : List ℕ) (keys : Keys) (devices : List State)
   pub idle : AreIdle devices
   pub still : IsStill (always (listing_of (moment keys devices before).outside.devices)) (moment keys devices before).outside.devices (told_before keys devices before)
       (clock_of (told_before keys devices before))
-  pub quiet : is_quiet key (moment keys devices before).outside.devices (told_before keys devices before) (told_in keys devices before lines) ≡ true
+  pub stretch : IsStretch key (moment keys devices before).outside.devices (told_before keys devices before) (told_in keys devices before lines)
   pub listeners : are_plain_listeners (moment keys devices before).outside.devices (told_before keys devices before) (told_in keys devices before lines) ≡ true
-  pub reach : AreToReach (at_work keys devices before lines) devices (told_before keys devices before)
-  pub kept : IsKeptFor (at_work keys devices before lines) (told_in keys devices before lines)
+  pub worked : IsWorkedFor (at_work keys devices before lines) (told_in keys devices before lines)
   pub plain : ArePlainOver (at_work keys devices before lines) devices (events_of (before ++ lines))
 
 -- the chip rests, each command that was ever accepted for these nodes goes whole, and none of them is blocked

@@ -6,8 +6,8 @@
 //! (`hosts_are_ready`). It knows of each node what its device lists (`hosts_know_what_devices_list`), and one whose device listens has one that does at
 //! every moment (`listeners_are_there`). All of it is one record (`machines_are_ready`), which so is had of the nodes at work in a quiet stretch with plain
 //! listeners alone, where all is still (`still_machines_are_ready`). So a stretch may begin there, if the chip rests and the host's commands go whole
-//! (`stretches_may_begin`); and so such lines are a stretch for the nodes at work in them, if none of these is blocked (`still_stretches_begin`).
-//! There is no code here.
+//! (`stretches_may_begin`); and so such lines are a stretch for the nodes at work in them, if none of these is blocked (`still_stretches_begin`). There is
+//! no code here.
 //! The definitions are in `specs/Ready` and `specs/Stretch`. `proofs/Untold` has that the records keep nothing of a node that is not joined, `Stillness` is
 //! of one node, `Workers` of the host, `Listening` of devices and classes, and `Marks` and `Reading` are of what the transcript says.
 #![tactic(auto)]

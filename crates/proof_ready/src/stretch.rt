@@ -83,4 +83,7 @@ pub fn still_stretches_begin()
 {
     still_machines_are_ready();
     stretches_may_begin();
+    joined_nodes_are_there();
+    devices_go_on();
+    devices_stay_the_same();
 }
