@@ -151,8 +151,9 @@ def clears_broken(entries, chip, host):
 
 def heard(entries):
     """What the host heard, as a row."""
-    found = EMPTY
-    for entry in tuple_of(NAMES.get("law_host.specs.Heard.heard_by_host").code(entries)):
+    all_heard, found = tuple_of(NAMES.get("law_host.specs.Heard.heard_by_host").code(entries)), EMPTY
+    WORLD.part()
+    for entry in all_heard:
         found = found.with_item(entry)
     return found
 

@@ -136,6 +136,10 @@ class World:
         for record in self.constants:
             record.memo.clear()
             self.made[(record.names,) + tuple(getattr(record, name) for name in record.names)] = record
+        self.part()
+
+    def part(self):
+        """Lists that are made from now on share no row with those before: what is kept with a row may hang on what stands behind it there."""
         self.empty.memo.clear()
         self.empty.next.clear()
         self.empty.rests = None
