@@ -7,7 +7,7 @@ from .owed import Broken
 from .routes import CONTROLLER
 
 QUIET = ORDERS + ("tick", "cut", "show", "store", "wake")
-TICKS_FOR_EACH, MOST_AT_WORK, MOST_WATCHED = 500, 16, 6
+TICKS_FOR_EACH, TICKS_FOR_ALL, MOST_AT_WORK, MOST_WATCHED = 500, 500, 16, 6
 WORDS = {SUCCESS: "success", FAIL: "fail", NO_SUPPORT: "nosupport"}
 
 
@@ -106,10 +106,13 @@ class Stretch:
                 and sorted(self.woken) == sleepers)
 
     def is_due(self):
-        """Whether each command must have its answer now: one node of any kind at work, or plain listeners alone."""
+        """Whether each command must have its answer now: plain listeners alone at work, or one node of any kind."""
         count = sum(len(commands) for commands in self.commands.values())
-        return (count and self.waited >= TICKS_FOR_EACH * count and self.is_stretch()
-                and (len(self.commands) == 1 or all(is_plain_listener(node) for node in self.commands)))
+        if not count or not self.is_stretch():
+            return False
+        if all(is_plain_listener(node) for node in self.commands):
+            return self.waited >= TICKS_FOR_ALL
+        return len(self.commands) == 1 and self.waited >= TICKS_FOR_EACH * count
 
     def judge(self, commands):
         """Each command has the final outcome that its device's kind says."""

@@ -1,17 +1,16 @@
 -- Calm moments: nothing is under way and nothing is still to be lost (this project's own rule). A moment is what stands before it, the
 -- clock, and the devices as they are then.
 use Rattle.std.specs.Prelude.{◌≡◌, ℕ, ◌+◌, ◌-◌, ◌==◌, ◌&&◌, ◌||◌, not, bytes_eq, nat_lt, is_some, Bool, true, false, if◌then◌else◌, List, [], ◌∷◌, ◌++◌, length, Option, Some, None}
-use Rattle.std.specs.List.{flat_map, list_any, list_all}
+use Rattle.std.specs.List.{flat_map, list_all}
 use Rattle.serial_frame.specs.declared.unit.TheConstants.{CAN}
 use Rattle.chip_functions.specs.declared.function.TheConstants.{REQUEST_NODE_INFO, SEND_DATA}
 use Rattle.law_wire.specs.device_stack.State.{State}
 use Rattle.zw_words.specs.declared.side.Side.TheVariants.{Host, Chip}
 use Rattle.zw_text.specs.declared.line.Line.{Line}
 use Rattle.zw_text.specs.declared.line.Line.TheVariants as lines
-use Rattle.zw_text.specs.declared.entry.Ended.TheVariants.{Unanswered}
 use Rattle.zw_text.specs.declared.entry.Entry.{Entry}
-use Rattle.zw_text.specs.declared.entry.Entry.TheVariants.{Said, Time, Written, Dropped, Garbled, Heard, Out, ChipFull}
-use Rattle.zw_text.specs.Transcript.{AirFrame, sessions, joined, shown, folded, line_of, lines_run, frames, where_same}
+use Rattle.zw_text.specs.declared.entry.Entry.TheVariants.{Said, Time, Written, Dropped, Garbled, Heard, ChipFull, Cleared}
+use Rattle.zw_text.specs.Transcript.{AirFrame, joined, shown, folded, line_of, lines_run, frames}
 use Rattle.law_wire.specs.law_transcript.Commands.{waiting}
 use Rattle.law_wire.specs.law_transcript.Fates.{marks_left, first_fates}
 use Rattle.law_wire.specs.law_transcript.Lists.{shown_after}
@@ -21,11 +20,11 @@ use Rattle.law_wire.specs.law_transcript.Restarts.{repeats, ticks_asked}
 use Rattle.law_wire.specs.law_transcript.Units.{is_frame, function_in, body_in}
 use Rattle.law_wire.specs.Links.{lasts}
 use Rattle.law_time.specs.Moments.{clock}
-use Rattle.law_time.specs.Judged.{acknowledged, frames_come, is_data, acknowledgements_come, last_of}
+use Rattle.law_time.specs.Judged.{acknowledged, frames_come, is_data, acknowledgements_come}
 use Rattle.law_time.specs.Requests.{are_none}
 use Rattle.law_time.specs.Interviews.{listens}
 use Rattle.law_time.specs.Waking.{is_awake_sleeper}
-use Rattle.law_time.specs.Sessions.{is_open, runs}
+use Rattle.law_time.specs.Sessions.{is_open, no_series, runs, series_from, with_time}
 use Rattle.law_time.specs.Rests.{is_rest}
 
 -- ---- nothing is still to be lost
@@ -105,9 +104,10 @@ has_judged_all past now = not (is_stalled past now) && (acknowledged past == len
 abbrev pub air_is_empty : List Entry → Bool
 air_is_empty past = length (first_fates past) == length (frames past)
 
--- what stands after the last data frame of the chip
+-- what stands after the last data frame of the chip, and after bytes of the host were lost in a restart: an acknowledgement on its way then was never heard
 abbrev pub after_frame : List Entry → Entry → List Entry
 after_frame following (Written Chip unit) = if is_data unit then [] else following ++ Written Chip unit ∷ []
+after_frame following (Cleared Host count) = []
 after_frame following entry = following ++ entry ∷ []
 
 -- the data frames of the chip
@@ -172,19 +172,13 @@ is_not_working device = device.work_left == 0
 
 -- ---- nothing is stuck
 
--- when a command was last given up since the host started
-abbrev pub given_up_when : ℕ → List Entry → Entry → List ℕ
-given_up_when command past (Out number Unanswered) = where_same number command (clock past)
-given_up_when command past _ = []
+-- another series of attempts of the node is to come: the last one was given up less than 100 ticks ago, since the host started
+abbrev pub is_series_to_come : List Entry → ℕ → ℕ → Bool
+is_series_to_come past now node = not (are_none (with_time node past now (series_from node [] no_series past)).again)
 
--- a listening node with a command that waits and a session without final outcome has been given up less than 100 ticks ago, so that
--- its next series is to come
-abbrev pub is_to_come : List Entry → ℕ → ℕ → Bool
-is_to_come past now command = list_any (λ tick. nat_lt now (tick + 100)) (last_of (shown_after (given_up_when command) [] past))
-
+-- so it is for a listening node with a command that waits and a session without final outcome
 abbrev pub is_not_stuck : List Entry → ℕ → ℕ → Bool
-is_not_stuck past now node =
-    not (listens node past) || are_none (waiting node past) || not (is_open node past) || list_all (is_to_come past now) (last_of (sessions node past))
+is_not_stuck past now node = not (listens node past) || are_none (waiting node past) || not (is_open node past) || is_series_to_come past now node
 
 -- ---- calm
 

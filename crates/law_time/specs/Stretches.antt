@@ -183,9 +183,18 @@ is_plain_listener devices before node =
 abbrev pub are_plain_listeners : List State → List Entry → List Entry → Bool
 are_plain_listeners devices before stretch = list_all (is_plain_listener devices before) (workers before stretch)
 
--- what is asked of a stretch that begins after a transcript, with the devices as they are then
+-- 500 ticks have passed, however many commands there are
+abbrev pub is_long_enough : List Entry → Bool
+is_long_enough stretch = nat_le 500 (waited stretch)
+
+-- what is asked of a stretch for plain listeners that begins after a transcript, with the devices as they are then
+abbrev pub AnswersTogether : List ℕ → List State → List Entry → List Entry → Type 0
+AnswersTogether key devices before stretch =
+    IsCalm (always (listing_of devices)) devices before (ticks_asked (lines_run before)) → IsStretch key devices before stretch
+    → are_plain_listeners devices before stretch ≡ true → is_long_enough stretch ≡ true → answers_all devices before stretch ≡ true
+
+-- and of one for one node of any kind
 pub record AnswersInTime (key : List ℕ) (devices : List State) (before stretch : List Entry) : Type 0 where
   pub alone : IsCalm (always (listing_of devices)) devices before (ticks_asked (lines_run before)) → IsStretch key devices before stretch
       → is_alone before stretch ≡ true → is_time before stretch ≡ true → answers_all devices before stretch ≡ true
-  pub together : IsCalm (always (listing_of devices)) devices before (ticks_asked (lines_run before)) → IsStretch key devices before stretch
-      → are_plain_listeners devices before stretch ≡ true → is_time before stretch ≡ true → answers_all devices before stretch ≡ true
+  pub together : AnswersTogether key devices before stretch

@@ -1,5 +1,5 @@
 -- Worked transcripts of waits, in the form in which the program prints them, before the table at the end; those by hand say so.
-use Rattle.std.specs.Prelude.{true, List, [], ◌∷◌, ◌++◌, codes, take}
+use Rattle.std.specs.Prelude.{ℕ, true, List, [], ◌∷◌, ◌++◌, codes, take}
 use Rattle.zw_base.specs.declared.property.Name.TheVariants as names
 use Rattle.zw_base.specs.declared.property.By.TheVariants.{Session}
 use Rattle.zw_words.specs.declared.side.Side.TheVariants.{Host, Chip}
@@ -108,9 +108,9 @@ held_node =
     Written Host (bytes (codes "010900136502840825042F")) ∷ Written Chip (bytes (codes "06")) ∷ Written Chip (bytes (codes "0104011301E8")) ∷
     Air 8 1 101 [] (bytes (codes "8408")) ∷ Written Host (bytes (codes "06")) ∷ []
 
--- a stale response tells the host that node 10 does not listen, just when its next series is due; then it listens again
-abbrev pub stuck_node : List Entry
-stuck_node =
+-- command 1 of node 10 is given up in tick 4; then the host asks it anew, and its question is lost
+abbrev pub given_up_and_asked : List Entry
+given_up_and_asked =
     Said (codes "link 1 10") ∷ Said (codes "join 10") ∷ Said (codes "link 1 5") ∷ Said (codes "join 5") ∷ Said (codes "wake 5") ∷
     Air 1 5 1 [] (bytes (codes "8407")) ∷ Said (codes "interview 10") ∷ Written Host (bytes (codes "010400410AB0")) ∷
     Written Chip (bytes (codes "06")) ∷ Written Chip (bytes (codes "0109014180000004000032")) ∷ Written Host (bytes (codes "06")) ∷
@@ -127,8 +127,12 @@ stuck_node =
     Written Host (bytes (codes "010E00130A076C0101032501FF25037D")) ∷ Written Chip (bytes (codes "06")) ∷
     Written Chip (bytes (codes "0104011301E8")) ∷ Air 4 1 10 [] (bytes (codes "6C0101032501FF")) ∷ Written Host (bytes (codes "06")) ∷ Time 4 ∷
     Lost 4 ∷ Written Chip (bytes (codes "010500130301EB")) ∷ Written Host (bytes (codes "06")) ∷ Out 1 endings.Unanswered ∷ Said (codes "stall 1") ∷
-    Said (codes "interview 5") ∷ Written Host (bytes (codes "0104004105BF")) ∷ Said (codes "drop h") ∷ Said (codes "interview 10") ∷
-    Said (codes "tick 99") ∷ Time 5 ∷ Written Chip (bytes (codes "06")) ∷ Written Chip (bytes (codes "01090141000000040000B2")) ∷
+    Said (codes "interview 5") ∷ Written Host (bytes (codes "0104004105BF")) ∷ Said (codes "drop h") ∷ Said (codes "interview 10") ∷ []
+
+-- a stale response tells it that the node does not listen
+abbrev pub taken_not_to_listen : List Entry
+taken_not_to_listen =
+    Time 5 ∷ Written Chip (bytes (codes "06")) ∷ Written Chip (bytes (codes "01090141000000040000B2")) ∷
     Written Host (bytes (codes "06")) ∷ Dropped Host ∷ Written Host (bytes (codes "01040060059E")) ∷ Written Chip (bytes (codes "06")) ∷ Time 20 ∷
     InterviewFailed 5 ∷ Written Host (bytes (codes "010400410AB0")) ∷ Written Chip (bytes (codes "06")) ∷ Time 21 ∷
     Written Chip (bytes (codes "01090141000000040000B2")) ∷ Written Host (bytes (codes "06")) ∷ Written Host (bytes (codes "010400600A91")) ∷
@@ -136,11 +140,23 @@ stuck_node =
     Written Chip (bytes (codes "010D00498405070400003180846C60")) ∷ Written Host (bytes (codes "06")) ∷
     Written Chip (bytes (codes "0109014180000004000032")) ∷ Written Host (bytes (codes "06")) ∷ Written Chip (bytes (codes "01040160019B")) ∷
     Written Host (bytes (codes "06")) ∷ Time 22 ∷ Written Chip (bytes (codes "010C0049840A0604000025856CFA")) ∷ Written Host (bytes (codes "06")) ∷
-    Interviewed 10 ∷ Said (codes "set 10 off") ∷ Accepted 2 10 ∷ Said (codes "interview 10") ∷ Written Host (bytes (codes "010400410AB0")) ∷
+    Interviewed 10 ∷ []
+
+-- a command is accepted, and the host finds that the node listens
+abbrev pub found_to_listen : ℕ → List Entry
+found_to_listen now =
+    Said (codes "set 10 off") ∷ Accepted 2 10 ∷ Said (codes "interview 10") ∷ Written Host (bytes (codes "010400410AB0")) ∷
     Written Chip (bytes (codes "06")) ∷ Written Chip (bytes (codes "0109014180000004000032")) ∷ Written Host (bytes (codes "06")) ∷
     Written Host (bytes (codes "010400600A91")) ∷ Written Chip (bytes (codes "06")) ∷ Written Chip (bytes (codes "01040160019B")) ∷
-    Written Host (bytes (codes "06")) ∷ Said (codes "tick 1") ∷ Time 104 ∷ Written Chip (bytes (codes "010C0049840A0604000025856CFA")) ∷
+    Written Host (bytes (codes "06")) ∷ Said (codes "tick 1") ∷ Time now ∷ Written Chip (bytes (codes "010C0049840A0604000025856CFA")) ∷
     Written Host (bytes (codes "06")) ∷ Interviewed 10 ∷ []
+
+-- so it is taken not to listen just when its next series is due; or as the host is started anew, before that
+abbrev pub stuck_node : List Entry
+stuck_node = given_up_and_asked ++ Said (codes "tick 99") ∷ (taken_not_to_listen ++ found_to_listen 104)
+
+abbrev pub stuck_by_restart : List Entry
+stuck_by_restart = given_up_and_asked ++ Said (codes "tick 30") ∷ (taken_not_to_listen ++ Said (codes "restart") ∷ found_to_listen 35)
 
 -- a stale response tells the host that node 5 listens, while it counts as awake; then the host restarts, and it does not listen again
 abbrev pub woken_before_restart : List Entry

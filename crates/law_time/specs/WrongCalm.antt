@@ -1,9 +1,9 @@
 -- Moments that are not calm, and stretches that are invalid, one thing wrong in each.
 use Rattle.std.specs.Prelude.{ℕ, zero, suc, List, [], ◌∷◌, ◌++◌, codes, take}
-use Rattle.zw_words.specs.declared.side.Side.TheVariants.{Chip}
+use Rattle.zw_words.specs.declared.side.Side.TheVariants.{Chip, Host}
 use Rattle.zw_text.specs.declared.entry.Ended.TheVariants as endings
 use Rattle.zw_text.specs.declared.entry.Entry.{Entry}
-use Rattle.zw_text.specs.declared.entry.Entry.TheVariants.{Said, Accepted, Air, Heard, Out, Interviewed, Time, Garbled}
+use Rattle.zw_text.specs.declared.entry.Entry.TheVariants.{Said, Accepted, Air, Cleared, Heard, Out, Interviewed, Time, Garbled}
 use Rattle.law_wire.specs.law_transcript.Worked.{bytes}
 use Rattle.law_time.specs.WorkedCalm.{dimmed, five_members, no_end_point, sixth_asked, first_answered, has_failed}
 use Rattle.law_time.specs.WorkedUnits.{by_chip, by_host, chip_acknowledges, host_acknowledges, failed_asked}
@@ -44,6 +44,11 @@ unsettled = Said (codes "tick 1") ∷ Time 1 ∷ in_turns 64
 -- and in one less
 abbrev pub just_settled : List Entry
 just_settled = Said (codes "tick 1") ∷ Time 1 ∷ in_turns 63
+
+-- such an acknowledgement is lost in a restart, so that the chip is to write its frame again
+abbrev pub cleared_acknowledgement : List Entry
+cleared_acknowledgement =
+    Said (codes "tick 1") ∷ Time 1 ∷ by_chip (codes "01040160009A") ∷ host_acknowledges ∷ Said (codes "restart") ∷ Cleared Host 1 ∷ Said (codes "tick 1") ∷ []
 
 -- ---- stretches
 

@@ -6,7 +6,16 @@ ghost use Rattle.law_wire.specs.device_kinds.declared.kind.Kind.TheVariants as k
 ghost use Rattle.std.specs.List.{list_all};
 ghost use Rattle.law_time.specs.Calm.{IsCalm, IsStill, air_is_empty, chip_is_idle, is_not_stuck, is_settled, owes_no_call};
 ghost use Rattle.law_time.specs.Rests.{is_rest};
-ghost use Rattle.law_time.specs.Stretches.{are_plain_listeners, IsStretch, is_quiet, is_time, is_alone, answers_all, AnswersInTime};
+ghost use Rattle.law_time.specs.Stretches.{
+  are_plain_listeners,
+  IsStretch,
+  is_quiet,
+  is_time,
+  is_long_enough,
+  is_alone,
+  answers_all,
+  AnswersInTime,
+};
 ghost use Rattle.law_time.specs.WorkedBetween.{callback_owed, order_unkept, stretch_of_refused, stretch_unkept};
 ghost use Rattle.law_time.specs.WorkedStretches.{
   before_failing,
@@ -17,7 +26,16 @@ ghost use Rattle.law_time.specs.WorkedStretches.{
   success_as_failing,
   the_thermostat,
 };
-ghost use Rattle.law_time.specs.WorkedWaits.{before_two, before_waking, calm_exchange, stretch_of_sleeper, stretch_of_two, stuck_node, the_other_switch};
+ghost use Rattle.law_time.specs.WorkedWaits.{
+  before_two,
+  before_waking,
+  calm_exchange,
+  stretch_of_sleeper,
+  stretch_of_two,
+  stuck_by_restart,
+  stuck_node,
+  the_other_switch,
+};
 ghost use Rattle.law_time.specs.WrongStretches.{accepted_as_switch, sensors_from, sensors_join, sensors_work, woken_before_order, woken_twice};
 ghost use Rattle.law_time.specs.WrongWaits.{asleep_not_yet, left_in_time, reported_next, stretch_unwoken, unheard_acknowledgement};
 ghost use Rattle.law_wire.specs.law_transcript.Nodes.{always, listing_of};
@@ -72,6 +90,7 @@ ghost use Rattle.law_time.specs.WrongCalm.{
   information_owed,
   just_settled,
   unsettled,
+  cleared_acknowledgement,
 };
 ghost use Rattle.law_time.specs.WorkedTurns.{known_sleeper};
 
@@ -103,7 +122,8 @@ pub fn worked_calm()
 /// A moment is not calm while a frame, an acknowledgement or a unit is to be lost, changed or answered by CAN, which frames of devices and
 /// repeated ones leave so, bytes are stalled, a request is under way, the chip waits for an acknowledgement, or owes a callback though no
 /// frame is on the air, or what a node lists, or has just dropped a frame, or may still be to hear the last of 64 units of the host, a frame is on
-/// the air, a series runs, a node that does not listen is kept awake, a device is at work on a change, the host has just restarted, or a node is stuck.
+/// the air, a series runs, a node that does not listen is kept awake, a device is at work on a change, the host has just restarted, or lost an
+/// acknowledgement on its way to the chip as it did, or a node is stuck.
 pub fn rejected_calm()
     ensures marked { IsCalm (always (listing_of (the_switch ∷ []))) (the_switch ∷ []) (Said (codes "lose 1") ∷ []) 0 → ⊥ }
     ensures acknowledgement { IsCalm (always (listing_of (the_switch ∷ []))) (the_switch ∷ []) (Said (codes "loseack 1") ∷ []) 0 → ⊥ }
@@ -128,6 +148,7 @@ pub fn rejected_calm()
     ensures dropped { IsCalm (always (listing_of (the_switch ∷ []))) (the_switch ∷ []) dropped_by_chip 1 → ⊥ }
     ensures information { IsCalm (always (listing_of (the_switch ∷ []))) (the_switch ∷ []) information_owed 1 → ⊥ }
     ensures unsettled { IsCalm (always (listing_of (the_switch ∷ []))) (the_switch ∷ []) unsettled 1 → ⊥ }
+    ensures cleared { IsCalm (always (listing_of (the_switch ∷ []))) (the_switch ∷ []) cleared_acknowledgement 2 → ⊥ }
 {}
 
 /// Stretches that answer in time: of one node, of two that listen, and of one that sleeps; of one that is reached over another node; and of
@@ -141,6 +162,7 @@ pub fn worked_stretches()
     ensures two { IsStretch [] (the_switch ∷ the_other_switch ∷ []) before_two stretch_of_two }
     ensures two_plain { are_plain_listeners (the_switch ∷ the_other_switch ∷ []) before_two stretch_of_two ≡ true }
     ensures two_in_time { is_time before_two stretch_of_two ≡ true }
+    ensures two_long_enough { is_long_enough stretch_of_two ≡ true }
     ensures two_answered { AnswersInTime [] (the_switch ∷ the_other_switch ∷ []) before_two stretch_of_two }
     ensures sleeper { IsStretch [] (the_sensor ∷ []) before_waking stretch_of_sleeper }
     ensures sleeper_alone { is_alone before_waking stretch_of_sleeper ≡ true }
@@ -184,6 +206,7 @@ pub fn rejected_stretches()
     ensures woken_twice { is_quiet [] (the_sensor ∷ []) before_waking woken_twice ≡ false }
     ensures idly_woken { is_quiet [] (the_switch ∷ []) [] (Said (codes "wake 2") ∷ []) ≡ false }
     ensures too_soon { is_time [] plain_exchange ≡ false }
+    ensures not_long_enough { is_long_enough plain_exchange ≡ false }
     ensures missing { AnswersInTime [] (the_switch ∷ []) [] left_in_time → ⊥ }
     ensures succeeded { AnswersInTime [] (the_thermostat ∷ []) before_failing failing_as_success → ⊥ }
     ensures failed { AnswersInTime [] (the_thermostat ∷ []) before_failing success_as_failing → ⊥ }
@@ -204,7 +227,7 @@ pub fn rejected_stretches()
 {}
 
 /// A node that is stuck: all is still and the node is ready, and its command is never answered, since nothing makes a new series due. So
-/// such a moment is not calm.
+/// such a moment is not calm. Nor is one less than 100 ticks after a series was given up, where the host was started anew since.
 pub fn stuck_stretches()
     ensures still { IsStill (always (listing_of (the_switch ∷ the_sensor ∷ the_other_switch ∷ [])))
         (the_switch ∷ the_sensor ∷ the_other_switch ∷ []) stuck_node 104 }
@@ -213,6 +236,9 @@ pub fn stuck_stretches()
     ensures one { is_alone stuck_node (Said (codes "tick 500") ∷ []) ≡ true }
     ensures in_time { is_time stuck_node (Said (codes "tick 500") ∷ []) ≡ true }
     ensures unanswered { answers_all (the_switch ∷ the_sensor ∷ the_other_switch ∷ []) stuck_node (Said (codes "tick 500") ∷ []) ≡ false }
+    ensures still_after { IsStill (always (listing_of (the_switch ∷ the_sensor ∷ the_other_switch ∷ [])))
+        (the_switch ∷ the_sensor ∷ the_other_switch ∷ []) stuck_by_restart 35 }
+    ensures stuck_after { list_all (is_not_stuck stuck_by_restart 35) (joined stuck_by_restart) ≡ false }
 {}
 
 /// A moment in which the chip owes the callback of a payload for which it has no route: the host rests, the chip waits for no acknowledgement and the air is

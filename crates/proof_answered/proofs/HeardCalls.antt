@@ -8,8 +8,7 @@ use Rattle.zw_text.specs.declared.entry.Entry.TheVariants as entry
 use Rattle.serial_frame.specs.Frame.{FrameParts}
 use Rattle.route_table.specs.declared.route.Route.{Route}
 use Rattle.chip_functions.specs.Notice.{status_code, status_of}
-use Rattle.chip_functions.specs.declared.notice.Notice.TheVariants.{ApplicationCommandHandler, ApplicationUpdate, SendData}
-use Rattle.chip_functions.specs.declared.notice.Update.{Update}
+use Rattle.chip_functions.specs.declared.notice.Notice.TheVariants.{ApplicationCommandHandler, SendData}
 use Rattle.chip_functions.specs.declared.notice.TransmitStatus.{TransmitStatus}
 use Rattle.chip_functions.specs.declared.notice.TransmitStatus.TheVariants.{CompleteOk, NoAck, Fail, NotIdle, NoRoute as no_route_status}
 use Rattle.chip_sim.specs.Answers.{notice_frame}
@@ -65,9 +64,6 @@ answer_heard id status e = let no = ap (λ (f : FrameParts). f.kind) e in absurd
 
 payload_heard : (n : ℕ) (payload : List ℕ) → SaysHeard (notice_frame (ApplicationCommandHandler 0 n payload))
 payload_heard n payload id status e = let no = ap (λ (f : FrameParts). f.func) e in absurd cc
-
-update_heard : (update : Update) → SaysHeard (notice_frame (ApplicationUpdate update))
-update_heard update id status e = let no = ap (λ (f : FrameParts). f.func) e in absurd cc
 
 ok_heard : (sent : Sending) → SaysHeard (callback_frame sent CompleteOk)
 ok_heard sent id status e = by status code

@@ -64,6 +64,13 @@ turn_most these served n within = by (cases_lt served n)
         let most = marked_most these n 232 within in
         omega (arith, is, less, most)
 
+pub turn_least : (these : List Bool) (served n : ℕ) → is_marked these n ≡ true → 1 ≤ turn_of these served n
+turn_least these served n marked = by (cases_lt served n)
+  where
+    by : (served < n) ⊎ (n ≤ served) → 1 ≤ turn_of these served n
+    by (inl above) = let is = turn_above these served n above in let more = marked_more these served n above marked in omega (arith, is, more)
+    by (inr below) = let is = turn_below these served n below in let one = marked_one these n marked in omega (arith, is, one)
+
 -- the counts: up to the node, up to the one served before, up to the one served now, and of all
 both_above : (turn next n served k : ℕ) → turn ≡ n - served → next ≡ n - k → served + 1 ≤ k → k + 1 ≤ n → next + 1 ≤ turn
 both_above turn next n served k was is now further = omega (arith, was, is, now, further)

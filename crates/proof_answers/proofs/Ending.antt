@@ -117,11 +117,6 @@ has_some [] some = absurd (omega (arith, some))
 has_some (no_route_due ∷ due) some = refl
 has_some (Info node ∷ due) some = has_some due (omega (arith, some))
 
-has_less : (due : List Due) → 2 ≤ no_routes_due due → has_no_route (without_no_route due) ≡ has_no_route due
-has_less [] some = absurd (omega (arith, some))
-has_less (no_route_due ∷ due) some = has_some due (omega (arith, some))
-has_less (Info node ∷ due) some = has_less due (omega (arith, some))
-
 -- one that is not the last goes
 dues_less : (own : List Owed) (ticks : ℕ) (due : List Due) → 2 ≤ no_routes_due due → dues own ticks (without_no_route due) ≡ dues own ticks due
 dues_less own ticks [] some = absurd (omega (arith, some))

@@ -132,9 +132,6 @@ module _ (devices : List State) (there : List State) (o : OuterState) (route : O
     (await : no_routes_due o.due ≡ without_frame (flags o.calls)) (course : Course) (past : List Entry) (under : IsUnder o.chip.state.sending (last_sending course past))
     (informs : (node : ℕ) (due : List Due) → o.due ≡ Info node ∷ due
     → IsInformation devices node (o.clock - 1) past (unit_text (Framed (notice_frame (ApplicationUpdate (update_of node (profile_for o.air there node route))))))) where
-  abbrev x : Outcome
-  x = gives o there o.due route
-
   abbrev Gives_so : List Due → Type 0
   Gives_so due = Next devices o (gives o there due route).outer (posts_by (due_account o there due route)) course past
 

@@ -300,10 +300,6 @@ module _ (devices : List State) (laws : Laws) (did : List Step) (past : List Ent
           ended : ended_at course past answer ≡ ended_by Fail under
           ended = ended_is (Some SendDataAbort) is ∙ append-nil (ended_by Fail under)
 
-          none_left : (x : Option SendingParts) → kept.sending ≡ x → (stopped x kept).sending ≡ None
-          none_left None own = own
-          none_left (Some parts) own = refl
-
           leaves : p.chip.state.sending ≡ None → (HasFailing o.chip.state.failing (called course past) → HasFailing p.chip.state.failing (called course past ++ ended_at course past answer)) → Leaves
           leaves sending fails = record {
             owes = none_owes course past tail f passes none no_ack o p at time was.owes [] [] (λ own. plus_dues own o.clock o.due) informed (due ∙ sym (append-nil o.due)) none_asked sending;

@@ -113,9 +113,6 @@ module _ (told : AttemptsTold) (node : NodeState) (now : ℕ) (badly : Bool) (ar
   goes : GoesOn told node.attempt_wait now badly
   goes = running_goes told node now badly are is
 
-  further : AttemptsTold
-  further = record told { sent = told.sent + 1; own = true; ready = [] }
-
   pub goes_further : (over : Bool) (unit : List ℕ) → list_any (λ carried. goes_on carried.payload) (sending_in unit) ≡ true
       → AreAttempts (attempts_by_request true over unit told) (after_segment node) now false × AreAttempts (attempts_by_request true over unit told) (after_text node) now false
   goes_further over unit more =

@@ -1,5 +1,5 @@
 -- The serial line of an unmarked machine while a settling moves its bytes (this project's own rule): which units are on their way, and where the frames of each side are.
-use Rattle.std.specs.Prelude.{◌≡◌, ℕ, true, List, [], ◌∷◌, map, Option, Some, length}
+use Rattle.std.specs.Prelude.{◌≡◌, ℕ, true, List, [], ◌∷◌, Option, Some, length}
 use Rattle.std.specs.List.{flat_map}
 use Rattle.serial_frame.specs.Frame.{FrameParts}
 use Rattle.serial_frame.specs.Items.{unit_text}
@@ -110,14 +110,6 @@ pub record SameChip (old new : OuterState) : Type 0 where
   pub air : on_air new.air.frames ≡ on_air old.air.frames
 
 -- ---- a request of the host
-
--- the frame of the host's own, and its unit, where it has one on its way
-abbrev pub turn_for : List FrameParts → Turn
-turn_for [] = Idle
-turn_for (frame ∷ more) = Copied frame 1 0
-
-abbrev pub units_for : List FrameParts → List LineUnit
-units_for frames = map (λ frame. Framed frame) frames
 
 -- it asks to send a payload, and the chip takes it
 pub record IsTakenBy (s : ChipState) (frame : FrameParts) : Type 0 where

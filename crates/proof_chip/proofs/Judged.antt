@@ -65,7 +65,7 @@ put_shows (entry.Air frame sender receiver repeaters payload) put = (tt, refl)
 put_shows entry.ChipFull put = (tt, refl)
 put_shows e put = absurd put
 
-put_untimed : (e : Entry) → IsPut e → IsUntimed e
+pub put_untimed : (e : Entry) → IsPut e → IsUntimed e
 put_untimed (entry.Written by_chip unit) put = tt
 put_untimed (entry.Dropped side) put = tt
 put_untimed (entry.Garbled side unit) put = tt

@@ -65,6 +65,8 @@ pub mod Tallies
 pub mod Calling
 pub mod Steady
 mod CallWalk
+mod Told
+mod ToldWalk
 pub use Rattle.proof_line.proofs.HeldRecords
 pub use Rattle.proof_line.proofs.FactsKept
 pub use Rattle.proof_line.proofs.Notes
@@ -79,3 +81,18 @@ pub use Rattle.proof_line.proofs.Flights
 pub use Rattle.proof_line.proofs.SpokenLines
 pub use Rattle.proof_line.proofs.LinkSome
 pub use Rattle.proof_line.proofs.Colliding
+pub use Rattle.proof_air.proofs.SentBefore
+pub use Rattle.proof_air.proofs.Clock
+pub use Rattle.proof_line.proofs.HostTelling
+pub use Rattle.proof_line.proofs.LinkEvents
+pub use Rattle.proof_line.proofs.LinkTime
+pub use Rattle.proof_line.proofs.Standing as proof_line_Standing
+pub use Rattle.proof_line.proofs.Moments
+pub use Rattle.proof_line.proofs.LinkSteps
+pub use Rattle.proof_air.proofs.Where
+pub use Rattle.proof_air.proofs.Over
+pub use Rattle.proof_air.proofs.ByLine
+pub use Rattle.proof_air.proofs.Lines
+pub use Rattle.proof_air.proofs.Shown
+pub use Rattle.proof_air.proofs.Alone
+pub use Rattle.proof_air.proofs.Untimed

@@ -49,7 +49,7 @@ use Rattle.proof_chip.proofs.Outsides.{Kind, Collides_it, Repeats_one, Stays_sti
 
 -- ---- each phase
 
-covers_line : (line : Line) → CoversLine IsOfLine line
+pub covers_line : (line : Line) → CoversLine IsOfLine line
 covers_line (lines.Repeat frame) = λ drawn route. tt
 covers_line (lines.Wake node) = λ route. tt
 covers_line (lines.Local node value) = λ route. tt

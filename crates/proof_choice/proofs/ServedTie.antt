@@ -1,5 +1,5 @@
 -- The node that was served last by the transcript is the one that the host served last, where what waits at its requests is as it is told.
-use Rattle.std.proofs.Common.{◌≡◌, ℕ, Bool, true, false, if◌then◌else◌, Option, Some, None, List, [], ◌∷◌, ◌++◌, map, refl, sym, ap, ◌∙◌, subst, append-nil, append_assoc}
+use Rattle.std.proofs.Common.{◌≡◌, ℕ, Bool, true, false, Option, Some, None, List, [], ◌∷◌, ◌++◌, map, refl, sym, ap, ◌∙◌, subst, append-nil, append_assoc}
 use Rattle.std.specs.Prelude.{IsSome}
 use Rattle.std.specs.List.{AllByRecursion, flat_map}
 use Rattle.zw_base.proofs.Each.{all-weaker}
@@ -7,10 +7,8 @@ use Rattle.serial_frame.specs.Items.{unit_text}
 use Rattle.serial_frame.specs.declared.item.Item.{Item}
 use Rattle.serial_frame.specs.declared.unit.Unit.{Unit as LineUnit}
 use Rattle.serial_frame.specs.declared.unit.Unit.TheVariants.{Ack, Nak, Framed}
-use Rattle.serial_link.specs.State.{tick_side}
 use Rattle.chip_functions.specs.declared.request.Request.{Request}
 use Rattle.s0_crypto.specs.declared.key_pair.Keys.{Keys}
-use Rattle.s0_session.specs.Nonces.{live_of}
 use Rattle.zw_words.specs.declared.side.Side.TheVariants.{Host, Chip}
 use Rattle.zw_text.specs.declared.entry.Entry.{Entry}
 use Rattle.zw_text.specs.declared.entry.Entry.TheVariants as entry
@@ -24,25 +22,15 @@ use Rattle.law_time.specs.Requests.{are_none, asked, is_new}
 use Rattle.host_keep.specs.declared.record.Record.{Record}
 use Rattle.host_keep.specs.declared.record.Record.TheVariants as records
 use Rattle.host_keep.specs.declared.final_status.FinalStatus.{FinalStatus}
-use Rattle.host_requests.specs.Events.{end_at}
-use Rattle.host_requests.specs.Events.RequestsEvent.{Fails as request_fails, Pushes}
 use Rattle.host_requests.specs.Frames.{frame_of}
 use Rattle.host_requests.specs.State.{next_id}
-use Rattle.host_requests.specs.declared.end.End.{End}
-use Rattle.host_requests.specs.declared.end.How.{How}
 use Rattle.host_requests.specs.declared.task.Purpose.{Purpose}
-use Rattle.host_requests.specs.declared.task.Purpose.TheVariants.{Attempt, Housekeeping, Abort}
+use Rattle.host_requests.specs.declared.task.Purpose.TheVariants.{Attempt, Abort}
 use Rattle.host_requests.specs.declared.task.Task.{Task}
-use Rattle.host_requests.specs.declared.task.Task.TheVariants.{NoMore, Offer, Segment}
-use Rattle.host_node.specs.declared.attempt.AttemptEnd.{AttemptEnd}
-use Rattle.host_node.specs.declared.attempt.AttemptEnd.TheVariants.{NoneRan, Again, Unanswered}
-use Rattle.host_node.specs.declared.attempt.Moment.{Moment}
-use Rattle.host_node.specs.declared.attempt.Moment.TheVariants.{BeforeItsTick}
 use Rattle.host_model.specs.State.{HostState, first_host}
-use Rattle.host_model.specs.After.{after, failing_if, finishing, gives_up, giving, holding, is_full, is_held, line_ticked, offering, queues_if_room, requests_do, task_purpose}
+use Rattle.host_model.specs.After.{after, task_purpose}
 use Rattle.host_model.specs.Did.{MayAll}
-use Rattle.host_model.specs.Ends.{PartEnd, Good as good_end, Passed_over, Bad, after_end_if, after_part, after_task, attempt_ended, part_end}
-use Rattle.host_model.specs.Events.{HostEvent, Accepts, Cancels, Requests_do, Finishes, Offers, Gives, Resends, Line_ticks, Node_ticks, Submits_abort, Submits_front, Starts, Gives_text, Gives_segment, Begins, Begin_unkept}
+use Rattle.host_model.specs.Events.{HostEvent, Accepts, Cancels, Requests_do, Submits_abort, Submits_front, Starts, Gives_text, Gives_segment, Begins, Begin_unkept}
 use Rattle.host_model.specs.May.{IsFree}
 use Rattle.host_model.specs.Opening.{restored_all}
 use Rattle.host_model.specs.Outs.{answer_to, answers, outs}
@@ -60,6 +48,7 @@ use Rattle.proof_giving.specs.proof_queue.proof_attempts.proof_requests.proof_al
 use Rattle.proof_giving.specs.proof_queue.proof_attempts.proof_requests.proof_alone.Phases.{Phase, Resting, Submitting, IsNumbered, May}
 use Rattle.proof_giving.specs.proof_queue.proof_attempts.Since.{IsLoose, Lasts}
 use Rattle.proof_giving.proofs.InOrder.{is_asked}
+use Rattle.proof_giving.proofs.Keeping.{GivesNoPart, served_same as event_served}
 use Rattle.proof_giving.proofs.Queued.{PayloadsBring}
 use Rattle.proof_giving.proofs.Requested.{Unsubmitted}
 use Rattle.proof_giving.proofs.Stepping.{IsSubmission, event_is_read, submissions, time_told}
@@ -75,63 +64,14 @@ use Rattle.proof_choice.proofs.Served.{LeavesServed, served_again, served_in_vai
 
 -- ---- the host
 
-if_served : (b : Bool) (h g : HostState) (served : ℕ) → h.served ≡ served → g.served ≡ served → (if b then h else g).served ≡ served
-if_served true h g served p q = p
-if_served false h g served p q = q
-
-ended_served : (h : HostState) (end : AttemptEnd) (command : Option ℕ) → (attempt_ended h end command).served ≡ h.served
-ended_served h NoneRan command = refl
-ended_served h Again command = refl
-ended_served h (Unanswered fell) None = refl
-ended_served h (Unanswered fell) (Some command) = refl
-
-part_served : (h : HostState) (k : ℕ) (end : PartEnd) (moment : Moment) → (after_part h k end moment).served ≡ h.served
-part_served h k good_end moment = refl
-part_served h k Passed_over moment = refl
-part_served h k Bad moment = ended_served _ _ _
-
-task_served : (h : HostState) (task : Task) → (after_task h task).served ≡ h.served
-task_served h (NoMore k) = refl
-task_served h task = refl
-
-purpose_served : (h : HostState) (purpose : Purpose) (how : How) (moment : Moment) → (after_end_if h (Some (record { purpose = purpose; how = how })) moment).served ≡ h.served
-purpose_served h (Attempt k more payload) how moment = part_served h k (part_end more how) moment
-purpose_served h (Housekeeping task) how moment = task_served h task
-purpose_served h Abort how moment = refl
-
-end_served : (h : HostState) (end : Option End) (moment : Moment) → (after_end_if h end moment).served ≡ h.served
-end_served h None moment = refl
-end_served h (Some end) moment = purpose_served h end.purpose end.how moment
-
-failing_served : (gives : Bool) (h : HostState) → (failing_if gives h).served ≡ h.served
-failing_served true h = end_served (requests_do h request_fails) (end_at h.requests request_fails) BeforeItsTick
-failing_served false h = refl
-
-held_served : (h : HostState) (n : ℕ) (held : Bool) → (holding h n held).served ≡ h.served
-held_served h n true = refl
-held_served h n false = refl
-
-queued_served : (h : HostState) (task : Task) → (queues_if_room h task).served ≡ h.served
-queued_served h task = if_served (is_full h) h (requests_do h (Pushes task)) h.served refl refl
-
-offered_served : (h : HostState) (n : ℕ) (live : Option (List ℕ)) → (offering h n live).served ≡ h.served
-offered_served h n None = refl
-offered_served h n (Some nonce) = queued_served h (Offer n nonce)
+gives_none : (event : HostEvent) → Unsubmitted event → GivesNoPart event
+gives_none (Starts n plan more payload) un = absurd un
+gives_none (Gives_text n payload) un = absurd un
+gives_none (Gives_segment n more payload) un = absurd un
+gives_none event un = tt
 
 pub served_same : (h : HostState) (event : HostEvent) → Unsubmitted event → (after h event).served ≡ h.served
-served_same h (Requests_do event moment) un = end_served (requests_do h event) (end_at h.requests event) moment
-served_same h (Finishes n session id command status wake_request) un = held_served (finishing h n id command status) n (is_held h n wake_request)
-served_same h (Offers n) un = offered_served h n (live_of h.nonces n)
-served_same h (Gives n drawn) un = offered_served (giving h n drawn) n (live_of (giving h n drawn).nonces n)
-served_same h (Resends n payload) un = queued_served h (Segment n payload)
-served_same h Line_ticks un = failing_served (gives_up h.side.turn (tick_side h.side).turn) (line_ticked h)
-served_same h (Node_ticks n) un = ended_served _ _ _
-served_same h Submits_abort un = absurd un
-served_same h Submits_front un = absurd un
-served_same h (Starts n plan more payload) un = absurd un
-served_same h (Gives_text n payload) un = absurd un
-served_same h (Gives_segment n more payload) un = absurd un
-served_same h event un = refl
+served_same h event un = event_served h event (gives_none event un)
 
 asked_unsubmitted : (event : HostEvent) → IsAsked event → Unsubmitted event
 asked_unsubmitted (Requests_do event moment) asked = absurd asked

@@ -24,9 +24,14 @@ pub use known::{hosts_block_as_told, hosts_give_as_carried};
 pub use laws::{hosts_know_what_they_choose, hosts_rest_well, hosts_send_in_turn};
 pub use prompt::hosts_are_prompt;
 pub use proof_following::{
-    hosts_count_nonces, hosts_fall_asleep_as_told, hosts_hold_as_asked, hosts_note_ends,
-    hosts_note_in_full, hosts_say_what_is_not_kept, hosts_seal_once, lines_count_nonces,
-    lines_fall_asleep_as_told, lines_hold_as_asked, lines_leave_nothing, lines_note_ends,
-    lines_note_in_full, lines_say_what_is_not_kept, lines_seal_once,
+    hosts_ask_as_told, hosts_count_nonces, hosts_fall_asleep_as_told, hosts_hold_as_asked,
+    hosts_know_their_work, hosts_know_what_was_told, hosts_listen_as_told, hosts_note_ends,
+    hosts_note_in_full, hosts_say_what_is_not_kept, hosts_seal_once, hosts_show_open_sessions,
+    hosts_tell_of_ends, laws_follow, lines_count_nonces, lines_fall_asleep_as_told,
+    lines_hold_as_asked, lines_leave_nothing, lines_note_ends, lines_note_in_full,
+    lines_say_what_is_not_kept, lines_seal_once, orders_are_carried_as_said,
+    tables_are_what_was_said,
 };
-pub use proof_giving::{hosts_count_attempts, hosts_give_up_as_told, hosts_go_by_messages};
+pub use proof_giving::{
+    hosts_count_attempts, hosts_give_up_as_told, hosts_go_by_messages, hosts_queue_as_told,
+};

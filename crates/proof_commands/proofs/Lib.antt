@@ -13,6 +13,7 @@ pub mod Further
 pub mod Tables
 pub mod AsSaid
 mod Legally
+mod InTime
 mod Meshed
 pub mod ReadBack
 mod KeptRules

@@ -1,5 +1,5 @@
 -- The words of a line have no byte that is a space or below.
-use Rattle.std.proofs.Common.{◌≡◌, ℕ, ◌<◌, ◌≤◌, ◌^◌, eqb, ltb, Bool, true, false, cond, ◌||◌, Ok, Some, None, is_some, List, [], ◌∷◌, ◌++◌, get_or, codes, decimal, arith, refl, sym, subst}
+use Rattle.std.proofs.Common.{◌≡◌, ℕ, ◌<◌, ◌≤◌, ◌^◌, eqb, ltb, Bool, true, false, cond, Ok, List, [], ◌∷◌, ◌++◌, get_or, codes, decimal, arith, refl, sym, subst}
 use Rattle.std.specs.Prelude.{filter}
 use Rattle.std.specs.List.{AllByRecursion, slice_split}
 use Rattle.std.proofs.lemmas.List.Sums.{list_all-from_AllPass}
@@ -69,12 +69,6 @@ number : (n most : ℕ) → n ≤ most → most < 2 ^ 64 → Solid (decimal n)
 number n most below short = number-solid n (omega (arith, below, short))
 
 -- a hex digit of either case
-digit_tests : (a b d : Bool) (x y z : ℕ) → is_some (cond a (Some x) (cond b (Some y) (cond d (Some z) None))) ≡ true → (a || (b || d)) ≡ true
-digit_tests true b d x y z e = refl
-digit_tests false true d x y z e = refl
-digit_tests false false true x y z e = refl
-digit_tests false false false x y z e = absurd cc
-
 digit_solid : (c : ℕ) → is_hex_digit c ≡ true → ltb 32 c ≡ true
 digit_solid c e = grind (arith, e)
 

@@ -45,6 +45,7 @@ use Rattle.law_time.specs.Choice.{NumbersCallbacks, SendsOneByOne}
 use Rattle.law_time.specs.Errands.{SaysHowDone}
 use Rattle.law_time.specs.Interviews.{EndsInterviews}
 use Rattle.law_time.specs.Questions.{AnswersQuestions}
+use Rattle.law_time.specs.Stretches.{AnswersTogether}
 use Rattle.law_time.specs.Holds.{HoldsAsAsked}
 use Rattle.law_time.specs.Waking.{FallsAsleep, WakesAsTold}
 use Rattle.law_host.specs.Heard.{heard_by_host}
@@ -495,6 +496,14 @@ abbrev pub HasHeadline : List ℕ → Around → Around → Type 0
 HasHeadline key old new = InFairRuns key old new
     (λ story. (node : ℕ) (device : State) → device_of node new.devices ≡ Some device → is_supervised device ≡ true → HeadlineOf (always (listing_of old.devices)) node (transcript key old story) device)
 
+-- Wherever its lines go on from a calm moment as a stretch in which at most 16 nodes are at work, plain listeners all, each command of these has the final outcome that its
+-- device's kind says once 500 ticks have passed since the last order.
+abbrev pub AnswersCommands : List ℕ → Around → Around → Type 0
+AnswersCommands key old new =
+    InFairRuns key old new
+    (λ story. (before stretch more : List Ran) → story ≡ before ++ (stretch ++ more) → AreSchedules (first key old) (before ++ stretch)
+    → AnswersTogether key (last key old before).outside.devices (transcript key old before) (transcript_from (last key old before) stretch))
+
 -- success of a command of such a node is reported after its change
 abbrev pub ReportsAfterChange : List ℕ → Around → Around → Type 0
 ReportsAfterChange key old new =
@@ -546,7 +555,6 @@ pub record KeepsDeviceLaws (key : List ℕ) (old new : Around) : Type 0 where
   pub shown : ShowsChanges key old new
   pub groups : GroupsChanges key old new
   pub done_by : DoneByNodes key old new
-  pub devices : DoesAsShown key old new
 
 -- what becomes of frames on the air
 pub record KeepsAirLaws (key : List ℕ) (old new : Around) : Type 0 where
@@ -562,16 +570,12 @@ pub record KeepsAirLaws (key : List ℕ) (old new : Around) : Type 0 where
 
 -- what becomes of units on the serial line, in time
 pub record KeepsLineLaws (key : List ℕ) (old new : Around) : Type 0 where
-  pub carries : CarriesWhatWasAsked key old new
   pub brings : BringsHeard key old new
   pub collides : CollidesAsAsked key old new
   pub marks : MarksAsAsked key old new
   pub overruns : OverrunsWithoutRoom key old new
-  pub overrun : OverrunsAsDue key old new
-  pub links : KeepsBothLinks key old new
   pub airs : AirsAsTaken key old new
   pub clears : ClearsWhenRestarted key old new
-  pub clears_line : ClearsWhatIsLost key old new
   pub clears_only : ClearsNothingElse key old new
   pub ticks : NumbersTicks key old new
   pub line : KeepsLine key old new
@@ -582,6 +586,7 @@ pub record StoriesKeepLaws (key : List ℕ) (old new : Around) : Type 0 where
   pub after_change : ReportsAfterChange key old new
   pub whole_headline : HasWholeHeadline key old new
   pub legal : IsLegalRun key old new
+  pub answers_in_time : AnswersCommands key old new
   pub of_host : KeepsHostLaws key old new
   pub of_devices : KeepsDeviceLaws key old new
   pub of_air : KeepsAirLaws key old new

@@ -4,6 +4,7 @@ ghost use Rattle.std.specs.Prelude.{ℕ, List};
 ghost use Rattle.run_all.specs.Around.{Around};
 ghost use Rattle.proof_commands.specs.Laws.{
   AnswersAsDue,
+  AnswersCommands,
   AirsAsTaken,
   AppliesOnce,
   AsksOneByOne,
@@ -83,6 +84,7 @@ use proof_audit::{
     values_are_stored_as_asked,
 };
 use proof_host::{asides_keep_facts, laws_follow};
+use proof_ready::stretches_are_answered_in_time;
 use proof_replay::{
     lines_answer_questions, lines_ask_one_by_one, lines_clear_at_restarts,
     lines_clear_nowhere_else, lines_clear_the_line, lines_collide_when_asked, lines_count_nonces,
@@ -116,6 +118,7 @@ pub fn every_story_keeps_laws()
     stories_are_heard();
     stories_do_as_shown();
     stories_are_legal();
+    stories_answer_in_time();
 }
 
 /// A story has the records that these laws assume, if the keeper tells them and had none at first, or no line is `restart`.
@@ -360,4 +363,13 @@ fn stories_are_legal()
     stories_send_what_is_due();
     stories_are_heard();
     stories_do_as_shown();
+}
+
+/// Wherever the lines of a story go on from a calm moment as a stretch for plain listeners, each command of these has in time the outcome that its device's
+/// kind says.
+fn stories_answer_in_time()
+    ensures { (key : List ℕ) (old new : Around) → AnswersCommands key old new }
+{
+    lines_are_read_as_said();
+    stretches_are_answered_in_time();
 }

@@ -132,7 +132,7 @@ pub record Laws : Type 0 where
   pub repeated : (node : ℕ) (orders : List Asked) (host : HostBook) (air old : List (Flight Cargo)) (log : List Mark) (flights : List Flown) (frames : FramesState) (number : ℕ) (frame : Flown)
       → node < 233 → OnAir node orders host air old log flights frames → refusal_of frames number ≡ None → remembered frames number ≡ Some frame → WasThere node orders host old frame
 
-awake_at_place : (devices : List State) (node place : ℕ) (device : State) → listener_of node devices ≡ Some place → slice_get devices place ≡ Some device → device.awake ≡ true
+pub awake_at_place : (devices : List State) (node place : ℕ) (device : State) → listener_of node devices ≡ Some place → slice_get devices place ≡ Some device → device.awake ≡ true
 awake_at_place devices node place device e stood = by (place_of node devices) refl
   where
     awake : (there : ℕ) (b : Bool) → is_awake (slice_get devices there) ≡ b → (if b then Some there else None) ≡ Some place → device.awake ≡ true
@@ -285,37 +285,37 @@ module _ (laws : Laws) (node : ℕ) (orders : List Asked) where
 
   module _ (c : Course) (mesh : Mesh) (frame : Flown) (later : List Flown) (log : List Mark) (on_air : OnAir node orders c.host c.air c.old log (frame ∷ later) mesh.air.frames) (h : Stands node orders c mesh.devices) (course : CourseFacts c)
       (drawn : List ℕ) (route : Option Route) where
-    abbrev l : Lands node orders c.host c.air c.old log frame later (landing mesh.air.frames)
-    l = laws.lands node orders c.host c.air c.old log frame later mesh.air.frames on_air
+    abbrev pub arriving_lands : Lands node orders c.host c.air c.old log frame later (landing mesh.air.frames)
+    arriving_lands = laws.lands node orders c.host c.air c.old log frame later mesh.air.frames on_air
 
     -- without the frame
     abbrev before : Course
-    before = record c { air = l.flights }
+    before = record c { air = arriving_lands.flights }
 
-    heard : (is_whole : Bool) → Goes c (hears before l.flight.since l.flight.cargo is_whole)
-    heard is_whole = subst (λ (flights : List (Flight Cargo)). Goes c (lands c flights true is_whole)) l.first (goes_once c (lands_step true is_whole) tt)
+    heard : (is_whole : Bool) → Goes c (hears before arriving_lands.flight.since arriving_lands.flight.cargo is_whole)
+    heard is_whole = subst (λ (flights : List (Flight Cargo)). Goes c (lands c flights true is_whole)) arriving_lands.first (goes_once c (lands_step true is_whole) tt)
 
     missed : Goes c before
-    missed = subst (λ (flights : List (Flight Cargo)). Goes c (lands c flights false false)) l.first (goes_once c (lands_step false false) tt)
+    missed = subst (λ (flights : List (Flight Cargo)). Goes c (lands c flights false false)) arriving_lands.first (goes_once c (lands_step false false) tt)
 
     ways : KeepsWays c before
     ways = record { host = refl; sent = refl; up = refl; down = refl; told = refl }
 
     there : (air : AirState) → air.frames ≡ landing mesh.air.frames → Airs node orders before air
-    there air is = record { log = log; flights = later; on_air = subst (λ (fs : FramesState). OnAir node orders c.host l.flights c.old log later fs) (sym is) l.on_air }
+    there air is = record { log = log; flights = later; on_air = subst (λ (fs : FramesState). OnAir node orders c.host arriving_lands.flights c.old log later fs) (sym is) arriving_lands.on_air }
 
     device : Stands node orders before mesh.devices
     device = record { has = device_moves node c before mesh.devices (record { host = refl; device = refl; kept = refl; ends = refl; sent = refl; up = refl; down = refl; told = refl }) h.has; made = h.made }
 
-    names : (cargo : Cargo) → l.flight.cargo ≡ cargo → Names c.device cargo
-    names (Command message) is =
-        let heard : CourseFacts (hears before l.flight.since l.flight.cargo false) = subst (λ (flights : List (Flight Cargo)). CourseFacts (lands c flights true false)) l.first (laws.facts c (lands_step true false) course tt) in (
-          laws.landing_names c message l.flight.since l.flights course (l.first ∙ ap (λ (cargo : Cargo). record { cargo = cargo; since = l.flight.since } ∷ l.flights) is),
-          next_named laws before message l.flight.since (subst (λ (cargo : Cargo). CourseFacts (hears before l.flight.since cargo false)) is heard),
+    pub arriving_named : (cargo : Cargo) → arriving_lands.flight.cargo ≡ cargo → Names c.device cargo
+    arriving_named (Command message) is =
+        let heard : CourseFacts (hears before arriving_lands.flight.since arriving_lands.flight.cargo false) = subst (λ (flights : List (Flight Cargo)). CourseFacts (lands c flights true false)) arriving_lands.first (laws.facts c (lands_step true false) course tt) in (
+          laws.landing_names c message arriving_lands.flight.since arriving_lands.flights course (arriving_lands.first ∙ ap (λ (cargo : Cargo). record { cargo = cargo; since = arriving_lands.flight.since } ∷ arriving_lands.flights) is),
+          next_named laws before message arriving_lands.flight.since (subst (λ (cargo : Cargo). CourseFacts (hears before arriving_lands.flight.since cargo false)) is heard),
         )
-    names Of_host is = tt
-    names (Answer session status) is = tt
-    names Of_node is = tt
+    arriving_named Of_host is = tt
+    arriving_named (Answer session status) is = tt
+    arriving_named Of_node is = tt
 
     lost_by : (event : AirEvent) (status : ℕ) (dead : Option (ℕ × ℕ)) (number : ℕ) → brought_by event ≡ [] → MeshGoes node orders c (record mesh { air = landed mesh.air }) (brought (event ∷ done_of frame.heading number status dead))
     lost_by event status dead number none =
@@ -334,8 +334,8 @@ module _ (laws : Laws) (node : ℕ) (orders : List Asked) where
         brought-append (outs_hearing now.air number frame.node route one (Hears frame.payload drawn)) (Done number (status_of mesh.air) None ∷ [])
         ∙ ap (λ g. g ++ []) (hearing_brings now.air number frame.node route one (Hears frame.payload drawn)) in
         subst (λ g. MeshGoes node orders c (heard_at now place (Some one) frame.node route (Hears frame.payload drawn)) g) (sym nothing)
-        (device_hears c before now frame l.flight place one drawn route heard missed ways (there (landed (acknowledged mesh.air)) refl) device
-        (subst (λ (heading : Heading). BearsBy heading (frame.node == node) orders c.host.commands frame l.flight) outward l.bears) listens stood (names l.flight.cargo refl))
+        (device_hears c before now frame arriving_lands.flight place one drawn route heard missed ways (there (landed (acknowledged mesh.air)) refl) device
+        (subst (λ (heading : Heading). BearsBy heading (frame.node == node) orders c.host.commands frame arriving_lands.flight) outward arriving_lands.bears) listens stood (arriving_named arriving_lands.flight.cargo refl))
 
     by_fate : (number : ℕ) (x : Fate) → fate_of mesh.air.network mesh.devices frame ≡ x → MeshGoes node orders c (arriving_as mesh frame x drawn route) (brought (arrival_outs_as mesh number frame x drawn route))
     by_fate number fate.Lost is = lost_by (Lost number) 1 None number refl
@@ -343,8 +343,8 @@ module _ (laws : Laws) (node : ℕ) (orders : List Asked) where
     by_fate number fate.Missed is = lost_by (Unheard number) 1 None number refl
     by_fate number fate.AtChip is =
         let home : frame.heading ≡ Homeward = home_by frame.lost (dead_hop_of mesh.air.network frame) frame.heading (listener_of frame.node mesh.devices) is in
-        chip_hears c before (record mesh { air = landed mesh.air }) frame l.flight (heard false) missed ways (there (landed mesh.air) refl) device
-        (subst (λ (heading : Heading). BearsBy heading (frame.node == node) orders c.host.commands frame l.flight) home l.bears)
+        chip_hears c before (record mesh { air = landed mesh.air }) frame arriving_lands.flight (heard false) missed ways (there (landed mesh.air) refl) device
+        (subst (λ (heading : Heading). BearsBy heading (frame.node == node) orders c.host.commands frame arriving_lands.flight) home arriving_lands.bears)
     by_fate number (fate.AtDevice place) is = at_device number place (slice_get mesh.devices place) refl is
 
   arrives_by : (c : Course) (mesh : Mesh) (drawn : List ℕ) (route : Option Route) (log : List Mark) (flights : List Flown) → OnAir node orders c.host c.air c.old log flights mesh.air.frames → Stands node orders c mesh.devices → CourseFacts c
@@ -367,16 +367,16 @@ module _ (laws : Laws) (node : ℕ) (orders : List Asked) where
     again : (is_whole : Bool) → Goes c (hears c was.flight.since was.flight.cargo is_whole)
     again is_whole = subst (λ (found : Option (Flight Cargo)). Goes c (repeats c found is_whole)) was.found (goes_once c (repeats_step was.at is_whole) may_repeat)
 
-    names_again : (cargo : Cargo) → was.flight.cargo ≡ cargo → Names c.device cargo
-    names_again (Command message) is =
+    pub named_again : (cargo : Cargo) → was.flight.cargo ≡ cargo → Names c.device cargo
+    named_again (Command message) is =
         let heard : CourseFacts (hears c was.flight.since was.flight.cargo false) = subst (λ (found : Option (Flight Cargo)). CourseFacts (repeats c found false)) was.found (laws.facts c (repeats_step was.at false) course may_repeat) in (
           laws.repeated_names c message was.flight.since was.at course (was.found ∙ ap (λ (cargo : Cargo). Some (record { cargo = cargo; since = was.flight.since })) is)
               (subst (λ (cargo : Cargo). IsFreshCargo (begun_of c.host) was.flight.since cargo) is was.fresh),
           next_named laws c message was.flight.since (subst (λ (cargo : Cargo). CourseFacts (hears c was.flight.since cargo false)) is heard),
         )
-    names_again Of_host is = tt
-    names_again (Answer session status) is = tt
-    names_again Of_node is = tt
+    named_again Of_host is = tt
+    named_again (Answer session status) is = tt
+    named_again Of_node is = tt
 
     device_again : (place : ℕ) (found : Option State) → slice_get mesh.devices place ≡ found → listener_of frame.node mesh.devices ≡ Some place → frame.heading ≡ Outward
         → MeshGoes node orders c (heard_at mesh place found frame.node route (Hears frame.payload drawn)) (brought (outs_at mesh found number frame.node route (Hears frame.payload drawn)))
@@ -384,7 +384,7 @@ module _ (laws : Laws) (node : ℕ) (orders : List Asked) where
     device_again place (Some one) stood listens outward =
         subst (λ g. MeshGoes node orders c (heard_at mesh place (Some one) frame.node route (Hears frame.payload drawn)) g) (sym (hearing_brings mesh.air number frame.node route one (Hears frame.payload drawn)))
         (device_hears c c mesh frame was.flight place one drawn route again (goes_nowhere c) (ways_stay c) (airs_of node orders c mesh is) (stands_of node orders c mesh is)
-        (subst (λ (heading : Heading). BearsBy heading (frame.node == node) orders c.host.commands frame was.flight) outward was.bears) listens stood (names_again was.flight.cargo refl))
+        (subst (λ (heading : Heading). BearsBy heading (frame.node == node) orders c.host.commands frame was.flight) outward was.bears) listens stood (named_again was.flight.cargo refl))
 
     listener_again : (listener : Option ℕ) → listener_of frame.node mesh.devices ≡ listener → frame.heading ≡ Outward
         → MeshGoes node orders c (heard_again mesh listener frame.node route (Hears frame.payload drawn)) (brought (outs_again mesh listener number frame.node route (Hears frame.payload drawn)))

@@ -22,6 +22,7 @@ pub idle_makes : (orders : List Asked) (commands : List ℕ) (device : State) �
 idle_makes orders commands device is = record {
   changes = rw is.no_change tt;
   work = λ some. absurd (let none = is.no_work in omega (arith, some, none));
+  answer = λ some. absurd (let none = is.no_work in omega (arith, some, none));
   keeps = rw is.no_segments tt;
 }
 

@@ -3,10 +3,14 @@ pub mod Flights
 pub mod Segments
 pub mod DevicePayloads
 pub mod Devices
+pub mod Levels
+mod WorkTold
 pub mod MadeSettings
+pub mod JudgedMessages
 pub mod Idle
 pub mod Replies
 pub mod Arrivals
+pub mod JudgedFrames
 pub mod WayLabels
 pub mod ChipSide
 pub mod ChipNotices

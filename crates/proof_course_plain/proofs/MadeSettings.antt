@@ -1,5 +1,5 @@
 -- The sessions of a device make what their commands ask for, at each of its events.
-use Rattle.std.proofs.Common.{◌≡◌, ℕ, zero, suc, ◌+◌, ◌%◌, ◌<◌, ◌≤◌, ◌==◌, ◌≢◌, ◌⊎◌, inl, inr, Bool, true, false, Some, List, [], ◌∷◌, ◌++◌, refl, ap, sym, ◌∙◌, subst, arith}
+use Rattle.std.proofs.Common.{◌≡◌, ℕ, zero, suc, ◌+◌, ◌-◌, ◌%◌, ◌<◌, ◌≤◌, ◌==◌, ◌≢◌, ◌⊎◌, inl, inr, Bool, true, false, Some, List, [], ◌∷◌, ◌++◌, refl, ap, sym, ◌∙◌, subst, arith}
 use Rattle.std.specs.Prelude.{slice_get, slice_set}
 use Rattle.std.specs.List.{AllByRecursion}
 use Rattle.std.proofs.lemmas.Bool.{eqb-true}
@@ -18,31 +18,35 @@ use Rattle.proof_course.specs.Sessions.{Course, Cargo, Command, Of_host, Answer,
 use Rattle.proof_course.specs.SessionLaws.{NamesOne}
 use Rattle.transport_segments.specs.Kept.{Reassembly, Empty, Partial}
 use Rattle.transport_segments.specs.Runs.{Agrees}
+use Rattle.encap.specs.Opening.{opened_at}
 use Rattle.host_orders.specs.Refusals.{IsFit, is_bad}
 use Rattle.host_orders.specs.Settings.{settings}
-use Rattle.host_orders.specs.Wrapping.{message_of}
+use Rattle.host_orders.specs.Wrapping.{ends_of, message_of}
 use Rattle.host_orders.specs.declared.carriage.Carriage.{Carriage}
 use Rattle.device_kinds.specs.declared.change.Change.{Change}
 use Rattle.device_kinds.specs.declared.verdict.Verdict.{Verdict}
 use Rattle.device_kinds.specs.declared.verdict.Verdict.TheVariants.{NoSupport, Fails, Makes as MakesNow, Works}
 use Rattle.device_stack.specs.declared.work.Work.{Work}
+use Rattle.device_kinds.specs.Effects.{end_of}
 use Rattle.device_kinds.specs.Kind.{lists, listens}
+use Rattle.device_stack.specs.Effects.{work_ticks}
 use Rattle.device_stack.specs.Ticking.{ticked, woken, set_by_hand}
 use Rattle.device_sim.specs.State.{State}
 use Rattle.device_sim.specs.Event.{DeviceEvent, Hears, Ticks, Wakes, Sets, outcome_of, device_after, device_replies}
 use Rattle.device_sim.specs.Laws.{IsMade, numbers}
 use Rattle.proof_once.specs.proof_messages.Ending.{HasEnded, one_at_work}
-use Rattle.proof_once.specs.proof_messages.Asking.{takes_openly, verdict_on, MakesOnly, IsAtWork, IsUntouched, IsLeft, Follows}
+use Rattle.proof_once.specs.proof_messages.Asking.{message_in, takes_openly, verdict_on, MakesOnly, IsAtWork, IsUntouched, IsLeft, Follows}
 use Rattle.proof_once.specs.proof_messages.Others.{IsOther}
 use Rattle.proof_once.specs.proof_messages.Segments.{KeepsSegment, MakesWhole}
 use Rattle.proof_course_plain.specs.Meaning.{Asked, IsMessageOf, IsSegmentOf, IsMessage, HostMeans}
-use Rattle.proof_course_plain.specs.Making.{IsAskedFor, MakesBy, MakesAsked, KeepsNext, Makes, AllMake, NamesNext, Names, HearsNone}
+use Rattle.proof_course_plain.specs.Making.{IsAskedFor, IsToTell, MakesBy, MakesAsked, KeepsNext, Makes, AllMake, NamesNext, Names, HearsNone}
 use Rattle.proof_course_plain.specs.Device.{AtDevice}
 use Rattle.proof_course_plain.proofs.Flights.{message_stays}
 use Rattle.proof_once.proofs.NonceNumbers.{numbered-more as numbered-append}
 use Rattle.proof_once.proofs.SessionMessages.{knows_supervision}
 use Rattle.proof_course_plain.proofs.Segments.{Laws as SegmentLaws, IsNext, IsAnother, segment_heard}
 use Rattle.proof_course_plain.proofs.Devices.{at_rest}
+use Rattle.proof_course_plain.proofs.WorkTold.{AnswersLate, work_told}
 use Rattle.proof_traffic.proofs.ChangesOutside.{get_set}
 
 -- ---- more orders, more sessions
@@ -76,6 +80,7 @@ all_make_more node orders more commands later devices all place device stands ow
     record {
       changes = changes_stay orders more commands later device.journal m.changes;
       work = λ some. asked_stays orders more commands later device.sessions.taken device.work.settings (m.work some);
+      answer = m.answer;
       keeps = keeps_stay orders more commands later (device.sessions.taken + 1) device.reassembly m.keeps;
     }
 
@@ -85,6 +90,12 @@ all_make_more node orders more commands later devices all place device stands ow
 none_kept : (orders : List Asked) (commands : List ℕ) (session : ℕ) (kept : Reassembly) → kept ≡ Empty → KeepsNext orders commands session kept
 none_kept orders commands session kept e = subst (λ (k : Reassembly). KeepsNext orders commands session k) (sym e) tt
 
+-- the work stays
+still_told : (old new : State) → new.work_left ≡ old.work_left → new.work ≡ old.work → (0 < old.work_left → IsToTell old.work_left old.work) → 0 < new.work_left → IsToTell new.work_left new.work
+still_told old new left work is some =
+    let was = is (subst (λ (k : ℕ). 0 < k) left some) in
+    record { few = subst (λ (k : ℕ). k ≤ work_ticks) (sym left) was.few; plan = was.plan; told = ap (λ (w : Work). w.answer) work ∙ was.told }
+
 -- the sessions and what was made stay
 still_makes : (orders : List Asked) (commands : List ℕ) (old new : State) → IsUntouched old new → KeepsNext orders commands (new.sessions.taken + 1) new.reassembly → Makes orders commands old → Makes orders commands new
 still_makes orders commands old new same keeps m = record {
@@ -93,6 +104,7 @@ still_makes orders commands old new same keeps m = record {
   work = λ some.
       subst (λ (w : Work). IsAskedFor orders commands new.sessions.taken w.settings) (sym same.work)
       (subst (λ (t : Taken). IsAskedFor orders commands t.taken old.work.settings) (sym same.sessions) (m.work (subst (λ (k : ℕ). 0 < k) same.work_left some)));
+  answer = still_told old new same.work_left same.work m.answer;
 }
 
 pub untouched : (orders : List Asked) (commands : List ℕ) (old new : State) → IsLeft old new → Makes orders commands old → Makes orders commands new
@@ -107,10 +119,13 @@ pub record Laws : Type 0 where
   pub asked : (device : State) (carriage : Carriage) (order : Order) → is_bad carriage.actuator order.what ≡ false → MakesOnly (settings carriage.actuator order) (verdict_on device carriage order)
   pub left : (device : State) (payload drawn : List ℕ) → IsOther payload → lists device.kind 0x6C ≡ true → IsLeft device (device_after device (Hears payload drawn))
   pub segments : SegmentLaws
+  pub opens : (carriage : Carriage) (order : Order) (session : ℕ) → IsFit carriage.actuator order → order.end ≤ 127 → opened_at (message_of carriage order session) ≡ Some (message_in carriage order session)
+  pub target : (end : ℕ) → end_of (ends_of end) ≡ end
 
--- a device that follows the message of a session
+-- a device that follows the message of a session; where it begins to work on that, it is to tell the end
 module _ (orders : List Asked) (commands ends : List ℕ) (device new : State) (session : ℕ) (payload : List ℕ) (ended : HasEnded device ends) (is : IsMessageOf orders commands session payload)
     (makes_only : MakesOnly (settings is.asked.carriage.actuator is.asked.order) (verdict_on device is.asked.carriage is.asked.order))
+    (late : (number : ℕ) (made : List Setting) → heard_of device.sessions (wire_id session) ≡ New number → verdict_on device is.asked.carriage is.asked.order ≡ Works made → AnswersLate new.work)
     (segment : Bool) (names : NamesOne device.sessions (record { session = session; is_segment = segment })) (m : Makes orders commands device) where
   module _ (number : ℕ) (own : number ≡ session) (sessions : new.sessions.taken ≡ number) (none : device.work_left ≡ 0) (empty : new.reassembly ≡ Empty) where
     keeps_none : KeepsNext orders commands (new.sessions.taken + 1) new.reassembly
@@ -123,28 +138,32 @@ module _ (orders : List Asked) (commands ends : List ℕ) (device new : State) (
     still journal left = record {
       changes = subst (λ (j : List Change). AllByRecursion (MakesAsked orders commands) j) (sym journal) m.changes;
       work = λ some. absurd (omega (arith, some, left, none));
+      answer = λ some. absurd (omega (arith, some, left, none));
       keeps = keeps_none;
     }
 
     taken_by : (verdict : Verdict) → MakesOnly (settings is.asked.carriage.actuator is.asked.order) verdict → IsMade number device.journal new.journal device.work_left new.work_left verdict → IsAtWork device.work new.work verdict
-        → Makes orders commands new
-    taken_by (MakesNow made) only (changed, left) work = record {
+        → ((made : List Setting) → verdict ≡ Works made → AnswersLate new.work) → Makes orders commands new
+    taken_by (MakesNow made) only (changed, left) work told = record {
       changes = subst (λ (j : List Change). AllByRecursion (MakesAsked orders commands) j) (sym changed)
           (all-append (MakesAsked orders commands) device.journal (record { by = Session number; settings = made } ∷ []) m.changes (asked_for made only, tt));
       work = λ some. absurd (omega (arith, some, left, none));
+      answer = λ some. absurd (omega (arith, some, left, none));
       keeps = keeps_none;
     }
-    taken_by (Works made) only (journal, left) work = record {
+    taken_by (Works made) only (journal, left) work told = record {
       changes = subst (λ (j : List Change). AllByRecursion (MakesAsked orders commands) j) (sym journal) m.changes;
       work = λ some. subst (λ (k : ℕ). IsAskedFor orders commands k new.work.settings) (sym sessions) (asked_for new.work.settings (work ∙ only));
+      answer = λ some. let plan = told made refl in record { few = omega (arith, left); plan = plan.0; told = plan.1 };
       keeps = keeps_none;
     }
-    taken_by Fails only (journal, left) work = still journal left
-    taken_by NoSupport only (journal, left) work = still journal left
+    taken_by Fails only (journal, left) work told = still journal left
+    taken_by NoSupport only (journal, left) work told = still journal left
 
   heard_by : (heard : Heard) → heard_of device.sessions (wire_id session) ≡ heard → Follows device new (verdict_on device is.asked.carriage is.asked.order) heard → Makes orders commands new
   heard_by (New number) e t =
       taken_by number (names.is_new number e).0 (ap (λ (s : Taken). s.taken) t.sessions) (at_rest device ends ended t.free).0 t.empty (verdict_on device is.asked.carriage is.asked.order) makes_only t.made t.work
+      (λ made works. late number made e works)
   heard_by (Again status) e same = untouched orders commands device new same m
   heard_by Old e same = untouched orders commands device new same m
 
@@ -156,7 +175,10 @@ message_makes : Laws → (orders : List Asked) (commands : List ℕ) (c : Course
 message_makes laws orders commands c device session payload drawn at awake is segment names m =
     subst (λ (p : List ℕ). Makes orders commands (device_after device (Hears p drawn))) (sym is.text)
     (follows_makes orders commands c.ends device (device_after device (Hears (message_of is.asked.carriage is.asked.order session) drawn)) session payload at.ended is
-    (laws.asked device is.asked.carriage is.asked.order is.fit.good) segment (subst (λ (t : Taken). NamesOne t (record { session = session; is_segment = segment })) (sym at.sessions) names) m
+    (laws.asked device is.asked.carriage is.asked.order is.fit.good)
+    (λ number made heard works. work_told device drawn is.asked.carriage is.asked.order session number made (laws.opens is.asked.carriage is.asked.order session is.fit is.end) (laws.target is.asked.order.end)
+    (laws.asked device is.asked.carriage is.asked.order is.fit.good) awake at.is_open heard works)
+    segment (subst (λ (t : Taken). NamesOne t (record { session = session; is_segment = segment })) (sym at.sessions) names) m
     (laws.follows device drawn is.asked.carriage is.asked.order session is.fit is.end awake at.is_open))
 
 -- a segment is heard
@@ -193,7 +215,7 @@ segment_makes laws orders commands c device session payload drawn at awake is na
             })) m
         heard (inr (whole, said)) =
             let made = message_makes laws orders commands c device session is.message drawn at awake is.of true names.0 m in
-            subst (λ (d : State). Makes orders commands d) (sym whole) (record { changes = made.changes; work = made.work; keeps = tt })
+            subst (λ (d : State). Makes orders commands d) (sym whole) (record { changes = made.changes; work = made.work; answer = made.answer; keeps = tt })
 
 command_makes : Laws → (orders : List Asked) (commands : List ℕ) (c : Course) (device : State) (segment : Bool) (session : ℕ) (payload drawn : List ℕ) → AtDevice c device → device.awake ≡ true
     → IsMessage segment orders commands session payload → Names c.device (Command (record { session = session; is_segment = segment })) → Makes orders commands device → Makes orders commands (device_after device (Hears payload drawn))
@@ -227,6 +249,11 @@ module _ (orders : List Asked) (commands : List ℕ) (device : State) (m : Makes
         work = λ some.
             subst (λ (w : Work). IsAskedFor orders commands (ticked device).device.sessions.taken w.settings) (sym work)
             (subst (λ (t : Taken). IsAskedFor orders commands t.taken device.work.settings) (sym sessions) (m.work (grind (arith, n, nat_tests))));
+        answer = λ some.
+            let left : (ticked device).device.work_left ≡ device.work_left - 1 = rw (n, l) refl in
+            let was = m.answer (grind (arith, n, nat_tests)) in
+            let few : device.work_left ≤ 5 = was.few in
+            record { few = omega (arith, left, few); plan = was.plan; told = ap (λ (w : Work). w.answer) work ∙ was.told };
       }
   tick_makes false true n l =
       let one : device.work_left ≡ 1 = eqb-true device.work_left 1 l in
@@ -240,6 +267,7 @@ module _ (orders : List Asked) (commands : List ℕ) (device : State) (m : Makes
         changes = subst (λ (j : List Change). AllByRecursion (MakesAsked orders commands) j) (sym journal)
             (all-append (MakesAsked orders commands) device.journal (record { by = Session device.sessions.taken; settings = device.work.settings } ∷ []) m.changes (m.work (omega (arith, one)), tt));
         work = λ some. absurd (omega (arith, some, left));
+        answer = λ some. absurd (omega (arith, some, left));
       }
 
   wake_makes : (b : Bool) → listens device.kind ≡ b → Makes orders commands (woken device).device
@@ -249,7 +277,7 @@ module _ (orders : List Asked) (commands : List ℕ) (device : State) (m : Makes
 
   hand_makes : (value : ℕ) → Makes orders commands (set_by_hand device value).device
   unfolding set_by_hand
-  hand_makes value = record { changes = all-append (MakesAsked orders commands) device.journal _ m.changes (tt, tt); work = m.work; keeps = m.keeps }
+  hand_makes value = record { changes = all-append (MakesAsked orders commands) device.journal _ m.changes (tt, tt); work = m.work; answer = m.answer; keeps = m.keeps }
 
   pub event_makes : (event : DeviceEvent) → HearsNone event → Makes orders commands (device_after device event)
   unfolding device_after outcome_of
@@ -275,7 +303,12 @@ no_sessions (change ∷ journal) none = by change.by refl (λ later. no_sessions
 -- a device that ended no session has made nothing by one
 pub first_makes : (device : State) → HasEnded device [] → device.sessions.taken ≡ 0 → device.reassembly ≡ Empty → Makes [] [] device
 first_makes device is none empty =
-    record { changes = no_sessions device.journal is.changed; work = λ some. absurd (busy device.work_left refl some); keeps = none_kept [] [] (device.sessions.taken + 1) device.reassembly empty }
+    record {
+      changes = no_sessions device.journal is.changed;
+      work = λ some. absurd (busy device.work_left refl some);
+      answer = λ some. absurd (busy device.work_left refl some);
+      keeps = none_kept [] [] (device.sessions.taken + 1) device.reassembly empty;
+    }
   where
     busy : (left : ℕ) → device.work_left ≡ left → 0 < device.work_left → ⊥
     busy zero e some = absurd (omega (arith, e, some))

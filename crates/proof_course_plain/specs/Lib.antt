@@ -11,6 +11,7 @@ pub mod Host
 pub mod Told
 pub mod HostGoing
 pub mod World
+pub mod Judged
 pub use Rattle.proof_once.specs.Tied
 pub use Rattle.proof_once.specs.Truly
 pub use Rattle.proof_traffic.specs.Flights

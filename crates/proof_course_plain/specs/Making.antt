@@ -1,11 +1,12 @@
 -- What the sessions of a device make: the settings that their commands ask for; and what it keeps of the segments of the next (this project's own rule over the Supervision and
 -- Transport Service Command Classes).
-use Rattle.std.specs.Prelude.{◌≡◌, ℕ, ◌+◌, ◌%◌, ◌<◌, true, List, [], ◌∷◌, Some, slice_get}
+use Rattle.std.specs.Prelude.{◌≡◌, ℕ, ◌+◌, ◌%◌, ◌<◌, ◌≤◌, true, List, [], ◌∷◌, Some, slice_get}
 use Rattle.std.specs.List.{AllByRecursion}
 use Rattle.zw_base.specs.declared.property.By.{By}
 use Rattle.zw_base.specs.declared.property.By.TheVariants.{Session, Plain, Local}
 use Rattle.zw_base.specs.declared.property.Setting.{Setting}
 use Rattle.supervision.specs.Device.{Taken}
+use Rattle.encap.specs.declared.plan.Plan.{Plan}
 use Rattle.proof_course.specs.Parts.{numbered}
 use Rattle.proof_course.specs.Sessions.{Message, Cargo, Command, Of_host, Answer, Of_node, is_segment_of_next}
 use Rattle.proof_course.specs.SessionLaws.{NamesOne}
@@ -13,6 +14,8 @@ use Rattle.transport_segments.specs.Kept.{Reassembly, Empty, Partial}
 use Rattle.transport_segments.specs.Runs.{Agrees}
 use Rattle.host_orders.specs.Settings.{settings}
 use Rattle.device_kinds.specs.declared.change.Change.{Change}
+use Rattle.device_stack.specs.Effects.{work_ticks}
+use Rattle.device_stack.specs.declared.work.Work.{Work}
 use Rattle.device_sim.specs.State.{State}
 use Rattle.device_sim.specs.Event.{DeviceEvent, Hears, Ticks, Wakes, Sets}
 use Rattle.proof_course_plain.specs.Meaning.{Asked, IsMessageOf}
@@ -46,10 +49,17 @@ abbrev pub KeepsNext : List Asked → List ℕ → ℕ → Reassembly → Type 0
 KeepsNext orders commands session Empty = Unit {0}
 KeepsNext orders commands session (Partial id places) = KeepsOf orders commands session id (Partial id places)
 
--- so each change of a device, and the work that it is at for its last session; and what it keeps of segments is of the session after its last
+-- so many ticks of work are left, and its end is to be told
+pub record IsToTell (left : ℕ) (work : Work) : Type 0 where
+  pub few : left ≤ work_ticks
+  pub plan : Plan
+  pub told : work.answer ≡ Some plan
+
+-- so each change of a device, and the work that it is at for its last session, which it is to tell; and what it keeps of segments is of the session after its last
 pub record Makes (orders : List Asked) (commands : List ℕ) (device : State) : Type 0 where
   pub changes : AllByRecursion (MakesAsked orders commands) device.journal
   pub work : 0 < device.work_left → IsAskedFor orders commands device.sessions.taken device.work.settings
+  pub answer : 0 < device.work_left → IsToTell device.work_left device.work
   pub keeps : KeepsNext orders commands (device.sessions.taken + 1) device.reassembly
 
 -- so the devices of a node

@@ -7,16 +7,19 @@
 //! steps of such a course; and that the host's table of commands says what the host was told and what the device
 //! changed. It does not matter what lines ask beside orders (`lines_ask_plainly`). Each success that the host is told
 //! of the node is true at the moment it is told (`hosts_are_told_the_truth`, `worlds_tell_the_truth`,
-//! `lines_tell_the_truth`). There is no code here.
+//! `lines_tell_the_truth`). The device takes each session with the verdict of its kind on the values that it has then
+//! (`devices_judge_what_is_asked`). There is no code here.
 //!
 //! The definitions are in `specs/`: `Ways` (labels beside what carries them, and what loss and doubling do to them),
 //! `Meaning` (what a label says of bytes); where the course is: `Air`, `Device`, `Mesh`, `Lines` and `Chip`, `Outside`,
-//! `Host` and `HostGoing`, `World`; `Told` (what the host's table says) and `Making` (what sessions make).
+//! `Host` and `HostGoing`, `World`; `Told` (what the host's table says), `Making` (what sessions make) and `Judged`
+//! (what an event makes of the sessions of a device).
 #![tactic(auto)]
 
 mod air;
 mod device;
 mod host;
+mod judging;
 mod lines;
 mod mesh;
 mod outside;
@@ -27,6 +30,7 @@ mod world;
 pub use air::frames_follow_the_course;
 pub use device::{devices_follow_the_course, idle_devices_stay_idle};
 pub use host::hosts_follow_the_course;
+pub use judging::devices_judge_what_is_asked;
 pub use lines::chips_carry_reports;
 pub use mesh::arrivals_follow_the_course;
 pub use outside::outsides_follow_the_course;

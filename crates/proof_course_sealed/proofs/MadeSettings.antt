@@ -1,13 +1,16 @@
 -- The sessions of a lock make what their commands ask for, where it hears a payload of the host.
-use Rattle.std.proofs.Common.{◌≡◌, ℕ, ◌⊎◌, inl, inr, Bool, true, false, List, refl, sym, subst}
+use Rattle.std.proofs.Common.{◌≡◌, ℕ, ◌⊎◌, inl, inr, Bool, true, false, List, refl, sym, ap, subst}
 use Rattle.supervision.specs.Device.{Taken}
 use Rattle.proof_course.specs.NodeNonces as node_nonces
 use Rattle.proof_course.specs.NonceLaws.{NamesLive}
 use Rattle.proof_course.specs.SessionLaws.{NamesOne}
+use Rattle.device_kinds.specs.Kind.{lists}
+use Rattle.device_kinds.specs.declared.kind.Kind.{Kind}
 use Rattle.device_sim.specs.State.{State}
 use Rattle.device_sim.specs.Event.{Hears, device_after}
 use Rattle.proof_course_plain.specs.Meaning.{IsMessageOf}
 use Rattle.proof_course_plain.specs.Making.{Makes, Names}
+use Rattle.proof_course_plain.proofs.Levels.{never_works}
 use Rattle.proof_course_plain.proofs.MadeSettings.{untouched, follows_makes}
 use Rattle.proof_messages.specs.Numbers.{HasGiven}
 use Rattle.proof_course_sealed.specs.Labels.{Held, Sealed, Offer, Up, Of_host, Down, Of_node, as_session}
@@ -34,7 +37,8 @@ module _ (laws : Laws) (past : Past) (node : ℕ) (c : Courses) (device : State)
       named_by : HasGiven past.given c.node.given c.node.is_live device.given → (b : Bool) → node_nonces.names c.node number ≡ b → Makes past.orders past.commands new
       named_by has true e =
           follows_makes past.orders past.commands c.sessions.ends device new session is.text at.ended (whole_of past session is.text is.is)
-          (laws.asked device is.is.asked.carriage is.is.asked.order is.is.fit.good) false
+          (laws.asked device is.is.asked.carriage is.is.asked.order is.is.fit.good)
+          (λ one made heard works. absurd (never_works device is.is.asked.carriage is.is.asked.order made (ap (λ (k : Kind). lists k 0x26) at.lock.kind) works)) false
           (subst (λ (t : Taken). NamesOne t (record { session = session; is_segment = false })) (sym at.sessions) names) m
           (message_followed laws past node c device payload drawn at stands session number is has live e)
       named_by has false e = untouched past.orders past.commands device new (unnamed_spends laws past node c device payload drawn at stands session number is has e).left m

@@ -84,10 +84,6 @@ module _ (olds : List State) (clock node : ℕ) (old : State) (apart : node ≢ 
   may_later past [] ys may = subst (λ (l : List Entry). EachAfter (MayAt olds clock) l ys) (sym (append-nil past)) may
   may_later past (x ∷ xs) ys may = subst (λ (l : List Entry). EachAfter (MayAt olds clock) l ys) (append_assoc past (x ∷ []) xs) (may_later (past ++ x ∷ []) xs ys may.1)
 
-  may_first : (past xs ys : List Entry) → EachAfter (MayAt olds clock) past (xs ++ ys) → EachAfter (MayAt olds clock) past xs
-  may_first past [] ys may = tt
-  may_first past (x ∷ xs) ys may = (may.0, may_first (past ++ x ∷ []) xs ys may.1)
-
   -- a frame is heard
   module _ (past : List Entry) (o : OuterState) (idle : AreIdle (ticked_entry o)) where
     heard_stand : (number : ℕ) (rest : List Entry) → EachAfter (MayAt olds clock) past (ticked_entry o ++ entry.Heard number ∷ rest) → HadBy clock past node old

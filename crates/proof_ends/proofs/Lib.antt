@@ -8,9 +8,12 @@ pub use Rattle.proof_rests.proofs.EndsDone
 pub use Rattle.proof_rests.proofs.EndsHere
 pub use Rattle.proof_rests.proofs.Interviews
 pub use Rattle.proof_rests.proofs.EndsTold
-pub use Rattle.proof_rests.proofs.Stepping
-pub use Rattle.proof_rests.proofs.KeptAwake
 pub use Rattle.proof_rests.proofs.Done
 pub use Rattle.proof_rests.proofs.Freeing
 pub use Rattle.proof_rests.proofs.AtRests
-pub use Rattle.proof_rests.proofs.Sleeping as proof_rests_Sleeping
+pub use Rattle.proof_rests.proofs.ByMessage
+pub use Rattle.proof_rests.proofs.Accounts
+pub use Rattle.proof_rests.proofs.Payloads
+pub use Rattle.proof_rests.proofs.proof_nonces_Walking
+pub use Rattle.proof_rests.proofs.proof_notes_Along
+pub use Rattle.proof_rests.proofs.proof_notes_Walking

@@ -177,9 +177,6 @@ silent_none past is = by (are_none (ending (asked past))) refl is
 pub given_none : (past : List Entry) → is_given_up past ≡ true → ending (asked past) ≡ []
 given_none past is = by (are_none (ending (asked past))) refl is
   where
-    gone : Bool → List ℕ
-    gone b = if b && are_none (silence (asked past)) then flat_map (λ fails. fails.tick ∷ []) (failing (asked past)) else []
-
     by : (b : Bool) → are_none (ending (asked past)) ≡ b
         → list_any (λ tick. tick == clock past) (if b && are_none (silence (asked past)) then flat_map (λ fails. fails.tick ∷ []) (failing (asked past)) else []) ≡ true → ending (asked past) ≡ []
     by true none is = none_list (ending (asked past)) none

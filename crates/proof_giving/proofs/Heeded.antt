@@ -22,7 +22,7 @@ use Rattle.law_time.specs.Attempts.{is_at_work}
 use Rattle.host_model.specs.After.{after}
 use Rattle.host_model.specs.Did.{after_all}
 use Rattle.host_model.specs.State.{HostState, node_of}
-use Rattle.host_model.specs.Events.{HostEvent, Finishes, Gives, Has_no_room, Hears_value, Is_unkept, Notifies, Offers, Reports_old, Resends, Spends, Spends_unread, Takes_nonce, Unreads, Works}
+use Rattle.host_model.specs.Events.{HostEvent, Begins, Finishes, Gives, Gives_segment, Gives_text, Has_no_room, Hears_value, Is_unkept, Line_ticks, Node_ticks, Notifies, Offers, Reports_old, Requests_do, Resends, Spends, Starts, Submits_abort, Submits_front, Takes_nonce, Unreads, Works}
 use Rattle.host_model.specs.Taking.{AreTaken, FinalEvents, IsOpened, IsTaken, NonceGetEvents, NonceReportEvents, PayloadEvents, ReportEvents, SealedEvents, is_secure, named_by, resent, value_event, value_events, wanted_segment}
 use Rattle.proof_queue.specs.Heeding.{heeded_of, heeded_opened, heeded_payload, heeded_sealed, taken_up}
 use Rattle.proof_queue.proofs.Kept.{IsFollower, event_keeps}
@@ -58,22 +58,17 @@ module _ (n : ℕ) where
   follow_commands h [] all = refl
   follow_commands h (event ∷ events) all = follow_commands (after h event) events all.1 ∙ (event_keeps h n event all.0).commands
 
-follow_mild : (n : ℕ) (event : HostEvent) → IsFollower n event → IsMild event
-follow_mild n (Unreads m payload) follows = tt
-follow_mild n (Is_unkept m) follows = tt
-follow_mild n (Reports_old m id) follows = tt
-follow_mild n (Works m id) follows = tt
-follow_mild n (Finishes m session id command status wake) follows = tt
-follow_mild n (Offers m) follows = tt
-follow_mild n (Gives m drawn) follows = tt
-follow_mild n (Spends m) follows = tt
-follow_mild n (Spends_unread m payload) follows = tt
-follow_mild n (Takes_nonce m seen text) follows = tt
-follow_mild n (Notifies m) follows = tt
-follow_mild n (Resends m payload) follows = tt
-follow_mild n (Hears_value m setting) follows = tt
-follow_mild n (Has_no_room m property) follows = tt
-follow_mild n event follows = absurd follows
+pub follow_mild : (n : ℕ) (event : HostEvent) → IsFollower n event → IsMild event
+follow_mild n (Requests_do event moment) follows = absurd follows
+follow_mild n Line_ticks follows = absurd follows
+follow_mild n (Node_ticks m) follows = absurd follows
+follow_mild n Submits_abort follows = absurd follows
+follow_mild n Submits_front follows = absurd follows
+follow_mild n (Starts m plan more payload) follows = absurd follows
+follow_mild n (Gives_text m payload) follows = absurd follows
+follow_mild n (Gives_segment m more payload) follows = absurd follows
+follow_mild n (Begins m session command) follows = absurd follows
+follow_mild n event follows = tt
 
 pub all_mild : (n : ℕ) (events : List HostEvent) → AllByRecursion (IsFollower n) events → AllByRecursion IsMild events
 all_mild n [] all = tt

@@ -37,7 +37,7 @@ pub use Rattle.proof_queue.proofs.Doings
 pub use Rattle.proof_queue.proofs.Wrote
 pub use Rattle.proof_queue.proofs.proof_requests_Telling
 pub use Rattle.proof_queue.proofs.Books
-pub use Rattle.proof_queue.proofs.HostNotes
+pub use Rattle.proof_queue.proofs.Keeping
 pub use Rattle.proof_queue.proofs.proof_alone_Apart
 pub use Rattle.proof_queue.proofs.Orders as proof_queue_Orders
 pub use Rattle.proof_queue.proofs.Lasting
@@ -69,3 +69,19 @@ pub use Rattle.proof_queue.proofs.proof_attempts_Ending
 pub use Rattle.proof_queue.proofs.Late
 pub use Rattle.proof_queue.proofs.proof_requests_Judging
 pub use Rattle.proof_queue.proofs.proof_waking_Parts
+pub use Rattle.proof_queue.proofs.Noting
+pub use Rattle.proof_queue.proofs.Queueing
+pub use Rattle.proof_queue.proofs.Slept
+pub use Rattle.proof_queue.proofs.AnswerFacts
+pub use Rattle.proof_queue.proofs.SeriesGoes
+pub use Rattle.proof_queue.proofs.KeptAwake
+pub use Rattle.proof_queue.proofs.proof_requests_Doing
+pub use Rattle.proof_queue.proofs.Spelled
+pub use Rattle.proof_queue.proofs.proof_requests_Growing
+pub use Rattle.proof_queue.proofs.proof_requests_Standing
+pub use Rattle.proof_queue.proofs.proof_requests_Ended
+pub use Rattle.proof_queue.proofs.EndsLate
+pub use Rattle.proof_queue.proofs.OnLine
+pub use Rattle.proof_queue.proofs.Nodes
+pub use Rattle.proof_queue.proofs.Ordered
+pub use Rattle.proof_queue.proofs.proof_sending_Grounds

@@ -127,9 +127,6 @@ module _ (told : Attempts) (s : NodeState) (time : ℕ) (badly : Bool) (so : Nod
       over_so : is_late time told ≡ true → NodeSo (record told { over = true }) s time badly
       over_so late = record { are = is_kept_late told s time badly so.are late; sent = λ is. let was = so.sent is in record { some = was.some; segments = was.segments }; text = so.text }
 
-      still : (c : Bool) → is_running s.series ≡ false → NodeSo told s time badly → NodeSo told (if c then after_sign s else s) time badly
-      still c none so = either_so told time badly c (after_sign s) s (subst (λ (d : Bool). NodeSo told (if d then with_wait s 100 else s) time badly) (sym none) so) so
-
       kept : (a : Attempts) (c : Bool) → is_running s.series ≡ false → NodeSo a s time badly → NodeSo a (if c then after_sign s else s) time badly
       kept a c none so = either_so a time badly c (after_sign s) s (subst (λ (d : Bool). NodeSo a (if d then with_wait s 100 else s) time badly) (sym none) so) so
 

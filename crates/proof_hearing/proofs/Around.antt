@@ -10,10 +10,10 @@ use Rattle.law_transcript.specs.Payloads.{nonce_get}
 use Rattle.law_transcript.specs.Units.{Carried, sending_in}
 use Rattle.law_time.specs.Heeds.{Heeds}
 use Rattle.host_model.specs.State.{HostState, node_of}
-use Rattle.proof_nonces.specs.Counted.{IsLast, LiveSo}
-use Rattle.proof_nonces.specs.proof_known.law_host.Course.{Book, Course, book_of, each_in_turn, nothing_sealed, restarted, restarted_book}
-use Rattle.proof_nonces.specs.proof_known.law_host.Nonces.{asks_nonce, sends, sends_carried, shows_nonce, uses_nonce}
-use Rattle.proof_nonces.proofs.Accounts.{SameAccount}
+use Rattle.proof_choice.specs.proof_ends.proof_nonces.Counted.{IsLast, LiveSo}
+use Rattle.proof_choice.specs.proof_ends.proof_requests.law_host.Course.{Book, Course, book_of, each_in_turn, nothing_sealed, restarted, restarted_book}
+use Rattle.proof_choice.specs.proof_ends.proof_requests.law_host.Nonces.{asks_nonce, sends, sends_carried, shows_nonce, uses_nonce}
+use Rattle.proof_choice.proofs.Accounts.{SameAccount}
 use Rattle.proof_hearing.specs.Books.{BooksSo, GiverSo, IsLowOffer, IsLowOpening, SealerSo, nonces_to}
 use Rattle.proof_hearing.specs.Hearing.{choosing}
 use Rattle.proof_hearing.proofs.Alike.{Cleared}

@@ -19,10 +19,10 @@ use Rattle.host_node.specs.Events.NodeEvent.{Interviews as node_interviews, Join
 use Rattle.host_node.specs.TableState.{node_of as node_among, nodes_after, unknown_from, unknown_nodes, with_node as with_node_among}
 use Rattle.host_model.specs.State.{HostState, first_classes, first_host, first_nodes}
 use Rattle.proof_messages.proofs.SealedTexts.{bare_texts, first_bare}
-use Rattle.proof_nonces.specs.Known.{offered_by, offered_in}
-use Rattle.proof_nonces.specs.proof_known.law_host.Course.{Course, blank_book}
-use Rattle.proof_nonces.specs.proof_known.law_host.Nonces.{IsOffer, IsOpening, UsesNonces}
-use Rattle.proof_nonces.proofs.Accounts.{unused_all}
+use Rattle.proof_choice.specs.proof_ends.proof_nonces.Known.{offered_by, offered_in}
+use Rattle.proof_choice.specs.proof_ends.proof_requests.law_host.Course.{Course, blank_book}
+use Rattle.proof_choice.specs.proof_ends.proof_requests.law_host.Nonces.{IsOffer, IsOpening, UsesNonces}
+use Rattle.proof_choice.proofs.Accounts.{unused_all}
 use Rattle.proof_hearing.specs.Books.{BooksOf, BooksSo, IsLowOffer, IsLowOpening, IsReady, nonce_to, nonces_to}
 
 -- ---- the law

@@ -21,10 +21,10 @@ use Rattle.supervision.specs.Host.{command_at as command_of_session}
 use Rattle.host_model.specs.State.{HostState, node_of}
 use Rattle.host_model.specs.After.{giving, requests_do, spending}
 use Rattle.proof_host.specs.Tables.{taken_at}
-use Rattle.proof_nonces.specs.proof_known.law_host.Course.{Book, Giver, Offer, Opening, Seal, Sealer, book_of, nothing_sealed}
-use Rattle.proof_nonces.specs.proof_known.law_host.Nonces.{IsOpening, IsSeal, is_late, nonce_with}
-use Rattle.proof_nonces.specs.Counted.{LiveSo}
-use Rattle.proof_nonces.proofs.Accounts.{Redrawn, SetTo, given_next, gave_grown, gives_drawn, same_grown, set_goes, spends_grown, spent_live}
+use Rattle.proof_choice.specs.proof_ends.proof_requests.law_host.Course.{Book, Giver, Offer, Opening, Seal, Sealer, book_of, nothing_sealed}
+use Rattle.proof_choice.specs.proof_ends.proof_requests.law_host.Nonces.{IsOpening, IsSeal, is_late, nonce_with}
+use Rattle.proof_choice.specs.proof_ends.proof_nonces.Counted.{LiveSo}
+use Rattle.proof_choice.proofs.Accounts.{Redrawn, SetTo, given_next, gave_grown, gives_drawn, same_grown, set_goes, spends_grown, spent_live}
 use Rattle.proof_hearing.specs.Books.{BooksOf, GiverSo, IsLowOffer, IsLowOpening, IsReady, SealedOpen, SealerSo, nonce_to, nonces_to}
 use Rattle.proof_hearing.proofs.Alike.{Alike, Cleared}
 use Rattle.proof_hearing.proofs.Putting.{giver_here, giver_other, givers_stay, sealer_here, sealer_other, sealers_stay, with_giver_book, with_sealer_book}

@@ -16,10 +16,10 @@ use Rattle.host_heard.specs.declared.told.Told.TheVariants.{Report, NonceGet, No
 use Rattle.law_time.specs.Attempts.{is_last_nonce, is_next_nonce}
 use Rattle.law_time.specs.Requests.{are_none}
 use Rattle.law_time.specs.Wants.{segments_wanted}
-use Rattle.proof_nonces.specs.proof_known.law_host.Course.{Course, Giver, Sealer, each_in_turn, giver_of, if_kept, is_kept, sealer_of, with_giver, with_note, with_notes, with_taken}
-use Rattle.proof_nonces.specs.proof_known.law_host.Frames.{hears_all, hears_payload, hears_text, names_live, opens, text_next}
-use Rattle.proof_nonces.specs.proof_known.law_host.Messages.{Hearing, ends_session, gives_next, has_room, hears, hears_nonce, hears_nonce_get, hears_report, hears_segment_request, hears_value, is_full, is_of_open, is_told_openly, offers_last, past_now, puts, sealed_for, takes_nonce, takes_report, unread}
-use Rattle.proof_nonces.specs.proof_known.law_host.Nonces.{is_late}
+use Rattle.proof_choice.specs.proof_ends.proof_requests.law_host.Course.{Course, Giver, Sealer, each_in_turn, giver_of, if_kept, is_kept, sealer_of, with_giver, with_note, with_notes, with_taken}
+use Rattle.proof_choice.specs.proof_ends.proof_requests.law_host.Frames.{hears_all, hears_payload, hears_text, names_live, opens, text_next}
+use Rattle.proof_choice.specs.proof_ends.proof_requests.law_host.Messages.{Hearing, ends_session, gives_next, has_room, hears, hears_nonce, hears_nonce_get, hears_report, hears_segment_request, hears_value, is_full, is_of_open, is_told_openly, offers_last, past_now, puts, sealed_for, takes_nonce, takes_report, unread}
+use Rattle.proof_choice.specs.proof_ends.proof_requests.law_host.Nonces.{is_late}
 use Rattle.proof_hearing.specs.Hearing.{Remaining, Whole, Left, else_of, finishes}
 
 pub record Adds (old new : Course) : Type 0 where

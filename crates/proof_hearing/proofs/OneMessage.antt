@@ -56,15 +56,15 @@ use Rattle.host_model.specs.Outs.{dropped_if, ended_of, noted, outs}
 use Rattle.host_model.specs.Taking.{FinalEvents, IsKeptOr, IsTaken, NonceGetEvents, NonceReportEvents, ReportEvents, is_secure, resent, value_event, wanted_segment}
 use Rattle.proof_host.specs.Tables.{taken_at}
 use Rattle.proof_host.proofs.Commands.{taken_set}
-use Rattle.proof_nonces.specs.proof_known.law_host.Course.{Course, Giver, Sealer, book_of, each_in_turn, giver_of, if_kept, with_note, with_notes, with_taken, without_texts, with_giver}
-use Rattle.proof_nonces.specs.proof_known.law_host.Heard.{heeds_alone, listing_heard}
-use Rattle.proof_nonces.specs.proof_known.law_host.Messages.{Hearing, ends_session, final_notes, gives_next, has_room, hears, hears_value, is_full as is_course_full, is_of_open, offers_last, puts, sealed_for, takes_nonce, takes_report, unread}
-use Rattle.proof_nonces.specs.proof_known.law_host.Nonces.{is_late}
-use Rattle.proof_nonces.specs.proof_known.proof_alone.Steps.{AreTold}
-use Rattle.proof_nonces.proofs.ByMessage.{IsEnded, IsNoValues, ends_so, is_final, is_old, is_working, names_open, note_told, of_open_is, openly_is, put_out}
-use Rattle.proof_nonces.proofs.Noting.{noted_told}
-use Rattle.proof_nonces.proofs.Walking.{own_long}
-use Rattle.proof_queue.specs.Heeding.{taken_up}
+use Rattle.proof_choice.specs.proof_ends.proof_requests.law_host.Course.{Course, Giver, Sealer, book_of, each_in_turn, giver_of, if_kept, with_note, with_notes, with_taken, without_texts, with_giver}
+use Rattle.proof_choice.specs.proof_ends.proof_requests.law_host.Heard.{heeds_alone, listing_heard}
+use Rattle.proof_choice.specs.proof_ends.proof_requests.law_host.Messages.{Hearing, ends_session, final_notes, gives_next, has_room, hears, hears_value, is_full as is_course_full, is_of_open, offers_last, puts, sealed_for, takes_nonce, takes_report, unread}
+use Rattle.proof_choice.specs.proof_ends.proof_requests.law_host.Nonces.{is_late}
+use Rattle.proof_choice.specs.proof_ends.proof_requests.proof_alone.Steps.{AreTold}
+use Rattle.proof_choice.proofs.ByMessage.{IsEnded, IsNoValues, ends_so, is_final, is_old, is_working, names_open, note_told, of_open_is, openly_is, put_out}
+use Rattle.proof_choice.proofs.Noting.{noted_told}
+use Rattle.proof_choice.proofs.proof_nonces_Walking.{own_long}
+use Rattle.proof_choice.specs.proof_giving.proof_queue.Heeding.{taken_up}
 use Rattle.proof_hearing.specs.Books.{BooksSo, SealedOpen, nonces_to}
 use Rattle.proof_hearing.specs.Hearing.{NoOut, Point, StaysLate, choosing, else_of, waited}
 use Rattle.proof_hearing.proofs.Alike.{Alike, finish_here, finish_other, hold_same, same_alike, takes_here, takes_other, wakes_go, works_go}

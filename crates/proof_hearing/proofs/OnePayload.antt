@@ -27,15 +27,15 @@ use Rattle.host_model.specs.Events.{HostEvent, Has_no_room, Hears_value, Is_unke
 use Rattle.host_model.specs.May.{May}
 use Rattle.host_model.specs.Outs.{outs}
 use Rattle.host_model.specs.Taking.{AreTaken, IsOpened, IsTaken, OpensTo, PayloadEvents, SealedEvents, ends_from, named_by, value_event, value_events}
-use Rattle.proof_nonces.specs.proof_known.law_host.Course.{Course, Giver, Opening, book_of, each_in_turn, if_kept, with_giver, with_note}
-use Rattle.proof_nonces.specs.proof_known.law_host.Frames.{hears_all, hears_payload, hears_text, names_live, opens}
-use Rattle.proof_nonces.specs.proof_known.law_host.Heard.{heeds_alone}
-use Rattle.proof_nonces.specs.proof_known.law_host.Messages.{Hearing, hears, hears_value, unread}
-use Rattle.proof_nonces.specs.proof_known.law_host.Nonces.{IsOpening, nonce_with}
-use Rattle.proof_nonces.specs.proof_known.proof_alone.Steps.{AreTold}
-use Rattle.proof_nonces.specs.proof_notes.Full.{MessageNotes, hearing_of}
-use Rattle.proof_nonces.proofs.ByMessage.{IsNoValues, One, note_told, one_message}
-use Rattle.proof_queue.specs.Heeding.{heeded_of, heeded_opened, heeded_payload, heeded_sealed, taken_up}
+use Rattle.proof_choice.specs.proof_ends.proof_requests.law_host.Course.{Course, Giver, Opening, book_of, each_in_turn, if_kept, with_giver, with_note}
+use Rattle.proof_choice.specs.proof_ends.proof_requests.law_host.Frames.{hears_all, hears_payload, hears_text, names_live, opens}
+use Rattle.proof_choice.specs.proof_ends.proof_requests.law_host.Heard.{heeds_alone}
+use Rattle.proof_choice.specs.proof_ends.proof_requests.law_host.Messages.{Hearing, hears, hears_value, unread}
+use Rattle.proof_choice.specs.proof_ends.proof_requests.law_host.Nonces.{IsOpening, nonce_with}
+use Rattle.proof_choice.specs.proof_ends.proof_requests.proof_alone.Steps.{AreTold}
+use Rattle.proof_choice.specs.proof_ends.proof_notes.Full.{MessageNotes, hearing_of}
+use Rattle.proof_choice.proofs.ByMessage.{IsNoValues, One, note_told, one_message}
+use Rattle.proof_choice.specs.proof_giving.proof_queue.Heeding.{heeded_of, heeded_opened, heeded_payload, heeded_sealed, taken_up}
 use Rattle.proof_hearing.specs.Books.{BooksSo}
 use Rattle.proof_hearing.specs.Hearing.{HeardOne, HearsSo, NoOut, Point, StaysLate, Remaining, Whole, Left, RemainsSo, choosing, else_of, finishes, heeded_rest, waited}
 use Rattle.proof_hearing.proofs.BooksGo.{books_spend, none_live}

@@ -1,7 +1,7 @@
 -- The book of a node among books, where one is put.
 use Rattle.std.proofs.Common.{◌≡◌, ℕ, ◌==◌, Bool, true, false, if◌then◌else◌, inl, inr, List, [], ◌∷◌, refl, sym, ap, ◌∙◌, subst}
 use Rattle.std.proofs.lemmas.Bool.{cases_eq, eq-eqb, eqb-true, ne_eqb}
-use Rattle.proof_nonces.specs.proof_known.law_host.Course.{Book, Giver, Sealer, blank_book, book_of, with_book}
+use Rattle.proof_choice.specs.proof_ends.proof_requests.law_host.Course.{Book, Giver, Sealer, blank_book, book_of, with_book}
 
 pub book_node : (node : ℕ) (books : List Book) → (book_of node books).node ≡ node
 book_node node [] = refl

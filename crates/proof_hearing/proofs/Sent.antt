@@ -42,12 +42,12 @@ use Rattle.host_model.specs.After.{after, submits}
 use Rattle.host_model.specs.Events.{Gives_segment, Gives_text, Starts, Submits_abort, Submits_front}
 use Rattle.host_model.specs.May.{IsStart}
 use Rattle.proof_host.specs.Tables.{taken_at, taken_by}
-use Rattle.proof_nonces.specs.Known.{AsksOther, IsOther}
-use Rattle.proof_nonces.specs.proof_known.law_host.Course.{Book, Course, Giver, Offer, Ready, Sealer, book_of, each_in_turn, giver_of, sealer_of, with_giver, with_sealer}
-use Rattle.proof_nonces.specs.proof_known.law_host.Heard.{heeds_alone, listing_heard}
-use Rattle.proof_nonces.specs.proof_known.law_host.Nonces.{IsSeal, asks_nonce, is_late, may_be_sent, may_carry, nonce_with, sends, sends_carried, shows_nonce, uses_nonce}
-use Rattle.proof_nonces.proofs.Payloads.{first_differs, message_other, second_differs, segment_other}
-use Rattle.proof_nonces.proofs.Walking.{carried_by, none_pending}
+use Rattle.proof_choice.specs.proof_ends.proof_nonces.Known.{AsksOther, IsOther}
+use Rattle.proof_choice.specs.proof_ends.proof_requests.law_host.Course.{Book, Course, Giver, Offer, Ready, Sealer, book_of, each_in_turn, giver_of, sealer_of, with_giver, with_sealer}
+use Rattle.proof_choice.specs.proof_ends.proof_requests.law_host.Heard.{heeds_alone, listing_heard}
+use Rattle.proof_choice.specs.proof_ends.proof_requests.law_host.Nonces.{IsSeal, asks_nonce, is_late, may_be_sent, may_carry, nonce_with, sends, sends_carried, shows_nonce, uses_nonce}
+use Rattle.proof_choice.proofs.Payloads.{first_differs, message_other, second_differs, segment_other}
+use Rattle.proof_choice.proofs.proof_nonces_Walking.{carried_by, none_pending}
 use Rattle.proof_hearing.specs.Books.{BooksOf, BooksSo, GiverSo, IsLowOffer, IsReady, SealedOpen, SealerSo, nonce_to, nonces_to}
 use Rattle.proof_hearing.specs.Hearing.{Point}
 use Rattle.proof_hearing.proofs.Alike.{Alike, here_node, other_node, same_alike}

@@ -23,12 +23,12 @@ use Rattle.host_model.specs.Facts.{IsCommandOf}
 use Rattle.host_model.specs.Sessions.{command_if, message_for, open_segment, segment_at, segment_by, segment_count, segment_of}
 use Rattle.host_model.specs.Taking.{wanted_segment}
 use Rattle.proof_host.specs.Tables.{taken_by}
-use Rattle.proof_nonces.specs.proof_known.law_host.Heard.{listing_heard}
-use Rattle.proof_nonces.specs.proof_notes.Ties.{Ties}
-use Rattle.proof_nonces.proofs.ByMessage.{last_some}
-use Rattle.proof_queue.specs.proof_sending.Due.{AreCarried}
-use Rattle.proof_queue.proofs.Kept.{keeps_first}
-use Rattle.proof_queue.proofs.Segments.{IsWanted, Shows, open_is_last, resent_is_wanted, session_last}
+use Rattle.proof_choice.specs.proof_ends.proof_requests.law_host.Heard.{listing_heard}
+use Rattle.proof_choice.specs.proof_ends.proof_notes.Ties.{Ties}
+use Rattle.proof_choice.proofs.ByMessage.{last_some}
+use Rattle.proof_choice.specs.proof_giving.proof_queue.proof_sending.Due.{AreCarried}
+use Rattle.proof_choice.proofs.Kept.{keeps_first}
+use Rattle.proof_choice.proofs.proof_queue_Segments.{IsWanted, Shows, open_is_last, resent_is_wanted, session_last}
 
 -- ---- the session that is open
 

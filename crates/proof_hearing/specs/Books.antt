@@ -16,9 +16,9 @@ use Rattle.host_orders.specs.declared.carriage.Form.TheVariants.{Sealed}
 use Rattle.host_model.specs.State.{HostState, node_of}
 use Rattle.proof_host.specs.Tables.{taken_at}
 use Rattle.proof_messages.specs.Hosts.{HasTexts}
-use Rattle.proof_nonces.specs.proof_known.law_host.Course.{Book, Course, Giver, Offer, Opening, Ready, Seal, Sealer, book_of}
-use Rattle.proof_nonces.specs.proof_known.law_host.Nonces.{IsOffer, IsOpening, IsSeal, is_late, nonce_with}
-use Rattle.proof_nonces.specs.Counted.{LiveSo}
+use Rattle.proof_choice.specs.proof_ends.proof_requests.law_host.Course.{Book, Course, Giver, Offer, Opening, Ready, Seal, Sealer, book_of}
+use Rattle.proof_choice.specs.proof_ends.proof_requests.law_host.Nonces.{IsOffer, IsOpening, IsSeal, is_late, nonce_with}
+use Rattle.proof_choice.specs.proof_ends.proof_nonces.Counted.{LiveSo}
 
 -- ---- what is given
 

@@ -17,15 +17,15 @@ use Rattle.host_model.specs.State.{HostState, node_of}
 use Rattle.host_model.specs.After.{after}
 use Rattle.host_model.specs.Events.{HostEvent}
 use Rattle.host_model.specs.Taking.{AreTaken, PayloadEvents}
-use Rattle.proof_nonces.specs.proof_known.law_host.Course.{Course, each_in_turn}
-use Rattle.proof_nonces.specs.proof_known.law_host.Frames.{hears_payload}
-use Rattle.proof_nonces.specs.proof_known.law_host.Heard.{heeds_alone, listing_heard}
-use Rattle.proof_nonces.specs.proof_known.law_host.Nonces.{is_late}
-use Rattle.proof_nonces.specs.proof_known.law_host.Messages.{Hearing, hears}
-use Rattle.proof_nonces.specs.proof_known.proof_alone.Phases.{Asked, Phase}
-use Rattle.proof_nonces.specs.proof_notes.Ties.{Ties}
-use Rattle.proof_queue.specs.proof_sending.Due.{AreCarried}
-use Rattle.proof_queue.specs.Heeding.{heeded_of, heeded_payload}
+use Rattle.proof_choice.specs.proof_ends.proof_requests.law_host.Course.{Course, each_in_turn}
+use Rattle.proof_choice.specs.proof_ends.proof_requests.law_host.Frames.{hears_payload}
+use Rattle.proof_choice.specs.proof_ends.proof_requests.law_host.Heard.{heeds_alone, listing_heard}
+use Rattle.proof_choice.specs.proof_ends.proof_requests.law_host.Nonces.{is_late}
+use Rattle.proof_choice.specs.proof_ends.proof_requests.law_host.Messages.{Hearing, hears}
+use Rattle.proof_choice.specs.proof_ends.proof_requests.proof_alone.Phases.{Asked, Phase}
+use Rattle.proof_choice.specs.proof_ends.proof_notes.Ties.{Ties}
+use Rattle.proof_choice.specs.proof_giving.proof_queue.proof_sending.Due.{AreCarried}
+use Rattle.proof_choice.specs.proof_giving.proof_queue.Heeding.{heeded_of, heeded_payload}
 use Rattle.proof_hearing.specs.Books.{BooksSo}
 
 -- a course that has these choices still to come

@@ -1,5 +1,5 @@
 pub mod Books
 pub mod Hearing
-pub use Rattle.proof_nonces.specs as proof_nonces
-pub use Rattle.proof_queue.specs as proof_queue
-pub use Rattle.proof_queue.specs.proof_transcript as proof_transcript
+pub use Rattle.proof_choice.specs.proof_ends.proof_nonces as proof_nonces
+pub use Rattle.proof_choice.specs.proof_giving.proof_queue as proof_queue
+pub use Rattle.proof_choice.specs as proof_choice

@@ -16,8 +16,12 @@ mod points;
 
 pub use payloads::payloads_are_heard;
 pub use points::hosts_have_points;
-pub use proof_nonces::{
-    hosts_ask_as_told, hosts_know_their_work, hosts_seal_once, hosts_show_open_sessions,
-    hosts_tell_of_ends,
+pub use proof_choice::{
+    hosts_are_prompt, hosts_ask_as_told, hosts_count_attempts, hosts_count_nonces,
+    hosts_fall_asleep_as_told, hosts_give_up_as_told, hosts_go_by_messages, hosts_hold_as_asked,
+    hosts_know_their_work, hosts_know_what_they_choose, hosts_know_what_was_told, hosts_note_ends,
+    hosts_note_in_full, hosts_queue_as_told, hosts_say_what_is_not_kept, hosts_seal_once,
+    hosts_show_open_sessions, hosts_tell_of_ends, lines_count_nonces, lines_fall_asleep_as_told,
+    lines_hold_as_asked, lines_leave_nothing, lines_note_ends, lines_note_in_full,
+    lines_say_what_is_not_kept, lines_seal_once,
 };
-pub use proof_queue::{hosts_know_what_was_told, hosts_queue_as_told};

@@ -9,10 +9,10 @@ ghost use Rattle.host_model.specs.Events.{HostEvent};
 ghost use Rattle.host_model.specs.May.{May};
 ghost use Rattle.host_model.specs.Outs.{outs};
 ghost use Rattle.host_model.specs.State.{HostState};
-ghost use Rattle.proof_nonces.specs.proof_known.law_host.Course.{Course};
-ghost use Rattle.proof_nonces.specs.proof_known.law_host.Heard.{heeds_alone};
-ghost use Rattle.proof_nonces.specs.proof_known.law_host.Messages.{Hearing};
-ghost use Rattle.proof_nonces.specs.proof_known.proof_alone.Steps.{AreTold};
+ghost use Rattle.proof_choice.specs.proof_ends.proof_requests.law_host.Course.{Course};
+ghost use Rattle.proof_choice.specs.proof_ends.proof_requests.law_host.Heard.{heeds_alone};
+ghost use Rattle.proof_choice.specs.proof_ends.proof_requests.law_host.Messages.{Hearing};
+ghost use Rattle.proof_choice.specs.proof_ends.proof_requests.proof_alone.Steps.{AreTold};
 ghost use Rattle.proof_hearing.specs.Hearing.{
   HeardOne,
   HearsSo,

@@ -6,14 +6,14 @@ ghost use Rattle.zw_text.specs.declared.entry.Entry.{Entry};
 ghost use Rattle.law_transcript.specs.Units.{Carried};
 ghost use Rattle.host_heard.specs.declared.told.Told.{Told};
 ghost use Rattle.host_model.specs.State.{node_of};
-ghost use Rattle.proof_nonces.specs.proof_known.law_host.Heard.{heeds_alone};
-ghost use Rattle.proof_nonces.specs.proof_known.law_host.Nonces.{is_late};
-ghost use Rattle.proof_nonces.specs.proof_known.proof_alone.State.{HostMachine, first_alone};
-ghost use Rattle.proof_nonces.specs.proof_known.proof_alone.Phases.{Phase};
-ghost use Rattle.proof_nonces.specs.proof_known.proof_alone.Runs.{Run};
+ghost use Rattle.proof_choice.specs.proof_ends.proof_requests.law_host.Heard.{heeds_alone};
+ghost use Rattle.proof_choice.specs.proof_ends.proof_requests.law_host.Nonces.{is_late};
+ghost use Rattle.proof_choice.specs.proof_ends.proof_requests.proof_alone.State.{HostMachine, first_alone};
+ghost use Rattle.proof_choice.specs.proof_ends.proof_requests.proof_alone.Phases.{Phase};
+ghost use Rattle.proof_choice.specs.proof_ends.proof_requests.proof_alone.Runs.{Run};
 ghost use Rattle.proof_hearing.specs.Hearing.{NotAsked, Point};
 
-use proof_nonces::{
+use proof_choice::{
     hosts_know_what_was_told, hosts_listen_as_told, hosts_show_open_sessions, laws_follow,
     orders_are_carried_as_said, tables_are_what_was_said,
 };

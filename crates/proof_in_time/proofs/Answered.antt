@@ -30,7 +30,7 @@ use Rattle.device_kinds.specs.declared.verdict.Verdict.{Verdict}
 use Rattle.device_kinds.specs.declared.verdict.Verdict.TheVariants.{NoSupport, Fails, Makes, Works}
 use Rattle.device_kinds.specs.Answers.{answer_plan, report_status, swapped, worded}
 use Rattle.device_kinds.specs.Effects.{effect_in_session, end_of}
-use Rattle.device_kinds.specs.Judging.{judged_message, status_of}
+use Rattle.device_kinds.specs.Judging.{judged_message}
 use Rattle.device_kinds.specs.Kind.{lists}
 use Rattle.device_stack.specs.State.{State, Outcome, silent, value_of, last_level_of}
 use Rattle.device_stack.specs.Answers.{asks_to_wake, final_report, status_report}
@@ -38,12 +38,13 @@ use Rattle.device_stack.specs.Effects.{after_effect, answer_of, effect_of, takes
 use Rattle.device_stack.specs.Hearing.{active, answers, answers_bytes, hears, hears_by, hears_openly, sent_openly}
 use Rattle.device_stack.specs.Ticking.{aged, ticked, works_out}
 use Rattle.device_sim.specs.Event.{Hears, Ticks, device_after, device_replies, outcome_of}
-use Rattle.proof_messages.specs.Asking.{Follows, MakesOnly, message_in, takes_openly, verdict_on}
+use Rattle.device_sim.specs.Laws.{IsHeard}
+use Rattle.proof_messages.specs.Asking.{MakesOnly, message_in, takes_openly, verdict_on}
 use Rattle.proof_messages.specs.Reporting.{CanBeAnswered}
 use Rattle.proof_messages.proofs.DeviceReports.{opened_ends, own_heard, taken_own, text_by}
 use Rattle.proof_messages.proofs.SessionMessages.{awake_after, headed_no_segment, knows_supervision, message_headed, openly_by}
-use Rattle.proof_in_time.specs.Answering.{AnswersSession, Goes_on, Ends as Ends_work, IsAtWork, IsDone, IsDoneOrAtWork, IsInStep, Last, Next, StaysDone, WorksOn}
-use Rattle.proof_in_time.proofs.Levels.{never_works, works_time}
+use Rattle.proof_in_time.specs.Answering.{AnswersSession, Goes_on, Ends as Ends_work, IsAtWork, IsDone, IsDoneOrAtWork, IsInStep, IsStill, Last, Next, StaysDone, WorksOn}
+use Rattle.proof_course_plain.proofs.Levels.{works_time}
 
 -- ---- what a device makes of the id
 
@@ -255,8 +256,7 @@ end_told : (device : State) (work : IsAtWork device) → AreEnds (swapped work.p
 end_told device work ends one =
     Ends_work _ (ap (λ (answer : Option Plan). option_to_list (option_map (λ plan. worded (answer_plan plan) (final_report (aged device))) answer)) work.told)
     (own_heard (swapped work.plan.channel) work.plan.outer (aged device) (works_out (aged device)).device (record { updates = false; id = wire_id device.sessions.taken }) SUCCESS ends refl refl refl)
-    short.0 short.1 (record { over = λ e. let no : 255 ≡ 1 = e in absurd cc; no_work = refl })
-    one
+    short.0 short.1 (record { over = λ e. let no : 255 ≡ 1 = e in absurd cc; no_work = refl }) refl one
   where
     short : IsShort (text_by (swapped work.plan.channel) work.plan.outer (status_report (aged device) (record { updates = false; id = wire_id device.sessions.taken }) SUCCESS))
     short = text_short (swapped work.plan.channel) work.plan.outer (aged device) (record { updates = false; id = wire_id device.sessions.taken }) SUCCESS
@@ -282,29 +282,16 @@ work_ticks_on device drawn can work = by (device.work_left == 1) refl
         let other : device.work_left ≡ 1 → ⊥ = λ one. let wrong : true ≡ false = sym (eq-eqb device.work_left 1 one) ∙ e in absurd cc in
         let two : 2 ≤ device.work_left = omega (arith, some, other) in
         after_outcome (WorksOn device) device drawn (silent (record (aged device) { work_left = device.work_left - 1 })) (more_outcome device drawn busy e)
-        (Goes_on refl (record { working = work.working; some = omega (arith, two); few = omega (arith, few); plan = work.plan; told = work.told }) (omega (arith, two)))
+        (Goes_on refl (record { working = work.working; some = omega (arith, two); few = omega (arith, few); plan = work.plan; told = work.told }) refl (omega (arith, two)))
 
 pub done_ticks_on : (device : State) (drawn : List ℕ) → IsDone device → StaysDone device (device_after device (Ticks drawn)) (device_replies device (Ticks drawn))
 done_ticks_on device drawn done =
     after_outcome (StaysDone device) device drawn (silent (aged device)) (no_outcome device drawn (eq-eqb device.work_left 0 done.no_work))
     (record { silent = refl; sessions = refl; is_done = record { over = done.over; no_work = done.no_work } })
 
--- ---- it ends at once
+-- ---- at work, it takes no session
 
-not_working : (verdict : Verdict) → ((made : List Setting) → verdict ≡ Works made → ⊥) → status_of verdict ≢ WORKING
-not_working NoSupport never e = let no : 0 ≡ 1 = e in absurd cc
-not_working Fails never e = let no : 2 ≡ 1 = e in absurd cc
-not_working (Makes made) never e = let no : 255 ≡ 1 = e in absurd cc
-not_working (Works made) never e = never made refl
-
-followed_over : (device new : State) (verdict : Verdict) (heard : Heard) → Follows device new verdict heard → ((made : List Setting) → verdict ≡ Works made → ⊥) → device.sessions.status ≢ WORKING → new.sessions.status ≢ WORKING
-followed_over device new verdict (New session) is never over = λ e. not_working verdict never (sym (ap (λ (t : Taken). t.status) is.sessions) ∙ e)
-followed_over device new verdict (Again status) is never over = λ e. over (sym (ap (λ (t : Taken). t.status) is.0.sessions) ∙ e)
-followed_over device new verdict Old is never over = λ e. over (sym (ap (λ (t : Taken). t.status) is.0.sessions) ∙ e)
-
-pub message_over : (device : State) (drawn : List ℕ) (carriage : Carriage) (order : Order) (session : ℕ)
-    → Follows device (device_after device (Hears (message_of carriage order session) drawn)) (verdict_on device carriage order) (heard_of device.sessions (wire_id session))
-    → lists device.kind 0x26 ≡ false → device.sessions.status ≢ WORKING → (device_after device (Hears (message_of carriage order session) drawn)).sessions.status ≢ WORKING
-message_over device drawn carriage order session follows none over =
-    followed_over device (device_after device (Hears (message_of carriage order session) drawn)) (verdict_on device carriage order) (heard_of device.sessions (wire_id session)) follows
-    (λ made works. never_works device carriage order made none works) over
+pub still_at_work : (old new : State) → IsHeard old new → old.sessions.status ≡ WORKING → IsStill old new
+still_at_work old new (inl untaken) working = record { sessions = untaken.1.0; work_left = untaken.1.1 }
+still_at_work old new (inr (inl (_, (free, taken)))) working = absurd (free working)
+still_at_work old new (inr (inr (settings, (unlisted, (journal, (sessions, work)))))) working = record { sessions = sessions; work_left = work }

@@ -1,10 +1,11 @@
 -- What is to come of an attempt of a node, from phase to phase, and that no wait of one runs out.
-use Rattle.std.proofs.Common.{◌≡◌, ◌≢◌, ◌≤◌, ◌<◌, ℕ, suc, ◌+◌, ◌-◌, ◌==◌, inl, inr, Bool, true, false, if◌then◌else◌, List, [], ◌∷◌, length, refl, sym, ap, ◌∙◌, subst, arith}
+use Rattle.std.proofs.Common.{◌≡◌, ◌≢◌, ◌≤◌, ◌<◌, ℕ, suc, ◌+◌, ◌-◌, ◌==◌, ◌&&◌, nat_le, nat_lt, inl, inr, Bool, true, false, if◌then◌else◌, List, [], ◌∷◌, length, refl, sym, ap, ◌∙◌, subst, arith}
 use Rattle.std.proofs.lemmas.Bool.{eq-eqb, eqb-true}
-use Rattle.std.specs.Prelude.{◌⊎◌, Option, Some, None, IsSome}
+use Rattle.std.specs.Prelude.{◌⊎◌, Option, Some, None, IsSome, slice_get, slice_set}
 use Rattle.zw_base.specs.declared.order.Order.{Order}
 use Rattle.zw_text.specs.declared.line.Line.{Line}
 use Rattle.zw_text.specs.declared.entry.Entry.TheVariants as entry
+use Rattle.zw_text.specs.declared.entry.Refusal.{Refusal}
 use Rattle.supervision.specs.Host.{begun_of, open_session}
 use Rattle.supervision.specs.declared.session.TheConstants.{WORKING}
 use Rattle.serial_frame.specs.Frame.{FrameParts}
@@ -12,8 +13,7 @@ use Rattle.serial_link.specs.declared.turn.Turn.TheVariants.{Idle as no_turn}
 use Rattle.route_table.specs.declared.route.Route.{Route}
 use Rattle.chip_functions.specs.Field.{IsNode}
 use Rattle.chip_sim.specs.Nodes.{is_marked}
-use Rattle.device_kinds.specs.Kind.{lists}
-use Rattle.device_sim.specs.Event.{Hears as device_hears, device_after, device_replies}
+use Rattle.device_sim.specs.Event.{DeviceEvent, Hears as device_hears, Ticks, device_after, device_replies}
 use Rattle.device_sim.specs.State.{State}
 use Rattle.host_orders.specs.Refusals.{IsFit}
 use Rattle.host_orders.specs.Wrapping.{message_of}
@@ -30,9 +30,10 @@ use Rattle.host_model.specs.Events.{HostEvent, Accepts, Line_ticks, Node_ticks, 
 use Rattle.host_model.specs.State.{HostState, node_of}
 use Rattle.host_model.specs.Ticking.{tick_events}
 use Rattle.host_model.proofs.Submitted.{next_is}
-use Rattle.outside_model.specs.Events.{OuterEvent, Begins_line, Begins_tick, Arrives, Device_ticks, Chip_ticks, Wakes_device, Shows, Cuts, outcome}
+use Rattle.outside_model.specs.Events.{OuterEvent, Begins_line, Begins_tick, Arrives, Device_ticks, Chip_ticks, Wakes_device, Shows, Cuts, devices_after, outcome}
 use Rattle.world_model.specs.Events.{Event, Outside_does, Host_does, Decoder_ticks, Refuses, Shows_values, happens, May, shown_values}
 use Rattle.world_model.specs.State.{Machine}
+use Rattle.world_model.proofs.Hosting.{devices_host-all}
 use Rattle.proof_answered.specs.proof_calm.proof_traffic.OnAir.{on_air}
 use Rattle.proof_answered.specs.proof_calm.proof_work.proof_walk.Phases.{Phase, Said_line, Begun, Doing, To_tick, Ticked, Arriving, Ticking_devices, Ticking_chip, Ticking_decoder, Ticking_host}
 use Rattle.proof_answered.proofs.Judging.{AnyFrame}
@@ -46,22 +47,26 @@ use Rattle.proof_answered.proofs.ChipNotices.{entered_leaves}
 use Rattle.proof_answered.proofs.Listeners.{listener_hears}
 use Rattle.proof_answered.proofs.Outwards.{next_is_live}
 use Rattle.mesh_sim.specs.Air.{is_joined}
-use Rattle.mesh_sim.specs.Fates.{place_of}
+use Rattle.mesh_sim.specs.Fates.{fate_of, place_of}
+use Rattle.mesh_sim.specs.declared.fate.Fate.TheVariants.{AtDevice}
+use Rattle.proof_spoken.proofs.KeptKinds.{event_same}
+use Rattle.proof_course_plain.proofs.ChangesOutside.{place_is}
 use Rattle.proof_course_plain.proofs.Replies.{one_place, one_stands}
 use Rattle.proof_messages.specs.Asking.{takes_openly}
-use Rattle.proof_messages.specs.Reporting.{asks_now}
+use Rattle.proof_messages.specs.Reporting.{CanSay, TellsOwn, asks_now}
 use Rattle.supervision.specs.Session.{wire_id}
 use Rattle.host_heard.specs.declared.payload.Heard.TheVariants.{Messages}
 use Rattle.host_heard.specs.declared.told.Told.TheVariants.{Report}
 use Rattle.device_kinds.specs.Answers.{report_status}
 use Rattle.proof_answered.proofs.Unheard.{counts_says, decoder_says, device_says, does_says, effect_says, line_says, tick_says}
 use Rattle.proof_answered.specs.Outward.{AllListen}
-use Rattle.proof_in_time.specs.Answering.{AnswersSession, IsInStep}
-use Rattle.proof_in_time.specs.Coming.{AsksFor, Asked, Coming, Flies, Has, IsAsking, IsMessage, IsReport, IsRequest, Sent, Stands, TellsEnd, Told, WaitsFor, one_later, own_ticks, ticks_left, ticks_of, is_layered}
+use Rattle.proof_in_time.specs.Answering.{AnswersSession, Ends as Work_ends, Goes_on as Work_goes_on, IsAtWork, IsDoneOrAtWork, IsInStep, WorksOn}
+use Rattle.proof_in_time.specs.Coming.{AsksFor, Asked, At_work, Coming, Flies, Has, IsAsking, IsBusy, IsMessage, IsReport, IsRequest, Sent, Stands, TellsEnd, Told, WaitsFor, has_ticked, one_later, own_ticks, ticks_left, ticks_of, is_layered}
 use Rattle.proof_in_time.specs.InStep.{HasInStep, HearsInStep, IsPlainly}
-use Rattle.proof_in_time.proofs.Carried.{Fits, arrives_comes, carry, many_on_air, ticks_once}
+use Rattle.proof_in_time.proofs.Busy.{BusyThere, HearsStill, StayBusy, arrived_devices, arrives_busy, later_ticked, one_most, same_busy, ticked_devices, then_busy, ticks_apart, unless_ticking, wakes_busy}
+use Rattle.proof_in_time.proofs.Carried.{Fits, IsNearEnd, arrives_comes, busy_on, carry, many_on_air, ticks_once}
 use Rattle.proof_in_time.proofs.Grown.{Adds, Arrived, arrives_there, calm_adds, device_adds, same_adds, wakes_add}
-use Rattle.proof_in_time.proofs.Landed.{answer_flies, has_piled}
+use Rattle.proof_in_time.proofs.Landed.{answer_flies, has_piled, tick_flies}
 use Rattle.proof_in_time.proofs.NodeWaits.{IsBeside, OnTable, TickOf, beside_table, own_start, own_tick}
 use Rattle.proof_answered.proofs.Flying.{chip_counts}
 
@@ -192,7 +197,7 @@ later_waits n most more here m less w = record {
 
 -- ---- where it does something
 
-pub again_far : (wait old left was now : ℕ) → left ≤ 2 → now ≤ was → was ≤ 1 → (wait ≡ old) ⊎ (wait ≡ 100) → (old ≡ 0) ⊎ (90 + left + was ≤ old) → (wait ≡ 0) ⊎ (90 + left + now ≤ wait)
+pub again_far : (wait old left was now : ℕ) → left ≤ 6 → now ≤ was → was ≤ 1 → (wait ≡ old) ⊎ (wait ≡ 100) → (old ≡ 0) ⊎ (90 + left + was ≤ old) → (wait ≡ 0) ⊎ (90 + left + now ≤ wait)
 again_far wait old left was now few less once (inl same) (inl none) = inl (same ∙ none)
 again_far wait old left was now few less once (inl same) (inr more) = inr (omega (arith, same, more, less))
 again_far wait old left was now few less once (inr anew) so = inr (omega (arith, anew, few, less, once))
@@ -268,7 +273,7 @@ module _ (n most : ℕ) (within : n < 233) where
   start_wait state (Sealed plain) = refl
 
   pub start_waits : (here next : Phase) (m : Machine) (plan : Plan) (more : Bool) (payload : List ℕ) → length m.host.state.nodes ≡ 233 → (node_of m.host.state n).attempt_wait ≡ 0 → IsMessage (begun_of (node_of m.host.state n).book) payload → IsAsking next
-      → own_ticks n next ≤ 1 → WaitsFor n most here m → WaitsFor n 2 next (happens m (Host_does (Starts n plan more payload)))
+      → own_ticks n next ≤ 1 → WaitsFor n most here m → WaitsFor n 6 next (happens m (Host_does (Starts n plan more payload)))
   unfolding happens
   start_waits here next m plan more payload places none message asking once w =
       let h : HostState = m.host.state in
@@ -278,7 +283,7 @@ module _ (n most : ℕ) (within : n < 233) where
         openly = ap (λ (s : NodeState). is_layered s.classes) there ∙ (ap is_layered (start_classes (node_of h n) plan) ∙ w.openly);
         once = once;
         bounded = λ run. record {
-          left = 2;
+          left = 6;
           few = omega arith;
           within = omega arith;
           comes = Asked asking
@@ -302,37 +307,88 @@ decoder_adds : (m : Machine) → Adds m.outside.outer (happens m Decoder_ticks).
 unfolding happens
 decoder_adds m = same_adds m.outside.outer m.outside.outer refl
 
--- what is proved of devices that hear
+line_devices : (m : Machine) → (happens m (Outside_does Begins_line)).outside.devices ≡ m.outside.devices
+unfolding happens devices_after
+line_devices m = refl
+
+tick_devices : (m : Machine) → (happens m (Outside_does Begins_tick)).outside.devices ≡ m.outside.devices
+unfolding happens devices_after
+tick_devices m = refl
+
+counted_devices : (m : Machine) → (happens m (Outside_does Chip_ticks)).outside.devices ≡ m.outside.devices
+unfolding happens
+counted_devices m = (chip_counts m.outside).2
+
+shows_devices : (m : Machine) (node : ℕ) → (happens m (Outside_does (Shows node))).outside.devices ≡ m.outside.devices
+unfolding happens devices_after
+shows_devices m node = refl
+
+cuts_devices : (m : Machine) (size : ℕ) → (happens m (Outside_does (Cuts size))).outside.devices ≡ m.outside.devices
+unfolding happens devices_after
+cuts_devices m size = refl
+
+decoder_devices : (m : Machine) → (happens m Decoder_ticks).outside.devices ≡ m.outside.devices
+unfolding happens
+decoder_devices m = refl
+
+refuses_devices : (m : Machine) (of : Line) (refusal : Refusal) → (happens m (Refuses of refusal)).outside.devices ≡ m.outside.devices
+unfolding happens devices_after
+refuses_devices m of refusal = refl
+
+values_devices : (m : Machine) (node : ℕ) → (happens m (Shows_values node)).outside.devices ≡ m.outside.devices
+unfolding happens devices_after
+values_devices m node = refl
+
+-- what is proved of devices that hear, and of those at work
 pub record Devices : Type 0 where
   pub heard : (device : State) (drawn : List ℕ) (carriage : Carriage) (order : Order) (session : ℕ) → IsFit carriage.actuator order → order.end ≤ 127 → device.awake ≡ true → takes_openly device.kind ≡ true → IsInStep session device
       → AnswersSession session (device_after device (device_hears (message_of carriage order session) drawn)) (device_replies device (device_hears (message_of carriage order session) drawn))
-  pub at_once : (device : State) (drawn : List ℕ) (carriage : Carriage) (order : Order) (session : ℕ) → IsFit carriage.actuator order → order.end ≤ 127 → device.awake ≡ true → takes_openly device.kind ≡ true → lists device.kind 0x26 ≡ false
-      → device.sessions.status ≢ WORKING → (device_after device (device_hears (message_of carriage order session) drawn)).sessions.status ≢ WORKING
+  pub still : HearsStill
+  pub works : (device : State) (drawn : List ℕ) → CanSay device → IsAtWork device → WorksOn device (device_after device (Ticks drawn)) (device_replies device (Ticks drawn))
 
--- the answer of a device in step tells the end
+-- what a device tells of a session that is over tells its end
+tells_end : (session : ℕ) (new : State) (payload : List ℕ) → new.sessions.taken ≡ session → new.sessions.status ≢ WORKING → TellsOwn new payload → 1 ≤ length payload → length payload ≤ 46 → TellsEnd session payload
+tells_end session new payload taken over tells some few = record {
+  status = new.sessions.status;
+  over = over;
+  tells = record { wakes = asks_now new; heard = tells ∙ ap (λ (k : ℕ). Messages (Report (wire_id k) (report_status new.sessions.status) (asks_now new) ∷ [])) taken };
+  some = some;
+  few = few;
+}
+
+-- it sends this payload alone, which tells the end
+abbrev Ends_by : ℕ → State → DeviceEvent → Type 0
+Ends_by session device event = (reply : List ℕ) × ((device_replies device event ≡ reply ∷ []) × TellsEnd session reply)
+
+-- the answer of a device in step tells the end, or it is at work on the session then
 answer_ends : (laws : Devices) (session : ℕ) (payload drawn : List ℕ) (device : State) → IsMessage session payload → device.awake ≡ true → HearsInStep session device
-    → (reply : List ℕ) × ((device_replies device (device_hears payload drawn) ≡ reply ∷ []) × TellsEnd session reply)
+    → Ends_by session device (device_hears payload drawn) ⊎ (((device_after device (device_hears payload drawn)).sessions.taken ≡ session) × IsAtWork (device_after device (device_hears payload drawn)))
 answer_ends laws session payload drawn device message awake hears =
-    let text : List ℕ = message_of message.carriage message.order session in
-    let answer = laws.heard device drawn message.carriage message.order session message.fit message.end awake hears.plain.openly hears.step in
-    let over = laws.at_once device drawn message.carriage message.order session message.fit message.end awake hears.plain.openly hears.plain.at_once hears.plain.is_done.over in
-    let new : State = device_after device (device_hears text drawn) in (
-      answer.payload,
-      (
-        ap (λ (p : List ℕ). device_replies device (device_hears p drawn)) message.is ∙ answer.says,
-        record {
-          status = new.sessions.status;
-          over = over;
-          tells = record { wakes = asks_now new; heard = answer.tells ∙ ap (λ (k : ℕ). Messages (Report (wire_id k) (report_status new.sessions.status) (asks_now new) ∷ [])) answer.taken };
-          some = answer.some;
-          few = answer.few;
-        },
-      ),
-    )
+    subst (λ (p : List ℕ). Ends_by session device (device_hears p drawn) ⊎ (((device_after device (device_hears p drawn)).sessions.taken ≡ session) × IsAtWork (device_after device (device_hears p drawn)))) (sym message.is) (by answer.comes_to)
+  where
+    text : List ℕ
+    text = message_of message.carriage message.order session
 
-pub host_stays : (airs : Airs) (n : ℕ) (here next : Phase) (m : Machine) (event : HostEvent) → (IsAsking here → AsksFor n (session_of n m) m.host.state → ⊥) → ((left : ℕ) → Fits n (many_on_air m) here left next left) → Goes_on n here m next (happens m (Host_does event))
-host_stays airs n here next m event none fits left comes =
-    carry n (session_of n m) left left here next m (happens m (Host_does event)) (λ asking asks two. absurd (none asking asks)) (calm_adds m.outside.outer (happens m (Host_does event)).outside.outer (does_calm airs m event))
+    new : State
+    new = device_after device (device_hears text drawn)
+
+    answer : AnswersSession session new (device_replies device (device_hears text drawn))
+    answer = laws.heard device drawn message.carriage message.order session message.fit message.end awake hears.plain.openly hears.step
+
+    by : IsDoneOrAtWork new → Ends_by session device (device_hears text drawn) ⊎ ((new.sessions.taken ≡ session) × IsAtWork new)
+    by (inl done) = inl (answer.payload, (answer.says, tells_end session new answer.payload answer.taken done.over answer.tells answer.some answer.few))
+    by (inr work) = inr (answer.taken, work)
+
+-- with the devices as they were, one at work stays as near to its end
+pub busy_still : (n session left : ℕ) (here next : Phase) (m later : Machine) → later.outside.devices ≡ m.outside.devices → ((place : ℕ) → ticks_left next + has_ticked next place ≤ ticks_left here + has_ticked here place)
+    → (at : IsBusy n session m.outside.devices) → IsNearEnd n session left here m.outside.devices at → Coming n session left next later
+busy_still n session left here next m later same near =
+    busy_on n session left left here next m later (same_busy n session m.outside.devices later.outside.devices same) (λ place. let one = near place in omega (arith, one))
+
+pub host_stays : (airs : Airs) (n : ℕ) (here next : Phase) (m : Machine) (event : HostEvent) → (IsAsking here → AsksFor n (session_of n m) m.host.state → ⊥) → ((left : ℕ) → Fits n (many_on_air m) here left next left)
+    → ((place : ℕ) → ticks_left next + has_ticked next place ≤ ticks_left here + has_ticked here place) → Goes_on n here m next (happens m (Host_does event))
+host_stays airs n here next m event none fits near left comes =
+    carry n (session_of n m) left left here next m (happens m (Host_does event)) (λ asking asks six. absurd (none asking asks)) (busy_still n (session_of n m) left here next m (happens m (Host_does event)) (devices_host-all m (event ∷ [])) near) (calm_adds m.outside.outer (happens m (Host_does event)).outside.outer (does_calm airs m event))
     (λ x has. does_says AnyFrame (Has x) (has_piled x) airs m event has) (fits left) comes
 
 pub either_node : (n k : ℕ) → (k ≡ n) ⊎ (k ≢ n)
@@ -341,6 +397,84 @@ either_node n k = by (k == n) refl
     by : (b : Bool) → (k == n) ≡ b → (k ≡ n) ⊎ (k ≢ n)
     by true is = inl (eqb-true k n is)
     by false is = inr (λ same. let wrong : true ≡ false = sym (eq-eqb k n same) ∙ is in absurd cc)
+
+-- ---- a device ticks
+
+near_apart : (new old later was left : ℕ) → new ≤ old → later ≡ was → 0 + old + was ≤ left → 0 + new + later ≤ left
+near_apart new old later was left less same few = omega (arith, less, same, few)
+
+near_own : (new later was left : ℕ) → new ≤ 1 → later + 1 ≡ was → was ≤ left → 0 + new + later ≤ left
+near_own new later was left one less few = omega (arith, one, less, few)
+
+only_left : (old was left : ℕ) → 0 + old + was ≤ left → was ≤ left
+only_left old was left few = omega (arith, few)
+
+last_left : (was left : ℕ) → was ≡ 1 → was ≤ left → 0 + 1 ≤ left
+last_left was left one few = omega (arith, one, few)
+
+module _ (airs : Airs) (laws : Devices) (n : ℕ) (within : n < 233) (session left place count ticks : ℕ) (m : Machine) (drawn : List ℕ) (route : Option Route) (step : HasInStep n m) (joined : is_joined m.outside.outer.air n ≡ true) (is : Awaits m) where
+  abbrev once_ticked : Machine
+  once_ticked = happens m (Outside_does (Device_ticks place drawn route))
+
+  abbrev StillComes : Type 0
+  StillComes = Coming n session left (Ticking_devices (place + 1) count ticks) once_ticked
+
+  -- for how many ticks a device at this place is to be at work still
+  abbrev Bound : List State → Type 0
+  Bound devices = (now : IsBusy n session devices) × (0 + unless_ticking (nat_le (place + 1) now.place && nat_lt now.place (place + 1 + count)) + now.device.work_left ≤ left)
+
+  at_place : (devices : List State) (there was : ℕ) → 0 + unless_ticking (nat_le (place + 1) there && nat_lt there (place + 1 + count)) + was ≤ left → BusyThere n session there was devices → Bound devices
+  at_place devices there was few (now, (place_is, left_is)) = (
+    now,
+    subst (λ (k : ℕ). 0 + unless_ticking (nat_le (place + 1) k && nat_lt k (place + 1 + count)) + now.device.work_left ≤ left) (sym place_is)
+        (subst (λ (k : ℕ). 0 + unless_ticking (nat_le (place + 1) there && nat_lt there (place + 1 + count)) + k ≤ left) (sym left_is) few),
+  )
+
+  as_bound : Bound once_ticked.outside.devices → StillComes
+  as_bound (now, few) = At_work now few
+
+  -- another device than that at work
+  others : (at : IsBusy n session m.outside.devices) → at.place ≢ place → IsNearEnd n session left (Ticking_devices place (suc count) ticks) m.outside.devices at → StillComes
+  others at apart few =
+      as_bound
+      (at_place once_ticked.outside.devices at.place at.device.work_left
+      (near_apart (unless_ticking (nat_le (place + 1) at.place && nat_lt at.place (place + 1 + count))) (unless_ticking (nat_le place at.place && nat_lt at.place (place + suc count))) at.device.work_left at.device.work_left left
+      (later_ticked place count at.place apart) refl few) (ticks_apart n session m place drawn route at apart))
+
+  -- that one: it goes on, or tells the end
+  worked : (at : IsBusy n session m.outside.devices) → at.place ≡ place → at.device.work_left ≤ left → slice_get m.outside.devices place ≡ Some at.device
+      → WorksOn at.device (device_after at.device (Ticks drawn)) (device_replies at.device (Ticks drawn)) → StillComes
+  worked at own some there (Work_goes_on silent work taken less) =
+      let new : State = device_after at.device (Ticks drawn) in
+      as_bound
+      (subst Bound (sym (ticked_devices m place (Some at.device) drawn route there))
+      (at_place (slice_set m.outside.devices place new) place new.work_left
+      (near_own (unless_ticking (nat_le (place + 1) place && nat_lt place (place + 1 + count))) new.work_left at.device.work_left left (one_most (nat_le (place + 1) place && nat_lt place (place + 1 + count))) less some)
+      (then_busy n session m.outside.devices place at.device new (subst (λ (k : ℕ). place_of n m.outside.devices ≡ Some k) own at.first) there (event_same at.device (Ticks drawn)).node (taken ∙ at.taken) work.working)))
+  worked at own some there (Work_ends payload says tells long short done taken one) =
+      let new : State = device_after at.device (Ticks drawn) in
+      let node_is : at.device.node ≡ n = place_is n m.outside.devices at.place at.device at.first at.stands in
+      let flies = tick_flies airs m is place at.device drawn route session payload there (subst (λ (k : ℕ). is_joined m.outside.outer.air k ≡ true) (sym node_is) joined) (subst (λ (k : ℕ). k < 233) (sym node_is) within) says
+      (tells_end session new payload (taken ∙ at.taken) done.over tells long short) in
+      Flies (subst (λ (k : ℕ). Stands (IsReport k session) (on_air once_ticked.outside.outer.air.frames)) node_is flies) (last_left at.device.work_left left one some)
+
+  own_ticks_on : (at : IsBusy n session m.outside.devices) → at.place ≡ place → at.device.work_left ≤ left → StillComes
+  own_ticks_on at own some = by step.plain.at
+    where
+      same : step.device ≡ at.device
+      same = one_stands m.outside.devices step.place at.place step.device at.device step.stands at.stands (one_place n m.outside.devices step.place at.place step.first at.first)
+
+      by : IsDoneOrAtWork step.device → StillComes
+      by (inl done) = absurd (done.over (ap (λ (d : State). d.sessions.status) same ∙ at.working))
+      by (inr work) =
+          worked at own some (subst (λ (k : ℕ). slice_get m.outside.devices k ≡ Some at.device) own at.stands) (laws.works at.device drawn (subst CanSay same step.plain.can) (subst IsAtWork same work))
+
+  pub ticks_near : (at : IsBusy n session m.outside.devices) → IsNearEnd n session left (Ticking_devices place (suc count) ticks) m.outside.devices at → StillComes
+  ticks_near at few = by (at.place == place) refl
+    where
+      by : (b : Bool) → (at.place == place) ≡ b → StillComes
+      by true own = own_ticks_on at (eqb-true at.place place own) (only_left (unless_ticking (nat_le place at.place && nat_lt at.place (place + suc count))) at.device.work_left left few)
+      by false other = others at (λ same. let wrong : true ≡ false = sym (eq-eqb at.place place same) ∙ other in absurd cc) few
 
 module _ (airs : Airs) (these : List Bool) (many : length these ≡ 233) (laws : Devices) (n most : ℕ) (marked : is_marked these n ≡ true) (node : IsNode n) where
   within : n < 233
@@ -360,8 +494,17 @@ module _ (airs : Airs) (these : List Bool) (many : length these ≡ 233) (laws :
 
   -- what stands stays
   stay : (here next : Phase) (m later : Machine) → (IsAsking here → ⊥) → Adds m.outside.outer later.outside.outer → ((x : FrameParts) → Has x (unheard m.outside.outer) → Has x (unheard later.outside.outer))
-      → ((left : ℕ) → Fits n (many_on_air m) here left next left) → Goes_on n here m next later
-  stay here next m later none adds has fits left comes = carry n (session_of n m) left left here next m later (λ asking asks two. absurd (none asking)) adds has (fits left) comes
+      → ((left : ℕ) → Fits n (many_on_air m) here left next left) → StayBusy n (session_of n m) m.outside.devices later.outside.devices → ((place : ℕ) → ticks_left next + has_ticked next place ≤ ticks_left here + has_ticked here place)
+      → Goes_on n here m next later
+  stay here next m later none adds has fits stays near left comes =
+      carry n (session_of n m) left left here next m later (λ asking asks six. absurd (none asking))
+      (busy_on n (session_of n m) left left here next m later stays (λ place. let one = near place in omega (arith, one))) adds has (fits left) comes
+
+  -- with the devices as they were
+  same_stay : (here next : Phase) (m later : Machine) → (IsAsking here → ⊥) → Adds m.outside.outer later.outside.outer → ((x : FrameParts) → Has x (unheard m.outside.outer) → Has x (unheard later.outside.outer))
+      → ((left : ℕ) → Fits n (many_on_air m) here left next left) → later.outside.devices ≡ m.outside.devices → ((place : ℕ) → ticks_left next + has_ticked next place ≤ ticks_left here + has_ticked here place)
+      → Goes_on n here m next later
+  same_stay here next m later none adds has fits same near = stay here next m later none adds has fits (same_busy n (session_of n m) m.outside.devices later.outside.devices same) near
 
   same_fits : (here next : Phase) → ((place : ℕ) → ticks_left next + one_later next place ≤ ticks_left here + one_later here place) → ticks_left next ≤ ticks_left here → (count left : ℕ) → Fits n count here left next left
   same_fits here next joint alone count left = still_fits n count left here next joint alone
@@ -372,14 +515,15 @@ module _ (airs : Airs) (these : List Bool) (many : length these ≡ 233) (laws :
   unfolding happens outcome
   line_waits line m w =
       outer_waits n most (Said_line line) (Begun line) (omega arith) m Begins_line
-      (stay (Said_line line) (Begun line) m (happens m (Outside_does Begins_line)) (λ a. a) (same_adds m.outside.outer (happens m (Outside_does Begins_line)).outside.outer refl) (λ x has. line_says AnyFrame (Has x) (has_piled x) m has)
-      (same_fits (Said_line line) (Begun line) (λ place. omega arith) (omega arith) (many_on_air m))) w
+      (same_stay (Said_line line) (Begun line) m (happens m (Outside_does Begins_line)) (λ a. a) (same_adds m.outside.outer (happens m (Outside_does Begins_line)).outside.outer refl) (λ x has. line_says AnyFrame (Has x) (has_piled x) m has)
+      (same_fits (Said_line line) (Begun line) (λ place. omega arith) (omega arith) (many_on_air m)) (line_devices m) (λ place. omega arith)) w
 
   -- a tick begins: one fewer is to begin
   pub some_left : (ticks session left : ℕ) (m : Machine) → Coming n session left (To_tick (suc ticks)) m → 1 ≤ left
-  some_left ticks session left m (Asked asking asks two) = absurd asking
+  some_left ticks session left m (Asked asking asks six) = absurd asking
   some_left ticks session left m (Sent at few) = omega (arith, few)
   some_left ticks session left m (Flies at few) = omega (arith, few)
+  some_left ticks session left m (At_work at few) = omega (arith, few)
   some_left ticks session left m (Told payload tells has few) = omega (arith, few)
 
   begun_far : (wait left : ℕ) → 1 ≤ left → (wait ≡ 0) ⊎ (90 + left + 0 ≤ wait) → (wait ≡ 0) ⊎ (90 + (left - 1) + 1 ≤ wait)
@@ -400,25 +544,29 @@ module _ (airs : Airs) (these : List Bool) (many : length these ≡ 233) (laws :
           left = b.left - 1;
           few = omega (arith, few);
           within = omega (arith, within);
-          comes = carry n (session_of n m) b.left (b.left - 1) (To_tick (suc ticks)) (Ticked ticks) m (happens m (Outside_does Begins_tick)) (λ asking asks two. absurd asking)
+          comes = carry n (session_of n m) b.left (b.left - 1) (To_tick (suc ticks)) (Ticked ticks) m (happens m (Outside_does Begins_tick)) (λ asking asks six. absurd asking)
+              (busy_on n (session_of n m) b.left (b.left - 1) (To_tick (suc ticks)) (Ticked ticks) m (happens m (Outside_does Begins_tick))
+              (same_busy n (session_of n m) m.outside.devices (happens m (Outside_does Begins_tick)).outside.devices (tick_devices m)) (λ place. omega (arith, some)))
               (same_adds m.outside.outer (happens m (Outside_does Begins_tick)).outside.outer refl) (λ x has. tick_says AnyFrame (Has x) (has_piled x) m has)
               (record { joint = λ place within_it. omega (arith, some); alone = omega (arith, some) }) b.comes;
           waits = begun_far (node_of m.host.state n).attempt_wait b.left some b.waits;
         };
   }
 
-  pub ticks_wait : (place count ticks : ℕ) (m : Machine) (drawn : List ℕ) (route : Option Route) → Awaits m → WaitsFor n most (Ticking_devices place (suc count) ticks) m
+  pub ticks_wait : (place count ticks : ℕ) (m : Machine) (drawn : List ℕ) (route : Option Route) → HasInStep n m → is_joined m.outside.outer.air n ≡ true → Awaits m → WaitsFor n most (Ticking_devices place (suc count) ticks) m
       → WaitsFor n most (Ticking_devices (place + 1) count ticks) (happens m (Outside_does (Device_ticks place drawn route)))
-  ticks_wait place count ticks m drawn route is w =
+  ticks_wait place count ticks m drawn route step joined is w =
       outer_waits n most (Ticking_devices place (suc count) ticks) (Ticking_devices (place + 1) count ticks) (omega arith) m (Device_ticks place drawn route)
-      (stay (Ticking_devices place (suc count) ticks) (Ticking_devices (place + 1) count ticks) m (happens m (Outside_does (Device_ticks place drawn route))) (λ a. a) (device_adds airs m is place drawn route)
-      (λ x has. device_says AnyFrame (Has x) (has_piled x) m place drawn route has) (same_fits (Ticking_devices place (suc count) ticks) (Ticking_devices (place + 1) count ticks) (λ at. omega arith) (omega arith) (many_on_air m))) w
+      (λ left comes.
+      carry n (session_of n m) left left (Ticking_devices place (suc count) ticks) (Ticking_devices (place + 1) count ticks) m (happens m (Outside_does (Device_ticks place drawn route))) (λ asking asks six. absurd asking)
+      (ticks_near airs laws n within (session_of n m) left place count ticks m drawn route step joined is) (device_adds airs m is place drawn route) (λ x has. device_says AnyFrame (Has x) (has_piled x) m place drawn route has)
+      (same_fits (Ticking_devices place (suc count) ticks) (Ticking_devices (place + 1) count ticks) (λ at. omega arith) (omega arith) (many_on_air m) left) comes) w
 
   pub chip_waits : (ticks : ℕ) (m : Machine) → IsGiven 0 m → IsGiven 1 (happens m (Outside_does Chip_ticks)) → WaitsFor n most (Ticking_chip ticks) m → WaitsFor n most (Ticking_decoder ticks) (happens m (Outside_does Chip_ticks))
   chip_waits ticks m given later w =
       outer_waits n most (Ticking_chip ticks) (Ticking_decoder ticks) (omega arith) m Chip_ticks
-      (stay (Ticking_chip ticks) (Ticking_decoder ticks) m (happens m (Outside_does Chip_ticks)) (λ a. a) (chip_adds m) (λ x has. counts_says AnyFrame (Has x) (has_piled x) m given later has)
-      (same_fits (Ticking_chip ticks) (Ticking_decoder ticks) (λ place. omega arith) (omega arith) (many_on_air m))) w
+      (same_stay (Ticking_chip ticks) (Ticking_decoder ticks) m (happens m (Outside_does Chip_ticks)) (λ a. a) (chip_adds m) (λ x has. counts_says AnyFrame (Has x) (has_piled x) m given later has)
+      (same_fits (Ticking_chip ticks) (Ticking_decoder ticks) (λ place. omega arith) (omega arith) (many_on_air m)) (counted_devices m) (λ place. omega arith)) w
     where
       chip_adds : (k : Machine) → Adds k.outside.outer (happens k (Outside_does Chip_ticks)).outside.outer
       chip_adds k = same_adds k.outside.outer (happens k (Outside_does Chip_ticks)).outside.outer (counted_air k)
@@ -427,8 +575,11 @@ module _ (airs : Airs) (these : List Bool) (many : length these ≡ 233) (laws :
   unfinished_waits ticks m w =
       let once = ticks_once n m.host.state in
       decoder_waits n most (Ticking_decoder ticks) (Ticking_host (tick_events m.host.state) ticks) once m
-      (stay (Ticking_decoder ticks) (Ticking_host (tick_events m.host.state) ticks) m (happens m Decoder_ticks) (λ a. a) (decoder_adds m) (λ x has. decoder_says AnyFrame (Has x) (has_piled x) m has)
-      (same_fits (Ticking_decoder ticks) (Ticking_host (tick_events m.host.state) ticks) (λ place. omega arith) (omega arith) (many_on_air m))) w
+      (same_stay (Ticking_decoder ticks) (Ticking_host (tick_events m.host.state) ticks) m (happens m Decoder_ticks) (λ a. a) (decoder_adds m) (λ x has. decoder_says AnyFrame (Has x) (has_piled x) m has)
+      (same_fits (Ticking_decoder ticks) (Ticking_host (tick_events m.host.state) ticks) (λ place. omega arith) (omega arith) (many_on_air m)) (decoder_devices m) (λ place. omega arith)) w
+
+  for_five : (session place left : ℕ) (devices : List State) → left ≤ 5 → BusyThere n session place left devices → (busy : IsBusy n session devices) × (busy.device.work_left ≤ 5)
+  for_five session place left devices few (busy, (place_is, left_is)) = (busy, subst (λ (k : ℕ). k ≤ 5) (sym left_is) few)
 
   pub arrives_wait : (frames ticks : ℕ) (m : Machine) (drawn : List ℕ) (route : Option Route) → May m (Outside_does (Arrives drawn route)) → HasInStep n m → is_joined m.outside.outer.air n ≡ true → NodeFacts (node_of m.host.state n) → Awaits m
       → AllListen these m → HasLive these m.outside.outer → IsGiven 0 m → IsGiven 0 (happens m (Outside_does (Arrives drawn route))) → length m.outside.outer.chip.state.port.waiting ≤ 31 → WaitsFor n most (Arriving (suc frames) ticks) m
@@ -442,8 +593,27 @@ module _ (airs : Airs) (these : List Bool) (many : length these ≡ 233) (laws :
       alive : at.frame.node ≡ n → IsLive m.outside.outer.air.network at.frame
       alive same = next_is_live these m.outside.outer live at.frame at.next (λ home. subst (λ (k : ℕ). is_marked these k ≡ true) (sym same) marked)
 
-      -- the device of the node hears it, and answers
-      answers : (node_of m.host.state n).series ≡ series.Running → IsRequest n (session_of n m) at.frame → Stands (IsReport n (session_of n m)) (on_air (happens m (Outside_does (Arrives drawn route))).outside.outer.air.frames)
+      -- the device of the node that hears it
+      heard : IsRequest n (session_of n m) at.frame → (place : ℕ) (device : State) → place_of n m.outside.devices ≡ Some place → slice_get m.outside.devices place ≡ Some device
+          → fate_of m.outside.outer.air.network m.outside.devices at.frame ≡ AtDevice place
+          → Ends_by (session_of n m) device (device_hears at.frame.payload drawn)
+          ⊎ (((device_after device (device_hears at.frame.payload drawn)).sessions.taken ≡ session_of n m) × IsAtWork (device_after device (device_hears at.frame.payload drawn)))
+          → Stands (IsReport n (session_of n m)) (on_air (happens m (Outside_does (Arrives drawn route))).outside.outer.air.frames) ⊎ ((busy : IsBusy n (session_of n m) (happens m (Outside_does (Arrives drawn route))).outside.devices) × (busy.device.work_left ≤ 5))
+      heard request place device first there fate (inl (reply, (replies, tells))) =
+          inl
+          (subst (λ (k : ℕ). Stands (IsReport k (session_of n m)) (on_air (happens m (Outside_does (Arrives drawn route))).outside.outer.air.frames)) request.node
+          (answer_flies airs m is drawn route at (session_of n m) place device reply fate there (subst (λ (k : ℕ). is_joined m.outside.outer.air k ≡ true) (sym request.node) joined)
+          (subst (λ (k : ℕ). k < 233) (sym request.node) within) replies tells))
+      heard request place device first there fate (inr (taken, work)) =
+          let new : State = device_after device (device_hears at.frame.payload drawn) in
+          inr
+          (subst (λ (ds : List State). (busy : IsBusy n (session_of n m) ds) × (busy.device.work_left ≤ 5)) (sym (arrived_devices m drawn route at.frame place device at.next fate there))
+          (for_five (session_of n m) place new.work_left (slice_set m.outside.devices place new) work.few
+          (then_busy n (session_of n m) m.outside.devices place device new first there (event_same device (device_hears at.frame.payload drawn)).node taken work.working)))
+
+      -- it answers, or comes to work
+      answers : (node_of m.host.state n).series ≡ series.Running → IsRequest n (session_of n m) at.frame
+          → Stands (IsReport n (session_of n m)) (on_air (happens m (Outside_does (Arrives drawn route))).outside.outer.air.frames) ⊎ ((busy : IsBusy n (session_of n m) (happens m (Outside_does (Arrives drawn route))).outside.devices) × (busy.device.work_left ≤ 5))
       answers run request =
           let session : ℕ = begun_of (node_of m.host.state n).book in
           let listener = listen.nodes at.frame.node (subst (λ (k : ℕ). is_marked these k ≡ true) (sym request.node) marked) in
@@ -452,13 +622,10 @@ module _ (airs : Airs) (these : List Bool) (many : length these ≡ 233) (laws :
           let device : step.device ≡ listener.device = one_stands m.outside.devices step.place listener.place step.device listener.device step.stands listener.stands place in
           let fate = listener_hears m.outside.outer.air.network m.outside.devices at.frame listener request.out (alive request.node) in
           let in_step : HearsInStep session listener.device = subst (HearsInStep session) device (record { plain = step.plain; step = step.step (begun_where (node_of m.host.state n) facts run) }) in
-          let answer = answer_ends laws session at.frame.payload drawn listener.device request.message listener.is_up.awake in_step in
-          subst (λ (k : ℕ). Stands (IsReport k session) (on_air (happens m (Outside_does (Arrives drawn route))).outside.outer.air.frames)) request.node
-          (answer_flies airs m is drawn route at session listener.place listener.device answer.0 fate listener.stands (subst (λ (k : ℕ). is_joined m.outside.outer.air k ≡ true) (sym request.node) joined)
-          (subst (λ (k : ℕ). k < 233) (sym request.node) within) answer.1.0 answer.1.1)
+          heard request listener.place listener.device first listener.stands fate (answer_ends laws session at.frame.payload drawn listener.device request.message listener.is_up.awake in_step)
 
       goes : (node_of m.host.state n).series ≡ series.Running → Goes_on n (Arriving (suc frames) ticks) m (Arriving frames ticks) (happens m (Outside_does (Arrives drawn route)))
-      goes run left comes = arrives_comes airs m is drawn route at given later room n alive (session_of n m) left frames ticks (answers run) comes
+      goes run left comes = arrives_comes airs m is drawn route at given later room n alive (session_of n m) left frames ticks (answers run) (arrives_busy laws.still n (session_of n m) m drawn route) comes
 
   -- ---- in a line
 
@@ -473,28 +640,29 @@ module _ (airs : Airs) (these : List Bool) (many : length these ≡ 233) (laws :
   effect_waits line left m (Outside_does (Wakes_device node route)) is awaits places w =
       outer_waits n most (Doing line (Outside_does (Wakes_device node route) ∷ left)) (Doing line left) (omega arith) m (Wakes_device node route)
       (stay (Doing line (Outside_does (Wakes_device node route) ∷ left)) (Doing line left) m (happens m (Outside_does (Wakes_device node route))) (λ a. a) (wakes_add airs m awaits node route)
-      (λ x has. effect_says AnyFrame (Has x) (has_piled x) airs m (Outside_does (Wakes_device node route)) tt has) (effect_fits line (Outside_does (Wakes_device node route)) left (many_on_air m))) w
+      (λ x has. effect_says AnyFrame (Has x) (has_piled x) airs m (Outside_does (Wakes_device node route)) tt has) (effect_fits line (Outside_does (Wakes_device node route)) left (many_on_air m))
+      (wakes_busy n (session_of n m) m node route) (λ place. omega arith)) w
   effect_waits line left m (Outside_does (Shows node)) is awaits places w =
       outer_waits n most (Doing line (Outside_does (Shows node) ∷ left)) (Doing line left) (omega arith) m (Shows node)
-      (stay (Doing line (Outside_does (Shows node) ∷ left)) (Doing line left) m (happens m (Outside_does (Shows node))) (λ a. a) (shows_adds m node)
-      (λ x has. effect_says AnyFrame (Has x) (has_piled x) airs m (Outside_does (Shows node)) tt has) (effect_fits line (Outside_does (Shows node)) left (many_on_air m))) w
+      (same_stay (Doing line (Outside_does (Shows node) ∷ left)) (Doing line left) m (happens m (Outside_does (Shows node))) (λ a. a) (shows_adds m node)
+      (λ x has. effect_says AnyFrame (Has x) (has_piled x) airs m (Outside_does (Shows node)) tt has) (effect_fits line (Outside_does (Shows node)) left (many_on_air m)) (shows_devices m node) (λ place. omega arith)) w
   effect_waits line left m (Outside_does (Cuts size)) is awaits places w =
       outer_waits n most (Doing line (Outside_does (Cuts size) ∷ left)) (Doing line left) (omega arith) m (Cuts size)
-      (stay (Doing line (Outside_does (Cuts size) ∷ left)) (Doing line left) m (happens m (Outside_does (Cuts size))) (λ a. a) (same_adds m.outside.outer (happens m (Outside_does (Cuts size))).outside.outer refl)
-      (λ x has. effect_says AnyFrame (Has x) (has_piled x) airs m (Outside_does (Cuts size)) tt has) (effect_fits line (Outside_does (Cuts size)) left (many_on_air m))) w
+      (same_stay (Doing line (Outside_does (Cuts size) ∷ left)) (Doing line left) m (happens m (Outside_does (Cuts size))) (λ a. a) (same_adds m.outside.outer (happens m (Outside_does (Cuts size))).outside.outer refl)
+      (λ x has. effect_says AnyFrame (Has x) (has_piled x) airs m (Outside_does (Cuts size)) tt has) (effect_fits line (Outside_does (Cuts size)) left (many_on_air m)) (cuts_devices m size) (λ place. omega arith)) w
   effect_waits line left m (Host_does (Accepts order carriage)) is awaits places w =
       does_waits n most within (Doing line (Host_does (Accepts order carriage) ∷ left)) (Doing line left) m (Accepts order carriage) (omega arith) tt places
-      (stay (Doing line (Host_does (Accepts order carriage) ∷ left)) (Doing line left) m (happens m (Host_does (Accepts order carriage))) (λ a. a)
+      (same_stay (Doing line (Host_does (Accepts order carriage) ∷ left)) (Doing line left) m (happens m (Host_does (Accepts order carriage))) (λ a. a)
       (calm_adds m.outside.outer (happens m (Host_does (Accepts order carriage))).outside.outer (does_calm airs m (Accepts order carriage)))
-      (λ x has. effect_says AnyFrame (Has x) (has_piled x) airs m (Host_does (Accepts order carriage)) tt has) (effect_fits line (Host_does (Accepts order carriage)) left (many_on_air m))) w
+      (λ x has. effect_says AnyFrame (Has x) (has_piled x) airs m (Host_does (Accepts order carriage)) tt has) (effect_fits line (Host_does (Accepts order carriage)) left (many_on_air m)) (devices_host-all m (Accepts order carriage ∷ [])) (λ place. omega arith)) w
   effect_waits line left m (Refuses of refusal) is awaits places w =
       refuses_waits n most (Doing line (Refuses of refusal ∷ left)) (Doing line left) (omega arith) m (Refuses of refusal) refl
-      (stay (Doing line (Refuses of refusal ∷ left)) (Doing line left) m (happens m (Refuses of refusal)) (λ a. a) (calm_adds m.outside.outer (happens m (Refuses of refusal)).outside.outer (enters_calm airs m (entry.Refused refusal)))
-      (λ x has. effect_says AnyFrame (Has x) (has_piled x) airs m (Refuses of refusal) tt has) (effect_fits line (Refuses of refusal) left (many_on_air m))) w
+      (same_stay (Doing line (Refuses of refusal ∷ left)) (Doing line left) m (happens m (Refuses of refusal)) (λ a. a) (calm_adds m.outside.outer (happens m (Refuses of refusal)).outside.outer (enters_calm airs m (entry.Refused refusal)))
+      (λ x has. effect_says AnyFrame (Has x) (has_piled x) airs m (Refuses of refusal) tt has) (effect_fits line (Refuses of refusal) left (many_on_air m)) (refuses_devices m of refusal) (λ place. omega arith)) w
   effect_waits line left m (Shows_values node) is awaits places w =
       refuses_waits n most (Doing line (Shows_values node ∷ left)) (Doing line left) (omega arith) m (Shows_values node) refl
-      (stay (Doing line (Shows_values node ∷ left)) (Doing line left) m (happens m (Shows_values node)) (λ a. a) (calm_adds m.outside.outer (happens m (Shows_values node)).outside.outer (enters_calm airs m (shown_values m.host.state node)))
-      (λ x has. effect_says AnyFrame (Has x) (has_piled x) airs m (Shows_values node) tt has) (effect_fits line (Shows_values node) left (many_on_air m))) w
+      (same_stay (Doing line (Shows_values node ∷ left)) (Doing line left) m (happens m (Shows_values node)) (λ a. a) (calm_adds m.outside.outer (happens m (Shows_values node)).outside.outer (enters_calm airs m (shown_values m.host.state node)))
+      (λ x has. effect_says AnyFrame (Has x) (has_piled x) airs m (Shows_values node) tt has) (effect_fits line (Shows_values node) left (many_on_air m)) (values_devices m node) (λ place. omega arith)) w
   effect_waits line left m (Outside_does event) is awaits places w = absurd is
   effect_waits line left m (Host_does event) is awaits places w = absurd is
   effect_waits line left m event is awaits places w = absurd is
@@ -506,18 +674,18 @@ module _ (airs : Airs) (these : List Bool) (many : length these ≡ 233) (laws :
       → WaitsFor n most (Ticking_host (first ∷ events) ticks) m → WaitsFor n most (Ticking_host events ticks) (happens m (Host_does first))
   tick_event Line_ticks events ticks m is turn places lasts w =
       does_waits n most within (Ticking_host (Line_ticks ∷ events) ticks) (Ticking_host events ticks) m Line_ticks (omega arith) turn places
-      (host_stays airs n (Ticking_host (Line_ticks ∷ events) ticks) (Ticking_host events ticks) m Line_ticks (λ asking asks. asking) (λ left. still_fits n (many_on_air m) left (Ticking_host (Line_ticks ∷ events) ticks) (Ticking_host events ticks) (λ place. omega arith) (omega arith))) w
+      (host_stays airs n (Ticking_host (Line_ticks ∷ events) ticks) (Ticking_host events ticks) m Line_ticks (λ asking asks. asking) (λ left. still_fits n (many_on_air m) left (Ticking_host (Line_ticks ∷ events) ticks) (Ticking_host events ticks) (λ place. omega arith) (omega arith)) (λ place. omega arith)) w
   tick_event (Requests_do event moment) events ticks m is turn places lasts w =
       does_waits n most within (Ticking_host (Requests_do event moment ∷ events) ticks) (Ticking_host events ticks) m (Requests_do event moment) (omega arith) tt places
       (host_stays airs n (Ticking_host (Requests_do event moment ∷ events) ticks) (Ticking_host events ticks) m (Requests_do event moment) (λ asking asks. asking)
-      (λ left. still_fits n (many_on_air m) left (Ticking_host (Requests_do event moment ∷ events) ticks) (Ticking_host events ticks) (λ place. omega arith) (omega arith))) w
+      (λ left. still_fits n (many_on_air m) left (Ticking_host (Requests_do event moment ∷ events) ticks) (Ticking_host events ticks) (λ place. omega arith) (omega arith)) (λ place. omega arith)) w
   tick_event (Node_ticks k) events ticks m is turn places lasts w = by (either_node n k)
     where
       own : WaitsFor n most (Ticking_host (Node_ticks n ∷ events) ticks) m → WaitsFor n most (Ticking_host events ticks) (happens m (Host_does (Node_ticks n)))
       own v =
           tick_waits n most within events ticks m places lasts
           (host_stays airs n (Own_at n most within events ticks) (Ticking_host events ticks) m (Node_ticks n) (λ asking asks. asking)
-          (λ left. still_fits n (many_on_air m) left (Own_at n most within events ticks) (Ticking_host events ticks) (λ place. omega arith) (omega arith))) v
+          (λ left. still_fits n (many_on_air m) left (Own_at n most within events ticks) (Ticking_host events ticks) (λ place. omega arith) (omega arith)) (λ place. omega arith)) v
 
       by : (k ≡ n) ⊎ (k ≢ n) → WaitsFor n most (Ticking_host events ticks) (happens m (Host_does (Node_ticks k)))
       by (inl same) =
@@ -526,5 +694,5 @@ module _ (airs : Airs) (these : List Bool) (many : length these ≡ 233) (laws :
       by (inr other) =
           does_waits n most within (Ticking_host (Node_ticks k ∷ events) ticks) (Ticking_host events ticks) m (Node_ticks k) (no_fewer (if k == n then 1 else 0) (ticks_of n events)) other places
           (host_stays airs n (Ticking_host (Node_ticks k ∷ events) ticks) (Ticking_host events ticks) m (Node_ticks k) (λ asking asks. asking)
-          (λ left. still_fits n (many_on_air m) left (Ticking_host (Node_ticks k ∷ events) ticks) (Ticking_host events ticks) (λ place. omega arith) (omega arith))) w
+          (λ left. still_fits n (many_on_air m) left (Ticking_host (Node_ticks k ∷ events) ticks) (Ticking_host events ticks) (λ place. omega arith) (omega arith)) (λ place. omega arith)) w
   tick_event event events ticks m is turn places lasts w = absurd is

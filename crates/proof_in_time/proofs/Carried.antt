@@ -7,6 +7,7 @@ use Rattle.std.specs.List.{range_with_len}
 use Rattle.serial_frame.specs.Frame.{FrameParts}
 use Rattle.route_table.specs.declared.route.Route.{Route}
 use Rattle.air_frames.specs.Flown.{Flown}
+use Rattle.device_sim.specs.State.{State}
 use Rattle.host_node.specs.State.{needs_tick}
 use Rattle.host_model.specs.Did.{after_all}
 use Rattle.host_model.specs.Events.{Node_ticks}
@@ -22,7 +23,8 @@ use Rattle.proof_answered.specs.proof_calm.Live.{IsLive}
 use Rattle.proof_answered.specs.proof_calm.Resting.{IsGiven}
 use Rattle.proof_answered.specs.proof_calm.Tied.{unheard}
 use Rattle.proof_answered.proofs.proof_traffic_Parts.{Airs}
-use Rattle.proof_in_time.specs.Coming.{AsksFor, Asked, Coming, Flies, Has, IsAsking, IsReport, IsRequest, Sent, Stands, TellsEnd, Told, brings, one_later, ticks_left, ticks_of}
+use Rattle.proof_in_time.specs.Coming.{AsksFor, Asked, At_work, Coming, Flies, Has, IsAsking, IsBusy, IsReport, IsRequest, Sent, Stands, TellsEnd, Told, brings, has_ticked, one_later, ticks_left, ticks_of}
+use Rattle.proof_in_time.proofs.Busy.{StayBusy}
 use Rattle.proof_in_time.proofs.Grown.{Adds, Arrived, stands_next, stands_on}
 use Rattle.proof_in_time.proofs.Landed.{arrives_has, report_comes}
 
@@ -40,6 +42,10 @@ pub record IsThere (n session left : ℕ) (here : Phase) (m : Machine) : Type 0 
   pub has : Has (brings n payload) (unheard m.outside.outer)
   pub few : ticks_left here ≤ left
 
+-- a device at work is to tell the end within so many ticks
+abbrev pub IsNearEnd : (n session left : ℕ) (here : Phase) (devices : List State) → IsBusy n session devices → Type 0
+IsNearEnd n session left here devices at = ticks_left here + has_ticked here at.place + at.device.work_left ≤ left
+
 abbrev pub many_on_air : Machine → ℕ
 many_on_air m = length (on_air m.outside.outer.air.frames)
 
@@ -55,26 +61,42 @@ nearer a b c left then_left fits few = omega (arith, fits, few)
 near : (a b left then_left : ℕ) → a + left ≤ b + then_left → b ≤ left → a ≤ then_left
 near a b left then_left fits few = omega (arith, fits, few)
 
-pub carry_or : (n session left then_left : ℕ) (here next : Phase) (m later : Machine) → (IsAsking here → AsksFor n session m.host.state → 2 ≤ left → Coming n session then_left next later) → Adds m.outside.outer later.outside.outer
+busy_near : (a b old new left then_left : ℕ) → a + left ≤ b + then_left → new ≡ old → b + old ≤ left → a + new ≤ then_left
+busy_near a b old new left then_left fits same few = omega (arith, fits, same, few)
+
+-- it stays at its work
+pub busy_on : (n session left then_left : ℕ) (here next : Phase) (m later : Machine) → StayBusy n session m.outside.devices later.outside.devices
+    → ((place : ℕ) → ticks_left next + has_ticked next place + left ≤ ticks_left here + has_ticked here place + then_left)
+    → (at : IsBusy n session m.outside.devices) → IsNearEnd n session left here m.outside.devices at → Coming n session then_left next later
+busy_on n session left then_left here next m later stays fits at few =
+    let on = stays at in
+    At_work on.0
+    (subst (λ (k : ℕ). ticks_left next + has_ticked next k + on.0.device.work_left ≤ then_left) (sym on.1.0)
+    (busy_near (ticks_left next + has_ticked next at.place) (ticks_left here + has_ticked here at.place) at.device.work_left on.0.device.work_left left then_left (fits at.place) on.1.1 few))
+
+pub carry_or : (n session left then_left : ℕ) (here next : Phase) (m later : Machine) → (IsAsking here → AsksFor n session m.host.state → 6 ≤ left → Coming n session then_left next later)
+    → ((at : IsBusy n session m.outside.devices) → IsNearEnd n session left here m.outside.devices at → Coming n session then_left next later) → Adds m.outside.outer later.outside.outer
     → Fits n (many_on_air m) here left next then_left → Coming n session left here m → Coming n session then_left next later ⊎ IsThere n session left here m
-carry_or n session left then_left here next m later asks adds fits (Asked asking asked two) = inl (asks asking asked two)
-carry_or n session left then_left here next m later asks adds fits (Sent at few) =
+carry_or n session left then_left here next m later asks works adds fits (Asked asking asked six) = inl (asks asking asked six)
+carry_or n session left then_left here next m later asks works adds fits (Sent at few) =
     let on = stands_on (IsRequest n session) (on_air m.outside.outer.air.frames) (on_air later.outside.outer.air.frames) adds at in
     let same : length on.0.before ≡ length at.before = ap (λ (fs : List Flown). length fs) on.1 in
     let fit = fits.joint (length at.before) (stands_within (IsRequest n session) (on_air m.outside.outer.air.frames) at) in
-    let so = nearer (ticks_left next + one_later next (length at.before)) (ticks_left here + one_later here (length at.before)) 1 left then_left fit few in
-    inl (Sent on.0 (subst (λ (k : ℕ). ticks_left next + one_later next k + 1 ≤ then_left) (sym same) so))
-carry_or n session left then_left here next m later asks adds fits (Flies at few) =
+    let so = nearer (ticks_left next + one_later next (length at.before)) (ticks_left here + one_later here (length at.before)) 5 left then_left fit few in
+    inl (Sent on.0 (subst (λ (k : ℕ). ticks_left next + one_later next k + 5 ≤ then_left) (sym same) so))
+carry_or n session left then_left here next m later asks works adds fits (Flies at few) =
     let on = stands_on (IsReport n session) (on_air m.outside.outer.air.frames) (on_air later.outside.outer.air.frames) adds at in
     let same : length on.0.before ≡ length at.before = ap (λ (fs : List Flown). length fs) on.1 in
     let fit = fits.joint (length at.before) (stands_within (IsReport n session) (on_air m.outside.outer.air.frames) at) in
     let so = near (ticks_left next + one_later next (length at.before)) (ticks_left here + one_later here (length at.before)) left then_left fit few in
     inl (Flies on.0 (subst (λ (k : ℕ). ticks_left next + one_later next k ≤ then_left) (sym same) so))
-carry_or n session left then_left here next m later asks adds fits (Told payload tells there few) = inr (record { payload = payload; tells = tells; has = there; few = few })
+carry_or n session left then_left here next m later asks works adds fits (At_work at few) = inl (works at few)
+carry_or n session left then_left here next m later asks works adds fits (Told payload tells there few) = inr (record { payload = payload; tells = tells; has = there; few = few })
 
-pub carry : (n session left then_left : ℕ) (here next : Phase) (m later : Machine) → (IsAsking here → AsksFor n session m.host.state → 2 ≤ left → Coming n session then_left next later) → Adds m.outside.outer later.outside.outer
+pub carry : (n session left then_left : ℕ) (here next : Phase) (m later : Machine) → (IsAsking here → AsksFor n session m.host.state → 6 ≤ left → Coming n session then_left next later)
+    → ((at : IsBusy n session m.outside.devices) → IsNearEnd n session left here m.outside.devices at → Coming n session then_left next later) → Adds m.outside.outer later.outside.outer
     → ((x : FrameParts) → Has x (unheard m.outside.outer) → Has x (unheard later.outside.outer)) → Fits n (many_on_air m) here left next then_left → Coming n session left here m → Coming n session then_left next later
-carry n session left then_left here next m later asks adds has fits comes = by (carry_or n session left then_left here next m later asks adds fits comes)
+carry n session left then_left here next m later asks works adds has fits comes = by (carry_or n session left then_left here next m later asks works adds fits comes)
   where
     by : Coming n session then_left next later ⊎ IsThere n session left here m → Coming n session then_left next later
     by (inl on) = on
@@ -95,7 +117,7 @@ later_once place frames = by (nat_lt place frames) refl
 nothing_more : (x left : ℕ) → x ≤ left → 0 + x ≤ left
 nothing_more x left few = omega (arith, few)
 
-nothing_then : (x left : ℕ) → x + 1 ≤ left → 0 + x + 1 ≤ left
+nothing_then : (x left : ℕ) → x + 5 ≤ left → 0 + x + 5 ≤ left
 nothing_then x left few = omega (arith, few)
 
 at_most_one : (b : Bool) → unless_one b ≤ 1
@@ -110,16 +132,24 @@ module _ (airs : Airs) (m : Machine) (is : Awaits m) (drawn : List ℕ) (route :
   abbrev flights_then : List Flown
   flights_then = on_air then_there.outside.outer.air.frames
 
-  module _ (hears : IsRequest n session at.frame → Stands (IsReport n session) flights_then) where
-    sends : (place : ℕ) → unless_one (nat_lt place (suc frames)) + 1 ≤ left → IsRequest n session at.frame ⊎ ((on : Stands (IsRequest n session) at.rest) × (place ≡ suc (length on.before))) → Coming n session left (Arriving frames ticks) then_there
-    sends place few (inl request) = let answer = hears request in let one = at_most_one (nat_lt (length answer.before) frames) in Flies answer (omega (arith, few, one))
+  -- it comes to work
+  abbrev pub ComesToWork : Type 0
+  ComesToWork = (busy : IsBusy n session then_there.outside.devices) × (busy.device.work_left ≤ 5)
+
+  module _ (hears : IsRequest n session at.frame → Stands (IsReport n session) flights_then ⊎ ComesToWork) (stays : StayBusy n session m.outside.devices then_there.outside.devices) where
+    answered : (x : ℕ) → x + 5 ≤ left → Stands (IsReport n session) flights_then ⊎ ComesToWork → Coming n session left (Arriving frames ticks) then_there
+    answered x few (inl answer) = let one = at_most_one (nat_lt (length answer.before) frames) in Flies answer (omega (arith, few, one))
+    answered x few (inr (busy, five)) = At_work busy (omega (arith, few, five))
+
+    sends : (place : ℕ) → unless_one (nat_lt place (suc frames)) + 5 ≤ left → IsRequest n session at.frame ⊎ ((on : Stands (IsRequest n session) at.rest) × (place ≡ suc (length on.before))) → Coming n session left (Arriving frames ticks) then_there
+    sends place few (inl request) = answered (unless_one (nat_lt place (suc frames))) few (hears request)
     sends place few (inr (on, same)) =
         let there = stands_on (IsRequest n session) at.rest flights_then at.grows on in
         let as_far : unless_one (nat_lt (length on.before) frames) ≡ unless_one (nat_lt place (suc frames)) = sym (ap (λ (k : ℕ). unless_one (nat_lt k (suc frames))) same ∙ later_once (length on.before) frames) in
         Sent there.0
         (nothing_then (unless_one (nat_lt (length there.0.before) frames)) left
-        (subst (λ (k : ℕ). unless_one (nat_lt k frames) + 1 ≤ left) (sym (ap (λ (fs : List Flown). length fs) there.1))
-        (subst (λ (k : ℕ). k + 1 ≤ left) (sym as_far) few)))
+        (subst (λ (k : ℕ). unless_one (nat_lt k frames) + 5 ≤ left) (sym (ap (λ (fs : List Flown). length fs) there.1))
+        (subst (λ (k : ℕ). k + 5 ≤ left) (sym as_far) few)))
 
     flies : (place : ℕ) → unless_one (nat_lt place (suc frames)) ≤ left → IsReport n session at.frame ⊎ ((on : Stands (IsReport n session) at.rest) × (place ≡ suc (length on.before))) → Coming n session left (Arriving frames ticks) then_there
     flies place few (inl report) =
@@ -139,9 +169,10 @@ module _ (airs : Airs) (m : Machine) (is : Awaits m) (drawn : List ℕ) (route :
         stands_next Is at.frame at.rest (record { before = stands.before; frame = stands.frame; behind = stands.behind; are = sym at.were ∙ stands.are; is = stands.is })
 
     pub arrives_comes : Coming n session left (Arriving (suc frames) ticks) m → Coming n session left (Arriving frames ticks) then_there
-    arrives_comes (Asked asking asked two) = absurd asking
+    arrives_comes (Asked asking asked six) = absurd asking
     arrives_comes (Sent stands few) = sends (length stands.before) (omega (arith, few)) (stood (IsRequest n session) stands)
     arrives_comes (Flies stands few) = flies (length stands.before) (omega (arith, few)) (stood (IsReport n session) stands)
+    arrives_comes (At_work busy few) = busy_on n session left left (Arriving (suc frames) ticks) (Arriving frames ticks) m then_there stays (λ place. omega arith) busy few
     arrives_comes (Told payload tells there few) = Told payload tells (arrives_has (brings n payload) m drawn route given later_given there) few
 
 -- ---- each node ticks once

@@ -27,17 +27,18 @@ use Rattle.host_model.specs.Facts.{HostFacts, IsCommandOf, IsSound}
 use Rattle.host_model.specs.May.{IsAccepted, IsStart, known_of, May as MayHost}
 use Rattle.host_model.specs.Sessions.{message_for, start_by}
 use Rattle.host_model.specs.State.{Command, HostState, command_at, node_of}
-use Rattle.host_model.proofs.Accepted.{none_later}
+use Rattle.host_model.proofs.Accepted.{holds, none_later}
 use Rattle.host_model.proofs.Silence.{judged_silent}
 use Rattle.world_model.specs.Events.{Event, Outside_does, Host_does, Host_takes, Decoder_ticks, Refuses, Restarts, Shows_values, happens, May}
 use Rattle.world_model.specs.State.{Machine}
 use Rattle.proof_course_plain.specs.proof_host.Tables.{taken_at, taken_by}
 use Rattle.proof_course_plain.proofs.HostEvents.{open_is, owned}
-use Rattle.proof_spoken.proofs.Orders.{IsNoOrder, SameOrders, event_kept}
+use Rattle.proof_spoken.specs.Restarts.{StartsWell}
+use Rattle.proof_spoken.proofs.Orders.{IsNoOrder, SameOrders, event_kept, restart_kept}
 use Rattle.proof_spoken.proofs.Plain.{silent_none}
 use Rattle.proof_answered.specs.proof_calm.Resting.{IsEffect, LineAt}
 use Rattle.proof_answered.specs.proof_calm.proof_work.proof_walk.Phases.{Phase, Said_line, Doing, To_tick, Arriving, Giving, Ticking_devices, Ticking_chip, Ticking_decoder, Ticking_host, Sleeping, Submitting, Moving, Moved, Goes}
-use Rattle.proof_in_time.specs.InStep.{IsNear, IsPlainly}
+use Rattle.proof_in_time.specs.InStep.{IsNear, IsNearAt, IsPlainly}
 use Rattle.proof_in_time.specs.Coming.{GoWhole, GoesWhole, IsMessage, IsPlainStart, is_layered}
 
 -- ---- they are kept
@@ -88,6 +89,22 @@ fourth a b c d e none = none_first d (e ∷ []) (none_later c (d ∷ e ∷ []) (
 third : (a b c : Option Refused) → first_some (a ∷ b ∷ c ∷ []) ≡ None → c ≡ None
 third a b c none = none_first c [] (none_later b (c ∷ []) (none_later a (b ∷ c ∷ []) none))
 
+-- an order that is not refused is for a node that is joined, and lists Supervision
+pub passes : (known : Known) (order : Order) → first_refusal known order ≡ None → (known.joined ≡ true) × (lists (classes_of known) 0x6C ≡ true)
+unfolding first_refusal known_refusal
+passes known order none =
+    let classes = classes_of known in
+    let actuator = actuator_of classes in
+    let unlisted = unsupported classes (classes_needed actuator order.what order.end) in
+    let bad = unless (not (is_bad actuator order.what)) BadValue in
+    let alone = unless (lists classes 0x6C) Unsupervised in
+    let long = too_long classes (length (supervised_text actuator order)) (wrapped_len actuator order) in
+    let full = mailbox_full known.waiting in
+    let joined : unless known.joined NotJoined ≡ None = none_first (unless known.joined NotJoined) (unless (is_some known.classes) NotInterviewed ∷ known_refusal classes known.waiting order ∷ []) none in
+    let rules : known_refusal classes known.waiting order ≡ None = third (unless known.joined NotJoined) (unless (is_some known.classes) NotInterviewed) (known_refusal classes known.waiting order) none in
+    let supervised : alone ≡ None = none_first alone (long ∷ full ∷ []) (none_later bad (alone ∷ long ∷ full ∷ []) (none_later unlisted (bad ∷ alone ∷ long ∷ full ∷ []) rules)) in
+    (holds known.joined NotJoined joined, holds (lists classes 0x6C) Unsupervised supervised)
+
 not_long : (over secure transport long : Bool) (wide narrow : Refused) (short : Bool) → (if over then Some wide else (if (if secure then short else (not transport && long)) then Some narrow else None)) ≡ None → secure ≡ false → transport ≡ false
     → long ≡ false
 not_long true secure transport long wide narrow short none bare uncut = absurd cc
@@ -120,7 +137,7 @@ refusal_plain known classes order listed none openly =
     let parts = or_parts (lists classes 0x98) (lists classes 0x55) openly in
     known_plain classes known.waiting order (ap (λ (c : Option (List ℕ)). known_refusal (classes_of (record known { classes = c })) known.waiting order) (sym listed) ∙ passes) parts.0 parts.1
 
-accepted_whole : (h : HostState) (order : Order) (carriage : Carriage) → IsAccepted h order carriage → is_layered (node_of h order.node).classes ≡ false → order.end ≤ 127 → GoesWhole order carriage
+pub accepted_whole : (h : HostState) (order : Order) (carriage : Carriage) → IsAccepted h order carriage → is_layered (node_of h order.node).classes ≡ false → order.end ≤ 127 → GoesWhole order carriage
 accepted_whole h order carriage accepted openly few = record {
   plain = ap (λ (c : Carriage). form_of c.outer) accepted.carried
       ∙ refusal_plain (known_of (node_of h order.node)) accepted.classes order accepted.listed accepted.unrefused (ap is_layered (sym accepted.listed) ∙ openly);
@@ -128,12 +145,15 @@ accepted_whole h order carriage accepted openly few = record {
 }
 
 -- none of these nodes lists one of the two
-abbrev AreOpen : List Bool → HostState → Type 0
+abbrev pub AreOpen : List Bool → HostState → Type 0
 AreOpen these h = (n : ℕ) → is_marked these n ≡ true → is_layered (node_of h n).classes ≡ false
 
 -- an order for one of these nodes is for an end point that has a number on the wire
 abbrev AreNear : List Bool → HostEvent → Type 0
 AreNear these event = (n : ℕ) → is_marked these n ≡ true → IsNear n event
+
+abbrev pub AreNearAt : List Bool → Event → Type 0
+AreNearAt these event = (n : ℕ) → is_marked these n ≡ true → IsNearAt n event
 
 event_whole : (these : List Bool) (h : HostState) (event : HostEvent) → MayHost h event → AreOpen these h → AreNear these event → GoWhole these h.commands → GoWhole these (after h event).commands
 event_whole these h (Accepts order carriage) may bare plain go = more_whole these h.commands _ (λ marked. accepted_whole h order carriage may (bare order.node marked) (plain order.node marked refl)) go
@@ -143,48 +163,46 @@ events_whole : (these : List Bool) (h : HostState) (events : List HostEvent) →
 events_whole these h [] no_order go = go
 events_whole these h (event ∷ events) no_order go = events_whole these (after h event) events no_order.1 (same_whole these h.commands (after h event).commands (event_kept h event no_order.0) go)
 
--- ---- the host does not start again
+-- ---- events of the machine
 
-abbrev IsSteady : Event → Type 0
-IsSteady (Restarts state) = ⊥
-IsSteady event = Unit {0}
+-- what is not the begin of a host starts none
+steady_as : (m : Machine) (event is : Event) → event ≡ is → StartsWell m is → StartsWell m event
+steady_as m event is same steady = subst (StartsWell m) (sym same) steady
 
-steady_as : (event is : Event) → event ≡ is → IsSteady is → IsSteady event
-steady_as event is same steady = subst IsSteady (sym same) steady
+effect_steady : (m : Machine) (event : Event) → IsEffect event → StartsWell m event
+effect_steady m (Restarts state) is = absurd is
+effect_steady m event is = tt
 
-effect_steady : (event : Event) → IsEffect event → IsSteady event
-effect_steady (Restarts state) is = absurd is
-effect_steady event is = tt
-
-steady_of : (here next : Phase) (m : Machine) (event : Event) → Goes here m event next → LineAt here m → IsSteady event
-steady_of (Said_line line) next m event (is, to) at = steady_as event _ is tt
-steady_of (Doing line (first ∷ left)) next m event (is, to) at = steady_as event first is (effect_steady first at.0.0)
-steady_of (To_tick (suc ticks)) next m event (is, to) at = steady_as event _ is tt
-steady_of (Arriving (suc frames) ticks) next m event (drawn, route, is, to) at = steady_as event _ is tt
-steady_of (Giving (suc results) ticks) next m event (route, is, to) at = steady_as event _ is tt
-steady_of (Ticking_devices place (suc count) ticks) next m event (drawn, route, is, to) at = steady_as event _ is tt
-steady_of (Ticking_chip ticks) next m event (is, to) at = steady_as event _ is tt
-steady_of (Ticking_decoder ticks) next m event (is, to) at = steady_as event _ is tt
-steady_of (Ticking_host (first ∷ events) ticks) next m event (is, to) at = steady_as event _ is tt
-steady_of (Sleeping passes ticks) next m event (node, wants, is, to) at = steady_as event _ is tt
-steady_of (Submitting passes ticks) next m event (asked, next_is, is, to) at = steady_as event _ is tt
-steady_of (Moving passes ticks) next m event (rest, ways, is, to) at = steady_as event _ is tt
-steady_of (Moved b passes ticks) next m event (rest, items, done, is, to) at = steady_as event _ is tt
+steady_of : (here next : Phase) (m : Machine) (event : Event) → Goes here m event next → LineAt here m → StartsWell m event
+steady_of (Said_line line) next m event (is, to) at = steady_as m event _ is tt
+steady_of (Doing line (first ∷ left)) next m event (is, to) at = steady_as m event first is (effect_steady m first at.0.0)
+steady_of (To_tick (suc ticks)) next m event (is, to) at = steady_as m event _ is tt
+steady_of (Arriving (suc frames) ticks) next m event (drawn, route, is, to) at = steady_as m event _ is tt
+steady_of (Giving (suc results) ticks) next m event (route, is, to) at = steady_as m event _ is tt
+steady_of (Ticking_devices place (suc count) ticks) next m event (drawn, route, is, to) at = steady_as m event _ is tt
+steady_of (Ticking_chip ticks) next m event (is, to) at = steady_as m event _ is tt
+steady_of (Ticking_decoder ticks) next m event (is, to) at = steady_as m event _ is tt
+steady_of (Ticking_host (first ∷ events) ticks) next m event (is, to) at = steady_as m event _ is tt
+steady_of (Sleeping passes ticks) next m event (node, wants, is, to) at = steady_as m event _ is tt
+steady_of (Submitting passes ticks) next m event (asked, next_is, is, to) at = steady_as m event _ is tt
+steady_of (Moving passes ticks) next m event (rest, ways, is, to) at = steady_as m event _ is tt
+steady_of (Moved b passes ticks) next m event (rest, items, done, is, to) at = steady_as m event _ is tt
 steady_of here next m event goes at = absurd goes
 
-machine_whole : (these : List Bool) (m : Machine) (event : Event) → IsSteady event → May m event → AreOpen these m.host.state → IsPlainly these m event → GoWhole these m.host.state.commands → GoWhole these (happens m event).host.state.commands
+pub machine_whole : (these : List Bool) (m : Machine) (event : Event) → StartsWell m event → May m event → AreOpen these m.host.state → AreNearAt these event → GoWhole these m.host.state.commands
+    → GoWhole these (happens m event).host.state.commands
 unfolding happens May
-machine_whole these m (Outside_does event) steady may bare plainly go = go
-machine_whole these m (Host_does event) steady may bare plainly go = event_whole these m.host.state event may.0 bare (λ n marked. (plainly n marked).near) go
-machine_whole these m (Host_takes count rest items events) steady may bare plainly go = events_whole these m.host.state events (silent_none m.host.state events (judged_silent m.host.state items events may.judged)) go
-machine_whole these m Decoder_ticks steady may bare plainly go = go
-machine_whole these m (Refuses line refusal) steady may bare plainly go = go
-machine_whole these m (Shows_values node) steady may bare plainly go = go
-machine_whole these m (Restarts state) steady may bare plainly go = absurd steady
+machine_whole these m (Outside_does event) starts may bare near go = go
+machine_whole these m (Host_does event) starts may bare near go = event_whole these m.host.state event may.0 bare near go
+machine_whole these m (Host_takes count rest items events) starts may bare near go = events_whole these m.host.state events (silent_none m.host.state events (judged_silent m.host.state items events may.judged)) go
+machine_whole these m Decoder_ticks starts may bare near go = go
+machine_whole these m (Refuses line refusal) starts may bare near go = go
+machine_whole these m (Shows_values node) starts may bare near go = go
+machine_whole these m (Restarts state) starts may bare near go = same_whole these m.host.state.commands state.commands (restart_kept m.host.state state starts) go
 
 pub on_whole : (these : List Bool) (here next : Phase) (m : Machine) (event : Event) → Goes here m event next → LineAt here m → May m event → AreOpen these m.host.state → IsPlainly these m event → GoWhole these m.host.state.commands
     → GoWhole these (happens m event).host.state.commands
-on_whole these here next m event goes at may bare plainly go = machine_whole these m event (steady_of here next m event goes at) may bare plainly go
+on_whole these here next m event goes at may bare plainly go = machine_whole these m event (steady_of here next m event goes at) may bare (λ n marked. (plainly n marked).near) go
 
 -- ---- what an attempt gives
 

@@ -67,7 +67,7 @@ is_accepted n command (Accepted number node) has = by (node == n) refl has
     by false other none = absurd none
 is_accepted n command entry has = absurd has
 
-numbers_grow : (past more : List Entry) → length (accepted_numbers past) ≤ length (accepted_numbers (past ++ more))
+pub numbers_grow : (past more : List Entry) → length (accepted_numbers past) ≤ length (accepted_numbers (past ++ more))
 numbers_grow past more =
     let all : length (accepted_numbers (past ++ more)) ≡ length (accepted_numbers past) + length (accepted_numbers more) =
     ap (λ (l : List ℕ). length l) (flat_map-append accepted_number past more) ∙ length-append (accepted_numbers past) (accepted_numbers more) in

@@ -74,22 +74,22 @@ begun_is book session is = by book.outcome book.commands is
     by None [] none = absurd cc
     by None (command ∷ more) there = cc
 
--- the session of the command is over; or so many are to be over before, where none is open, or one is due or runs
-pub data Ends (command : ℕ) (D R : ℕ → Type 0) (x : NodeState) : Type 0 where
-  Ended : HasEnded command x.book → Ends command D R x
-  Idles : (more : ℕ) → open_session x.book ≡ None → x.series ≡ series.Idle → StandsAt command more x.waiting → D more → Ends command D R x
-  Due : (more session : ℕ) → open_session x.book ≡ Some session → x.series ≡ series.Due → ComesAfter more command session x → D more → Ends command D R x
-  Runs : (more session : ℕ) → open_session x.book ≡ Some session → x.series ≡ series.Running → ComesAfter more command session x → R more → Ends command D R x
+-- the session of the command is over; or so many are to be over before, where none is open, or one is due or runs. Where the node is blocked V is so until its
+-- tick
+pub data Ends (command : ℕ) (D R V : ℕ → Type 0) (x : NodeState) : Type 0 where
+  Ended : HasEnded command x.book → Ends command D R V x
+  Idles : (more : ℕ) → open_session x.book ≡ None → x.series ≡ series.Idle → StandsAt command more x.waiting → (x.blocked ≡ false → D more) → (x.blocked ≡ true → V more) → Ends command D R V x
+  Due : (more session : ℕ) → open_session x.book ≡ Some session → x.series ≡ series.Due → ComesAfter more command session x → D more → (x.blocked ≡ true → V more) → Ends command D R V x
+  Runs : (more session : ℕ) → open_session x.book ≡ Some session → x.series ≡ series.Running → ComesAfter more command session x → R more → (x.blocked ≡ true → V more) → Ends command D R V x
 
 -- so it is; or its session comes behind one that is open, whose series is over, with a wait until the next one
-pub data EndsLater (command : ℕ) (D R : ℕ → Type 0) (W : ℕ → ℕ → Type 0) (x : NodeState) : Type 0 where
-  Goes_on : Ends command D R x → EndsLater command D R W x
-  Rests : (more session wait : ℕ) → open_session x.book ≡ Some session → x.series ≡ series.Idle → x.again_wait ≡ suc wait → StandsAt command more x.waiting → W more wait → EndsLater command D R W x
+pub data EndsLater (command : ℕ) (D R V : ℕ → Type 0) (W : ℕ → ℕ → Type 0) (x : NodeState) : Type 0 where
+  Goes_on : Ends command D R V x → EndsLater command D R V W x
+  Rests : (more session wait : ℕ) → open_session x.book ≡ Some session → x.series ≡ series.Idle → x.again_wait ≡ suc wait → StandsAt command more x.waiting → W more wait → EndsLater command D R V W x
 
--- the host may serve the node, of which this is so besides
+-- the host listens to the node, of which this is so besides
 pub record Hand (E : NodeState → Type 0) (x : NodeState) : Type 0 where
   pub listens : x.listens ≡ true
-  pub unblocked : x.blocked ≡ false
   pub ends : E x
 
 not_running : (s t : Series) → s ≡ t → (t ≡ series.Running → ⊥) → s ≡ series.Running → ⊥
@@ -101,25 +101,27 @@ idle_no e = absurd cc
 due_no : series.Due ≡ series.Running → ⊥
 due_no e = absurd cc
 
-pub hand_as : (command : ℕ) (D R D' R' : ℕ → Type 0) (x : NodeState) → ((more : ℕ) → HasTurn x → D more → D' more) → ((more : ℕ) → x.series ≡ series.Running → R more → R' more) → Hand (Ends command D R) x → Hand (Ends command D' R') x
-hand_as command D R D' R' x due runs h = record { listens = h.listens; unblocked = h.unblocked; ends = by h.ends }
+pub hand_as : (command : ℕ) (D R V D' R' V' : ℕ → Type 0) (x : NodeState) → ((more : ℕ) → HasTurn x → D more → D' more) → ((more : ℕ) → x.series ≡ series.Running → R more → R' more) → ((more : ℕ) → x.blocked ≡ true → V more → V' more)
+    → Hand (Ends command D R V) x → Hand (Ends command D' R' V') x
+hand_as command D R V D' R' V' x due runs held h = record { listens = h.listens; ends = by h.ends }
   where
-    by : Ends command D R x → Ends command D' R' x
+    by : Ends command D R V x → Ends command D' R' V' x
     by (Ended ended) = Ended ended
-    by (Idles more none idle at d) = Idles more none idle at (due more (not_running x.series series.Idle idle idle_no, idle_works x command more h.listens h.unblocked none idle at) d)
-    by (Due more session opened so at d) = Due more session opened so at (due more (not_running x.series series.Due so due_no, due_works x so) d)
-    by (Runs more session opened so at r) = Runs more session opened so at (runs more so r)
+    by (Idles more none idle at d v) =
+        Idles more none idle at (λ free. due more (not_running x.series series.Idle idle idle_no, idle_works x command more h.listens free none idle at) (d free)) (λ blocked. held more blocked (v blocked))
+    by (Due more session opened so at d v) = Due more session opened so at (due more (not_running x.series series.Due so due_no, due_works x so) d) (λ blocked. held more blocked (v blocked))
+    by (Runs more session opened so at r v) = Runs more session opened so at (runs more so r) (λ blocked. held more blocked (v blocked))
 
-pub later_hand_as : (command : ℕ) (D R D' R' : ℕ → Type 0) (W W' : ℕ → ℕ → Type 0) (x : NodeState) → ((more : ℕ) → HasTurn x → D more → D' more) → ((more : ℕ) → x.series ≡ series.Running → R more → R' more)
-    → ((more wait : ℕ) → x.series ≡ series.Idle → x.again_wait ≡ suc wait → W more wait → W' more wait) → Hand (EndsLater command D R W) x → Hand (EndsLater command D' R' W') x
-later_hand_as command D R D' R' W W' x due runs rests h = record { listens = h.listens; unblocked = h.unblocked; ends = by h.ends }
+pub later_hand_as : (command : ℕ) (D R V D' R' V' : ℕ → Type 0) (W W' : ℕ → ℕ → Type 0) (x : NodeState) → ((more : ℕ) → HasTurn x → D more → D' more) → ((more : ℕ) → x.series ≡ series.Running → R more → R' more)
+    → ((more : ℕ) → x.blocked ≡ true → V more → V' more) → ((more wait : ℕ) → x.series ≡ series.Idle → x.again_wait ≡ suc wait → W more wait → W' more wait) → Hand (EndsLater command D R V W) x → Hand (EndsLater command D' R' V' W') x
+later_hand_as command D R V D' R' V' W W' x due runs held rests h = record { listens = h.listens; ends = by h.ends }
   where
-    by : EndsLater command D R W x → EndsLater command D' R' W' x
-    by (Goes_on e) = Goes_on (hand_as command D R D' R' x due runs (record { listens = h.listens; unblocked = h.unblocked; ends = e })).ends
+    by : EndsLater command D R V W x → EndsLater command D' R' V' W' x
+    by (Goes_on e) = Goes_on (hand_as command D R V D' R' V' x due runs held (record { listens = h.listens; ends = e })).ends
     by (Rests more session wait opened idle again at w) = Rests more session wait opened idle again at (rests more wait idle again w)
 
-pub goes_on : (command : ℕ) (D R : ℕ → Type 0) (W : ℕ → ℕ → Type 0) (x : NodeState) → Hand (Ends command D R) x → Hand (EndsLater command D R W) x
-goes_on command D R W x h = record { listens = h.listens; unblocked = h.unblocked; ends = Goes_on h.ends }
+pub goes_on : (command : ℕ) (D R V : ℕ → Type 0) (W : ℕ → ℕ → Type 0) (x : NodeState) → Hand (Ends command D R V) x → Hand (EndsLater command D R V W) x
+goes_on command D R V W x h = record { listens = h.listens; ends = Goes_on h.ends }
 
 -- the first two parts of a tick
 abbrev before_attempt : NodeState → NodeState
@@ -198,14 +200,15 @@ event_allowed h event lasts may = tt
 -- what is so of the sessions, the series and the commands that wait stays so
 pub record KeptLaws (E : NodeState → Type 0) : Type 0 where
   -- where these are as they were, but for commands that wait behind the others
-  pub as_was : (x y : NodeState) → y.book.commands ≡ x.book.commands → y.book.outcome ≡ x.book.outcome → y.series ≡ x.series → y.again_wait ≡ x.again_wait
+  pub as_was : (x y : NodeState) → y.book.commands ≡ x.book.commands → y.book.outcome ≡ x.book.outcome → y.series ≡ x.series → y.again_wait ≡ x.again_wait → y.blocked ≡ x.blocked
       → ((command place : ℕ) → StandsAt command place x.waiting → StandsAt command place y.waiting) → E x → E y
   -- and at the moments at which these change
   pub occasion : (x : NodeState) → E x → E (after_occasion x)
   pub ended : (x : NodeState) (status : ℕ) → E x → E (after_told x status (Final 0))
   pub begun : (x : NodeState) → open_session x.book ≡ None → E x → E (after_node x Begins)
-  pub started : (x y : NodeState) → y.book ≡ x.book → y.waiting ≡ x.waiting → y.series ≡ series.Running → x.series ≡ series.Due → E x → E y
+  pub started : (x y : NodeState) → y.book ≡ x.book → y.blocked ≡ x.blocked → y.waiting ≡ x.waiting → y.series ≡ series.Running → x.series ≡ series.Due → E x → E y
   pub again : (x : NodeState) → x.listens ≡ true → E x → E (after_again_tick x)
+  pub freed : (x : NodeState) → E x → E (after_hold_tick x)
 
 -- ---- a node, of which any such thing is so
 
@@ -213,18 +216,16 @@ module _ (E : NodeState → Type 0) (laws : KeptLaws E) where
   abbrev H : NodeState → Type 0
   H x = Hand E x
 
-  same : (x y : NodeState) → y.listens ≡ x.listens → (x.blocked ≡ false → y.blocked ≡ false) → y.book.commands ≡ x.book.commands → y.book.outcome ≡ x.book.outcome → y.series ≡ x.series → y.again_wait ≡ x.again_wait → y.waiting ≡ x.waiting → H x → H y
+  same : (x y : NodeState) → y.listens ≡ x.listens → y.blocked ≡ x.blocked → y.book.commands ≡ x.book.commands → y.book.outcome ≡ x.book.outcome → y.series ≡ x.series → y.again_wait ≡ x.again_wait → y.waiting ≡ x.waiting → H x → H y
   same x y listens blocked commands outcome series_is again_is waiting h = record {
     listens = listens ∙ h.listens;
-    unblocked = blocked h.unblocked;
-    ends = laws.as_was x y commands outcome series_is again_is (λ command place at. subst (StandsAt command place) (sym waiting) at) h.ends;
+    ends = laws.as_was x y commands outcome series_is again_is blocked (λ command place at. subst (StandsAt command place) (sym waiting) at) h.ends;
   }
 
   put : (x : NodeState) (other : ℕ) → H x → H (after_node x (Puts other))
   put x other h = record {
     listens = h.listens;
-    unblocked = h.unblocked;
-    ends = laws.as_was x (after_node x (Puts other)) refl refl refl refl
+    ends = laws.as_was x (after_node x (Puts other)) refl refl refl refl refl
         (λ command place at.
         record {
           before = at.before;
@@ -242,33 +243,28 @@ module _ (E : NodeState → Type 0) (laws : KeptLaws E) where
   chosen_true true x y first later = first
   chosen_true false x y first later = later
 
-  chosen_false : (b : Bool) (x y : NodeState) → x.blocked ≡ false → y.blocked ≡ false → (if b then x else y).blocked ≡ false
-  chosen_false true x y first later = first
-  chosen_false false x y first later = later
-
   occasion : (x : NodeState) → H x → H (after_occasion x)
   occasion x h = record {
     listens = chosen_true (is_open x && is_up x && is_idle x.series) (new_series x) x h.listens h.listens;
-    unblocked = chosen_false (is_open x && is_up x && is_idle x.series) (new_series x) x h.unblocked h.unblocked;
     ends = laws.occasion x h.ends;
   }
 
   sign : (x : NodeState) → H x → H (after_sign x)
-  sign x h = either (is_running x.series) (with_wait x wait_ticks) x (same x (with_wait x wait_ticks) refl (λ b. b) refl refl refl refl refl h) h
+  sign x h = either (is_running x.series) (with_wait x wait_ticks) x (same x (with_wait x wait_ticks) refl refl refl refl refl refl refl h) h
 
   sleep : (x : NodeState) → H x → H (after_sleep x)
-  sleep x h = either x.listens x (asleep x) h (same x (asleep x) refl (λ b. b) refl refl refl refl refl h)
+  sleep x h = either x.listens x (asleep x) h (same x (asleep x) refl refl refl refl refl refl refl h)
 
   told : (x : NodeState) (status : ℕ) (t : Told) → H x → H (after_told x status t)
-  told x status (Final number) h = record { listens = h.listens; unblocked = h.unblocked; ends = laws.ended x status h.ends }
+  told x status (Final number) h = record { listens = h.listens; ends = laws.ended x status h.ends }
   told x status Working h = sign x h
   told x status Old h = h
 
   running : (x y : NodeState) → y.listens ≡ x.listens → y.blocked ≡ x.blocked → y.book ≡ x.book → y.waiting ≡ x.waiting → y.series ≡ series.Running → x.series ≡ series.Due → H x → H y
-  running x y listens blocked book waiting runs due h = record { listens = listens ∙ h.listens; unblocked = blocked ∙ h.unblocked; ends = laws.started x y book waiting runs due h.ends }
+  running x y listens blocked book waiting runs due h = record { listens = listens ∙ h.listens; ends = laws.started x y book blocked waiting runs due h.ends }
 
   again : (x : NodeState) → H x → H (after_again_tick x)
-  again x h = record { listens = listens; unblocked = unblocked; ends = laws.again x h.listens h.ends }
+  again x h = record { listens = listens; ends = laws.again x h.listens h.ends }
     where
       x0 : NodeState
       x0 = with_again x 0
@@ -278,46 +274,41 @@ module _ (E : NodeState → Type 0) (laws : KeptLaws E) where
           chosen_true (x.again_wait == 1) (after_again x0) (with_again x (x.again_wait - 1))
           (chosen_true (has_waiting x0) (after_occasion x0) x0 (chosen_true (is_open x0 && is_up x0 && is_idle x0.series) (new_series x0) x0 h.listens h.listens) h.listens) h.listens
 
-      unblocked : (after_again_tick x).blocked ≡ false
-      unblocked =
-          chosen_false (x.again_wait == 1) (after_again x0) (with_again x (x.again_wait - 1))
-          (chosen_false (has_waiting x0) (after_occasion x0) x0 (chosen_false (is_open x0 && is_up x0 && is_idle x0.series) (new_series x0) x0 h.unblocked h.unblocked) h.unblocked) h.unblocked
-
   ticked : (x : NodeState) → x.attempt_wait ≢ 1 → H x → H (after_node x Ticks)
   ticked x lasts h = by ((before_attempt x).attempt_wait == 1) refl
     where
       there : H (before_attempt x)
-      there = again (after_hold_tick x) (same x (after_hold_tick x) refl (λ b. refl) refl refl refl refl refl h)
+      there = again (after_hold_tick x) (record { listens = h.listens; ends = laws.freed x h.ends })
 
       by : (b : Bool) → ((before_attempt x).attempt_wait == 1) ≡ b → H (if b then after_attempt_end (before_attempt x) BetweenTicks else with_wait (before_attempt x) ((before_attempt x).attempt_wait - 1))
       by true is = absurd (lasts (sym (again_tick_wait (after_hold_tick x)) ∙ eqb-true (before_attempt x).attempt_wait 1 is))
-      by false is = same (before_attempt x) (with_wait (before_attempt x) ((before_attempt x).attempt_wait - 1)) refl (λ b. b) refl refl refl refl refl there
+      by false is = same (before_attempt x) (with_wait (before_attempt x) ((before_attempt x).attempt_wait - 1)) refl refl refl refl refl refl refl there
 
   node_hand : (k : ℕ) (x : NodeState) (event : NodeEvent) → Allowed k x event → H x → H (after_node x event)
-  node_hand k x Joins allowed h = same x (after_node x Joins) refl (λ b. b) refl refl refl refl refl h
+  node_hand k x Joins allowed h = same x (after_node x Joins) refl refl refl refl refl refl refl h
   node_hand k x (Interviews listens classes) allowed h = absurd allowed
   node_hand k x (Puts other) allowed h = put x other h
   node_hand k x Takes_back allowed h = absurd allowed
   node_hand k x Accepts allowed h = occasion x h
   node_hand k x (Cancels other) allowed h = absurd allowed
-  node_hand k x Begins allowed h = record { listens = h.listens; unblocked = h.unblocked; ends = laws.begun x allowed h.ends }
+  node_hand k x Begins allowed h = record { listens = h.listens; ends = laws.begun x allowed h.ends }
   node_hand k x Blocks allowed h = absurd allowed
   node_hand k x (Starts Whole) allowed h = running x (after_node x (Starts Whole)) refl refl refl refl refl allowed h
   node_hand k x (Starts (Segments count)) allowed h = running x (after_node x (Starts (Segments count))) refl refl refl refl refl allowed h
   node_hand k x (Starts (Sealed plain)) allowed h = running x (after_node x (Starts (Sealed plain))) refl refl refl refl refl allowed h
-  node_hand k x Gives_segment allowed h = same x (after_node x Gives_segment) refl (λ b. b) refl refl refl refl refl h
-  node_hand k x Gives_text allowed h = same x (after_node x Gives_text) refl (λ b. b) refl refl refl refl refl h
+  node_hand k x Gives_segment allowed h = same x (after_node x Gives_segment) refl refl refl refl refl refl refl h
+  node_hand k x Gives_text allowed h = same x (after_node x Gives_text) refl refl refl refl refl refl refl h
   node_hand k x Succeeds allowed h = sign x h
-  node_hand k x (Takes_nonce seen text) allowed h = same x (after_node x (Takes_nonce seen text)) refl (λ b. b) refl refl refl refl refl h
-  node_hand k x (Restores_seen seen) allowed h = same x (after_node x (Restores_seen seen)) refl (λ b. b) refl refl refl refl refl h
+  node_hand k x (Takes_nonce seen text) allowed h = same x (after_node x (Takes_nonce seen text)) refl refl refl refl refl refl refl h
+  node_hand k x (Restores_seen seen) allowed h = same x (after_node x (Restores_seen seen)) refl refl refl refl refl refl refl h
   node_hand k x (Ends_attempt moment) allowed h = absurd allowed
   node_hand k x (Reports id status) allowed h = told x status (told_of x.book id status) h
-  node_hand k x Holds allowed h = same x (after_node x Holds) refl (λ b. b) refl refl refl refl refl h
-  node_hand k x Notifies allowed h = occasion (record x { awake = true; no_more = tried_again x.no_more }) (same x (record x { awake = true; no_more = tried_again x.no_more }) refl (λ b. b) refl refl refl refl refl h)
+  node_hand k x Holds allowed h = same x (after_node x Holds) refl refl refl refl refl refl refl h
+  node_hand k x Notifies allowed h = occasion (record x { awake = true; no_more = tried_again x.no_more }) (same x (record x { awake = true; no_more = tried_again x.no_more }) refl refl refl refl refl refl refl h)
   node_hand k x Sleeps allowed h = sleep x h
-  node_hand k x Queues_no_more allowed h = same x (after_node x Queues_no_more) refl (λ b. b) refl refl refl refl refl h
-  node_hand k x Drops_no_more allowed h = same x (after_node x Drops_no_more) refl (λ b. b) refl refl refl refl refl h
-  node_hand k x Ends_no_more allowed h = sleep (after_no_more x Unasked) (same x (after_no_more x Unasked) refl (λ b. b) refl refl refl refl refl h)
+  node_hand k x Queues_no_more allowed h = same x (after_node x Queues_no_more) refl refl refl refl refl refl refl h
+  node_hand k x Drops_no_more allowed h = same x (after_node x Drops_no_more) refl refl refl refl refl refl refl h
+  node_hand k x Ends_no_more allowed h = sleep (after_no_more x Unasked) (same x (after_no_more x Unasked) refl refl refl refl refl refl refl h)
   node_hand k x Ticks allowed h = ticked x allowed h
   node_hand k x Restarts allowed h = absurd allowed
 
@@ -350,12 +341,14 @@ module _ (E : NodeState → Type 0) (laws : KeptLaws E) where
 
 -- ---- the command is in hand
 
-module _ (command : ℕ) (D R : ℕ → Type 0) (starts : (more : ℕ) → D more → R more) (less : (more : ℕ) → D (suc more) → D more) (over : (more : ℕ) → R (suc more) → D more) where
+module _ (command : ℕ) (D R V : ℕ → Type 0) (starts : (more : ℕ) → D more → R more) (less : (more : ℕ) → D (suc more) → D more) (over : (more : ℕ) → R (suc more) → D more) (fewer : (more : ℕ) → V (suc more) → V more) (free : (more : ℕ) → V more → D more) where
   abbrev E : NodeState → Type 0
-  E x = Ends command D R x
+  E x = Ends command D R V x
 
-  ends_as : (x y : NodeState) → y.book.commands ≡ x.book.commands → y.book.outcome ≡ x.book.outcome → y.series ≡ x.series → ((other place : ℕ) → StandsAt other place x.waiting → StandsAt other place y.waiting) → E x → E y
-  ends_as x y commands outcome series_is stands e = by e
+  -- where a blocked node is as it was, or is so no longer
+  ends_by : (x y : NodeState) → y.book.commands ≡ x.book.commands → y.book.outcome ≡ x.book.outcome → y.series ≡ x.series → ((more : ℕ) → (x.blocked ≡ false → D more) → (x.blocked ≡ true → V more) → y.blocked ≡ false → D more)
+      → ((more : ℕ) → (x.blocked ≡ true → V more) → y.blocked ≡ true → V more) → ((other place : ℕ) → StandsAt other place x.waiting → StandsAt other place y.waiting) → E x → E y
+  ends_by x y commands outcome series_is frees holds stands e = by e
     where
       comes : (more session : ℕ) → ComesAfter more command session x → ComesAfter more command session y
       comes zero session is = ap (λ (cs : List ℕ). command_at cs session) commands ∙ is
@@ -363,9 +356,22 @@ module _ (command : ℕ) (D R : ℕ → Type 0) (starts : (more : ℕ) → D mor
 
       by : E x → E y
       by (Ended ended) = Ended (same_ended command x.book y.book commands outcome ended)
-      by (Idles more none idle at d) = Idles more (same_open x.book y.book commands outcome ∙ none) (series_is ∙ idle) (stands command more at) d
-      by (Due more session opened so at d) = Due more session (same_open x.book y.book commands outcome ∙ opened) (series_is ∙ so) (comes more session at) d
-      by (Runs more session opened so at r) = Runs more session (same_open x.book y.book commands outcome ∙ opened) (series_is ∙ so) (comes more session at) r
+      by (Idles more none idle at d v) = Idles more (same_open x.book y.book commands outcome ∙ none) (series_is ∙ idle) (stands command more at) (frees more d v) (holds more v)
+      by (Due more session opened so at d v) = Due more session (same_open x.book y.book commands outcome ∙ opened) (series_is ∙ so) (comes more session at) d (holds more v)
+      by (Runs more session opened so at r v) = Runs more session (same_open x.book y.book commands outcome ∙ opened) (series_is ∙ so) (comes more session at) r (holds more v)
+
+  ends_as : (x y : NodeState) → y.book.commands ≡ x.book.commands → y.book.outcome ≡ x.book.outcome → y.series ≡ x.series → y.blocked ≡ x.blocked → ((other place : ℕ) → StandsAt other place x.waiting → StandsAt other place y.waiting) → E x → E y
+  ends_as x y commands outcome series_is blocked stands e =
+      ends_by x y commands outcome series_is (λ more d v is_free. d (sym blocked ∙ is_free)) (λ more v is_blocked. v (sym blocked ∙ is_blocked)) stands e
+
+  -- blocked or not
+  anyway : (more : ℕ) (b : Bool) → (b ≡ false → D more) → (b ≡ true → V more) → D more
+  anyway more false d v = d refl
+  anyway more true d v = free more (v refl)
+
+  freed_ends : (x : NodeState) → E x → E (after_hold_tick x)
+  freed_ends x e =
+      ends_by x (after_hold_tick x) refl refl refl (λ more d v is_free. anyway more x.blocked d v) (λ more v is_blocked. absurd (let wrong : false ≡ true = is_blocked in cc)) (λ other place at. at) e
 
   either_ends : (b : Bool) (x y : NodeState) → E x → E y → E (if b then x else y)
   either_ends true x y first later = first
@@ -394,9 +400,9 @@ module _ (command : ℕ) (D R : ℕ → Type 0) (starts : (more : ℕ) → D mor
 
   occasion_ends : (x : NodeState) → E x → E (after_occasion x)
   occasion_ends x (Ended is) = either_ends (is_open x && is_up x && is_idle x.series) (new_series x) x (Ended (same_ended command x.book (new_series x).book refl refl is)) (Ended is)
-  occasion_ends x (Idles more none idle at d) = none_series (open_session x.book) x none (Idles more none idle at d)
-  occasion_ends x (Due more session opened so at d) = no_series (is_open x) (is_up x) x.series x (not_idle x.series series.Due so due_busy) (Due more session opened so at d)
-  occasion_ends x (Runs more session opened so at r) = no_series (is_open x) (is_up x) x.series x (not_idle x.series series.Running so runs_busy) (Runs more session opened so at r)
+  occasion_ends x (Idles more none idle at d v) = none_series (open_session x.book) x none (Idles more none idle at d v)
+  occasion_ends x (Due more session opened so at d v) = no_series (is_open x) (is_up x) x.series x (not_idle x.series series.Due so due_busy) (Due more session opened so at d v)
+  occasion_ends x (Runs more session opened so at r v) = no_series (is_open x) (is_up x) x.series x (not_idle x.series series.Running so runs_busy) (Runs more session opened so at r v)
 
   told_ends : (x : NodeState) (status : ℕ) → E x → E (after_told x status (Final 0))
   told_ends x status (Ended is) = Ended (record { session = is.session; was = is.was; past = past is.past })
@@ -404,11 +410,11 @@ module _ (command : ℕ) (D R : ℕ → Type 0) (starts : (more : ℕ) → D mor
       past : IsPast is.session x.book → IsPast is.session (after_told x status (Final 0)).book
       past (inl more) = inl more
       past (inr (last, none)) = inr (last, refl)
-  told_ends x status (Idles more none idle at d) = Idles more refl refl at d
-  told_ends x status (Due zero session opened so at d) = Ended (record { session = session; was = at; past = inr (begun_is x.book session opened, refl) })
-  told_ends x status (Due (suc more) session opened so at d) = Idles more refl refl at (less more d)
-  told_ends x status (Runs zero session opened so at r) = Ended (record { session = session; was = at; past = inr (begun_is x.book session opened, refl) })
-  told_ends x status (Runs (suc more) session opened so at r) = Idles more refl refl at (over more r)
+  told_ends x status (Idles more none idle at d v) = Idles more refl refl at d v
+  told_ends x status (Due zero session opened so at d v) = Ended (record { session = session; was = at; past = inr (begun_is x.book session opened, refl) })
+  told_ends x status (Due (suc more) session opened so at d v) = Idles more refl refl at (λ is_free. less more d) (λ is_blocked. fewer more (v is_blocked))
+  told_ends x status (Runs zero session opened so at r v) = Ended (record { session = session; was = at; past = inr (begun_is x.book session opened, refl) })
+  told_ends x status (Runs (suc more) session opened so at r v) = Idles more refl refl at (λ is_free. over more r) (λ is_blocked. fewer more (v is_blocked))
 
   begun_ends : (x : NodeState) → open_session x.book ≡ None → E x → E (after_node x Begins)
   begun_ends x closed e = by e
@@ -423,21 +429,22 @@ module _ (command : ℕ) (D R : ℕ → Type 0) (starts : (more : ℕ) → D mor
       past session (inl more) = inl (omega (arith, more, one_more))
       past session (inr (last, none)) = inl (omega (arith, last, one_more))
 
-      first : (more : ℕ) (before behind : List ℕ) → x.waiting ≡ before ++ command ∷ behind → length before ≡ more → D more → E (after_node x Begins)
-      first more [] behind are is d =
+      first : (more : ℕ) (before behind : List ℕ) → x.waiting ≡ before ++ command ∷ behind → length before ≡ more → D more → (x.blocked ≡ true → V more) → E (after_node x Begins)
+      first more [] behind are is d v =
           let it : oldest x ≡ command = ap (λ (ws : List ℕ). slice_index ws 0) are in
-          Due 0 (length x.book.commands + 1) opens refl (command_last x.book.commands (oldest x) ∙ ap Some it) (subst D (sym is) d)
-      first more (other ∷ before) behind are is d =
+          Due 0 (length x.book.commands + 1) opens refl (command_last x.book.commands (oldest x) ∙ ap Some it) (subst D (sym is) d) (λ is_blocked. subst V (sym is) (v is_blocked))
+      first more (other ∷ before) behind are is d v =
           Due (suc (length before)) (length x.book.commands + 1) opens refl (record { before = before; behind = behind; are = ap (λ (ws : List ℕ). drop 1 ws) are; place_is = refl }) (subst D (sym is) d)
+          (λ is_blocked. subst V (sym is) (v is_blocked))
 
       by : E x → E (after_node x Begins)
       by (Ended is) = Ended (record { session = is.session; was = command_before x.book.commands is.session command (oldest x) is.was; past = past is.session is.past })
-      by (Idles more none idle at d) = first more at.before at.behind at.are at.place_is d
-      by (Due more session opened so at d) = absurd (let no : Some session ≡ None = sym opened ∙ closed in cc)
-      by (Runs more session opened so at r) = absurd (let no : Some session ≡ None = sym opened ∙ closed in cc)
+      by (Idles more none idle at d v) = first more at.before at.behind at.are at.place_is (anyway more x.blocked d v) v
+      by (Due more session opened so at d v) = absurd (let no : Some session ≡ None = sym opened ∙ closed in cc)
+      by (Runs more session opened so at r v) = absurd (let no : Some session ≡ None = sym opened ∙ closed in cc)
 
-  started_ends : (x y : NodeState) → y.book ≡ x.book → y.waiting ≡ x.waiting → y.series ≡ series.Running → x.series ≡ series.Due → E x → E y
-  started_ends x y book waiting runs due e = by e
+  started_ends : (x y : NodeState) → y.book ≡ x.book → y.blocked ≡ x.blocked → y.waiting ≡ x.waiting → y.series ≡ series.Running → x.series ≡ series.Due → E x → E y
+  started_ends x y book blocked waiting runs due e = by e
     where
       comes : (more session : ℕ) → ComesAfter more command session x → ComesAfter more command session y
       comes zero session is = ap (λ (b : HostBook). command_at b.commands session) book ∙ is
@@ -445,9 +452,9 @@ module _ (command : ℕ) (D R : ℕ → Type 0) (starts : (more : ℕ) → D mor
 
       by : E x → E y
       by (Ended is) = Ended (subst (HasEnded command) (sym book) is)
-      by (Idles more none idle at d) = absurd (let no : series.Due ≡ series.Idle = sym due ∙ idle in cc)
-      by (Due more session opened so at d) = Runs more session (ap open_session book ∙ opened) runs (comes more session at) (starts more d)
-      by (Runs more session opened so at r) = absurd (let no : series.Due ≡ series.Running = sym due ∙ so in cc)
+      by (Idles more none idle at d v) = absurd (let no : series.Due ≡ series.Idle = sym due ∙ idle in cc)
+      by (Due more session opened so at d v) = Runs more session (ap open_session book ∙ opened) runs (comes more session at) (starts more d) (λ is_blocked. v (sym blocked ∙ is_blocked))
+      by (Runs more session opened so at r v) = absurd (let no : series.Due ≡ series.Running = sym due ∙ so in cc)
 
   again_ends : (x : NodeState) → E x → E (after_again_tick x)
   again_ends x e =
@@ -455,28 +462,34 @@ module _ (command : ℕ) (D R : ℕ → Type 0) (starts : (more : ℕ) → D mor
       (either_ends (has_waiting (with_again x 0)) (after_occasion (with_again x 0)) (with_again x 0) (occasion_ends (with_again x 0) (waited 0)) (waited 0)) (waited (x.again_wait - 1))
     where
       waited : (wait : ℕ) → E (with_again x wait)
-      waited wait = ends_as x (with_again x wait) refl refl refl (λ other place at. at) e
+      waited wait = ends_as x (with_again x wait) refl refl refl refl (λ other place at. at) e
 
   pub ends_kept : KeptLaws E
   ends_kept = record {
-    as_was = λ x y commands outcome series_is again_is stands e. ends_as x y commands outcome series_is stands e;
+    as_was = λ x y commands outcome series_is again_is blocked stands e. ends_as x y commands outcome series_is blocked stands e;
     occasion = occasion_ends;
     ended = told_ends;
     begun = begun_ends;
     started = started_ends;
     again = λ x listens e. again_ends x e;
+    freed = freed_ends;
   }
 
   -- or a wait is over first
-  module _ (W : ℕ → ℕ → Type 0) (falls : (more wait : ℕ) → W more (suc wait) → W more wait) (due_then : (more wait : ℕ) → W more wait → D (suc more)) (left_then : (more wait : ℕ) → W more wait → D more) where
+  module _ (W : ℕ → ℕ → Type 0) (falls : (more wait : ℕ) → W more (suc wait) → W more wait) (due_then : (more wait : ℕ) → W more wait → D (suc more)) (left_then : (more wait : ℕ) → W more wait → D more)
+      (held_then : (more wait : ℕ) → W more wait → V (suc more)) where
     abbrev L : NodeState → Type 0
-    L x = EndsLater command D R W x
+    L x = EndsLater command D R V W x
 
-    later_as : (x y : NodeState) → y.book.commands ≡ x.book.commands → y.book.outcome ≡ x.book.outcome → y.series ≡ x.series → y.again_wait ≡ x.again_wait
+    later_as : (x y : NodeState) → y.book.commands ≡ x.book.commands → y.book.outcome ≡ x.book.outcome → y.series ≡ x.series → y.again_wait ≡ x.again_wait → y.blocked ≡ x.blocked
         → ((other place : ℕ) → StandsAt other place x.waiting → StandsAt other place y.waiting) → L x → L y
-    later_as x y commands outcome series_is again_is stands (Goes_on e) = Goes_on (ends_as x y commands outcome series_is stands e)
-    later_as x y commands outcome series_is again_is stands (Rests more session wait opened idle again at w) =
+    later_as x y commands outcome series_is again_is blocked stands (Goes_on e) = Goes_on (ends_as x y commands outcome series_is blocked stands e)
+    later_as x y commands outcome series_is again_is blocked stands (Rests more session wait opened idle again at w) =
         Rests more session wait (same_open x.book y.book commands outcome ∙ opened) (series_is ∙ idle) (again_is ∙ again) (stands command more at) w
+
+    freed_later : (x : NodeState) → L x → L (after_hold_tick x)
+    freed_later x (Goes_on e) = Goes_on (freed_ends x e)
+    freed_later x (Rests more session wait opened idle again at w) = Rests more session wait opened idle again at w
 
     either_later : (b : Bool) (x y : NodeState) → L x → L y → L (if b then x else y)
     either_later true x y first later = first
@@ -484,7 +497,7 @@ module _ (command : ℕ) (D R : ℕ → Type 0) (starts : (more : ℕ) → D mor
 
     -- the next series begins
     next_due : (x : NodeState) (more session wait : ℕ) → open_session x.book ≡ Some session → StandsAt command more x.waiting → W more wait → L (new_series x)
-    next_due x more session wait opened at w = Goes_on (Due (suc more) session (same_open x.book (new_series x).book refl refl ∙ opened) refl at (due_then more wait w))
+    next_due x more session wait opened at w = Goes_on (Due (suc more) session (same_open x.book (new_series x).book refl refl ∙ opened) refl at (due_then more wait w) (λ is_blocked. held_then more wait w))
 
     occasion_later : (x : NodeState) → L x → L (after_occasion x)
     occasion_later x (Goes_on e) = Goes_on (occasion_ends x e)
@@ -492,15 +505,15 @@ module _ (command : ℕ) (D R : ℕ → Type 0) (starts : (more : ℕ) → D mor
 
     told_later : (x : NodeState) (status : ℕ) → L x → L (after_told x status (Final 0))
     told_later x status (Goes_on e) = Goes_on (told_ends x status e)
-    told_later x status (Rests more session wait opened idle again at w) = Goes_on (Idles more refl refl at (left_then more wait w))
+    told_later x status (Rests more session wait opened idle again at w) = Goes_on (Idles more refl refl at (λ is_free. left_then more wait w) (λ is_blocked. fewer more (held_then more wait w)))
 
     begun_later : (x : NodeState) → open_session x.book ≡ None → L x → L (after_node x Begins)
     begun_later x closed (Goes_on e) = Goes_on (begun_ends x closed e)
     begun_later x closed (Rests more session wait opened idle again at w) = absurd (let no : Some session ≡ None = sym opened ∙ closed in cc)
 
-    started_later : (x y : NodeState) → y.book ≡ x.book → y.waiting ≡ x.waiting → y.series ≡ series.Running → x.series ≡ series.Due → L x → L y
-    started_later x y book waiting runs due (Goes_on e) = Goes_on (started_ends x y book waiting runs due e)
-    started_later x y book waiting runs due (Rests more session wait opened idle again at w) = absurd (let no : series.Due ≡ series.Idle = sym due ∙ idle in cc)
+    started_later : (x y : NodeState) → y.book ≡ x.book → y.blocked ≡ x.blocked → y.waiting ≡ x.waiting → y.series ≡ series.Running → x.series ≡ series.Due → L x → L y
+    started_later x y book blocked waiting runs due (Goes_on e) = Goes_on (started_ends x y book blocked waiting runs due e)
+    started_later x y book blocked waiting runs due (Rests more session wait opened idle again at w) = absurd (let no : series.Due ≡ series.Idle = sym due ∙ idle in cc)
 
     both_true : (a b c : Bool) → a ≡ true → b ≡ true → c ≡ true → (a && b && c) ≡ true
     both_true true true true first second third = refl
@@ -525,12 +538,20 @@ module _ (command : ℕ) (D R : ℕ → Type 0) (starts : (more : ℕ) → D mor
         (Rests more session wait opened idle less at (falls more wait w))
 
     pub later_kept : KeptLaws L
-    later_kept = record { as_was = later_as; occasion = occasion_later; ended = told_later; begun = begun_later; started = started_later; again = again_later }
+    later_kept = record { as_was = later_as; occasion = occasion_later; ended = told_later; begun = begun_later; started = started_later; again = again_later; freed = freed_later }
 
--- ---- the host may serve the node
+-- ---- the host listens to the node
 
 abbrev pub Any : NodeState → Type 0
 Any x = Unit {0}
 
 pub any_kept : KeptLaws Any
-any_kept = record { as_was = λ x y commands outcome series_is again_is stands e. tt; again = λ x listens e. tt; occasion = λ x e. tt; ended = λ x status e. tt; begun = λ x closed e. tt; started = λ x y book waiting runs due e. tt }
+any_kept = record {
+  as_was = λ x y commands outcome series_is again_is blocked stands e. tt;
+  again = λ x listens e. tt;
+  freed = λ x e. tt;
+  occasion = λ x e. tt;
+  ended = λ x status e. tt;
+  begun = λ x closed e. tt;
+  started = λ x y book blocked waiting runs due e. tt;
+}

@@ -39,6 +39,7 @@ use Rattle.proof_answered.specs.proof_calm.Settling.{HasMoved, IsDone}
 use Rattle.proof_answered.specs.proof_calm.Tied.{At_chip, Called, HasRoom, IsCalled, IsTied, LeavesIt, LeaveIt, Nowhere, On_way, RoomAt, TieAt, TieOf, Tied, ends_of, on_line, unheard}
 use Rattle.proof_answered.specs.proof_calm.Undisturbed.{HasNone, IsTaken}
 use Rattle.proof_answered.proofs.Judging.{AnyFrame}
+use Rattle.proof_answered.proofs.TurnOrder.{turn_least}
 use Rattle.proof_answered.proofs.Awaiting.{sends_nothing}
 use Rattle.proof_answered.proofs.Calm.{does_calm, takes_calm}
 use Rattle.proof_answered.proofs.TurnOrder.{comes_nearer, none_works}
@@ -78,12 +79,12 @@ IsOwed here m = ⊥
 
 -- an attempt of the node that has work starts within so many ticks
 pub data ComesTo (these : List Bool) (n ticks : ℕ) (here : Phase) (m : Machine) : Type 0 where
-  In_turn : turn_of these m.host.state.served n + 4 ≤ ticks → ComesTo these n ticks here m
-  Owed : IsOwed here m → turn_of these m.host.state.served n + 3 ≤ ticks → ComesTo these n ticks here m
+  In_turn : turn_of these m.host.state.served n + 7 ≤ ticks → ComesTo these n ticks here m
+  Owed : IsOwed here m → turn_of these m.host.state.served n + 6 ≤ ticks → ComesTo these n ticks here m
 
-pub three_left : (these : List Bool) (n ticks : ℕ) (here : Phase) (m : Machine) → ComesTo these n ticks here m → 3 ≤ ticks
-three_left these n ticks here m (In_turn few) = omega (arith, few)
-three_left these n ticks here m (Owed owed few) = omega (arith, few)
+pub seven_left : (these : List Bool) (n ticks : ℕ) (here : Phase) (m : Machine) → is_marked these n ≡ true → ComesTo these n ticks here m → 7 ≤ ticks
+seven_left these n ticks here m marked (In_turn few) = omega (arith, few)
+seven_left these n ticks here m marked (Owed owed few) = let least = turn_least these m.host.state.served n marked in omega (arith, few, least)
 
 -- ---- a node of which no attempt runs gives nothing but its first part
 

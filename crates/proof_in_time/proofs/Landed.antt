@@ -10,11 +10,11 @@ use Rattle.chip_sim.specs.State.{ChipState}
 use Rattle.chip_sim.specs.Waiting.{is_full}
 use Rattle.air_frames.specs.Flown.{Flown}
 use Rattle.air_frames.specs.Frames.{next_of}
-use Rattle.air_frames.specs.History.{Goes as goes_mark}
+use Rattle.air_frames.specs.History.{Mark, Goes as goes_mark}
 use Rattle.air_frames.specs.declared.frame.Departure.{Departure}
 use Rattle.air_frames.specs.declared.frame.Heading.{Heading}
 use Rattle.air_frames.specs.declared.frame.Heading.TheVariants.{Homeward}
-use Rattle.device_sim.specs.Event.{Hears, device_replies}
+use Rattle.device_sim.specs.Event.{Hears, Ticks, device_replies}
 use Rattle.device_sim.specs.State.{State}
 use Rattle.mesh_sim.specs.Air.{AirState, departing, is_joined, no_route}
 use Rattle.mesh_sim.specs.Fates.{Mesh, dead_hop_of, fate_by, fate_of, listener_of}
@@ -26,7 +26,8 @@ use Rattle.mesh_sim.specs.declared.fate.Fate.TheVariants.{Lost, AtChip, AtDevice
 use Rattle.outside_model.specs.Air.{deals, to_chip}
 use Rattle.outside_model.specs.Chip.{chip_does}
 use Rattle.outside_model.specs.State.{OuterState, Outside, each, silent}
-use Rattle.outside_model.specs.Events.{Arrives, mesh_of, outcome, happens as happens_outside}
+use Rattle.outside_model.specs.Devices.{acts_at}
+use Rattle.outside_model.specs.Events.{Arrives, Device_ticks, mesh_of, outcome, happens as happens_outside}
 use Rattle.world_model.specs.Events.{Outside_does, happens}
 use Rattle.world_model.specs.State.{Machine}
 use Rattle.proof_answered.specs.proof_calm.proof_traffic.Flights.{Fly, flown_now}
@@ -35,7 +36,7 @@ use Rattle.proof_answered.specs.proof_calm.Awaited.{Awaits}
 use Rattle.proof_answered.specs.proof_calm.Live.{IsLive}
 use Rattle.proof_answered.specs.proof_calm.Resting.{IsGiven}
 use Rattle.proof_answered.specs.proof_calm.Tied.{unheard}
-use Rattle.proof_answered.proofs.ChipNotices.{arrived_air}
+use Rattle.proof_answered.proofs.ChipNotices.{arrived_air, entered_leaves}
 use Rattle.proof_answered.proofs.Flights.{flights_are}
 use Rattle.proof_answered.proofs.Judging.{AnyFrame}
 use Rattle.proof_answered.proofs.Pending.{IsServed, has_room, has_served, line_more, line_of}
@@ -133,7 +134,21 @@ reply_air w drawn route frame place device reply next fate there joined replies 
     ∙ (ap (λ (b : Bool). answered_if b a frame.node (option_map backwards route) (device_replies device (Hears frame.payload drawn))) joined
     ∙ ap (λ (rs : List (List ℕ)). answered a frame.node (option_map backwards route) rs) replies))))
 
--- its answer is the last of the frames on the air
+-- a report that a device sends is the last of the frames on the air
+report_stands : (airs : Airs) (log : List Mark) (flights : List Flown) (a later : AirState) (n session : ℕ) (way : Option Route) (reply : List ℕ) → n < 233 → Fly log flights a.frames → later ≡ departing a n Homeward way reply → TellsEnd session reply
+    → Stands (IsReport n session) (on_air later.frames)
+report_stands airs log flights a later n session way reply within fly air_is tells =
+    let d : Departure = record { node = n; heading = Homeward; route = unwrap_or way no_route; lost = nat_lt 0 a.losing || is_none way; payload = reply } in
+    let flown : Fly (log ++ goes_mark d ∷ []) (flights ++ flown_now log d ∷ []) (departing a n Homeward way reply).frames = airs.goes log flights a.frames d within fly in
+    record {
+      before = flights;
+      frame = flown_now log d;
+      behind = [];
+      are = ap (λ (air : AirState). on_air air.frames) air_is ∙ sym (flights_are (log ++ goes_mark d ∷ []) (flights ++ flown_now log d ∷ []) (departing a n Homeward way reply).frames flown);
+      is = record { node = refl; home = refl; tells = tells };
+    }
+
+-- its answer to a message
 pub answer_flies : (airs : Airs) (m : Machine) (is : Awaits m) (drawn : List ℕ) (route : Option Route) (at : Arrived airs m is drawn route) (session place : ℕ) (device : State) (reply : List ℕ)
     → fate_of m.outside.outer.air.network m.outside.devices at.frame ≡ AtDevice place → slice_get m.outside.devices place ≡ Some device → is_joined m.outside.outer.air at.frame.node ≡ true → at.frame.node < 233
     → device_replies device (Hears at.frame.payload drawn) ≡ reply ∷ [] → TellsEnd session reply
@@ -141,15 +156,23 @@ pub answer_flies : (airs : Airs) (m : Machine) (is : Awaits m) (drawn : List ℕ
 unfolding happens
 answer_flies airs m is drawn route at session place device reply fate there joined within replies tells =
     let a : AirState = landed (acknowledged m.outside.outer.air) in
-    let way : Option Route = option_map backwards route in
-    let d : Departure = record { node = at.frame.node; heading = Homeward; route = unwrap_or way no_route; lost = nat_lt 0 a.losing || is_none way; payload = reply } in
-    let flown : Fly (is.log ++ goes_mark d ∷ []) (at.rest ++ flown_now is.log d ∷ []) (departing a at.frame.node Homeward way reply).frames =
-    airs.goes is.log at.rest a.frames d within (airs.lands is.log at.frame at.rest m.outside.outer.air.frames at.fly_there) in
-    let air_is = reply_air m.outside drawn route at.frame place device reply at.next fate there joined replies in
-    record {
-      before = at.rest;
-      frame = flown_now is.log d;
-      behind = [];
-      are = ap (λ (air : AirState). on_air air.frames) air_is ∙ sym (flights_are (is.log ++ goes_mark d ∷ []) (at.rest ++ flown_now is.log d ∷ []) (departing a at.frame.node Homeward way reply).frames flown);
-      is = record { node = refl; home = refl; tells = tells };
-    }
+    report_stands airs is.log at.rest a (happens_outside m.outside (Arrives drawn route)).outer.air at.frame.node session (option_map backwards route) reply within (airs.lands is.log at.frame at.rest m.outside.outer.air.frames at.fly_there)
+    (reply_air m.outside drawn route at.frame place device reply at.next fate there joined replies) tells
+
+-- the end of its work, as it ticks
+tick_air : (w : Outside) (place : ℕ) (device : State) (drawn : List ℕ) (route : Option Route) (reply : List ℕ) → slice_get w.devices place ≡ Some device → is_joined w.outer.air device.node ≡ true → device_replies device (Ticks drawn) ≡ reply ∷ []
+    → (happens_outside w (Device_ticks place drawn route)).outer.air ≡ departing w.outer.air device.node Homeward (option_map backwards route) reply
+unfolding outcome
+tick_air w place device drawn route reply there joined replies =
+    (entered_leaves (outcome w (Device_ticks place drawn route)).outer (outcome w (Device_ticks place drawn route)).entries).air
+    ∙ (ap (λ (found : Option State). (acts_at w.outer found (Ticks drawn) route).outer.air) there
+    ∙ (ap (λ (b : Bool). answered_if b w.outer.air device.node (option_map backwards route) (device_replies device (Ticks drawn))) joined
+    ∙ ap (λ (rs : List (List ℕ)). answered w.outer.air device.node (option_map backwards route) rs) replies))
+
+pub tick_flies : (airs : Airs) (m : Machine) (is : Awaits m) (place : ℕ) (device : State) (drawn : List ℕ) (route : Option Route) (session : ℕ) (reply : List ℕ) → slice_get m.outside.devices place ≡ Some device
+    → is_joined m.outside.outer.air device.node ≡ true → device.node < 233 → device_replies device (Ticks drawn) ≡ reply ∷ [] → TellsEnd session reply
+    → Stands (IsReport device.node session) (on_air (happens m (Outside_does (Device_ticks place drawn route))).outside.outer.air.frames)
+unfolding happens
+tick_flies airs m is place device drawn route session reply there joined within replies tells =
+    report_stands airs is.log (on_air m.outside.outer.air.frames) m.outside.outer.air (happens_outside m.outside (Device_ticks place drawn route)).outer.air device.node session (option_map backwards route) reply within is.follows.fly
+    (tick_air m.outside place device drawn route reply there joined replies) tells

@@ -46,7 +46,7 @@ waited_both : (ticks : ℕ) (first later : List Line) → waited_by ticks (first
 waited_both ticks [] later = refl
 waited_both ticks (one ∷ first) later = waited_both (waited_step ticks one) first later
 
-pub ticks_most : (these : List Bool) (sessions : ℕ) → marked_to these 232 ≤ 16 → ticks_of_all these sessions ≤ 20 * sessions
+pub ticks_most : (these : List Bool) (sessions : ℕ) → marked_to these 232 ≤ 16 → ticks_of_all these sessions ≤ 23 * sessions
 ticks_most these zero few = omega arith
 ticks_most these (suc sessions) few = let rest = ticks_most these sessions few in omega (arith, few, rest)
 

@@ -1,5 +1,5 @@
 -- From phase to phase no wait of an attempt runs out.
-use Rattle.std.proofs.Common.{◌≡◌, ◌≢◌, ◌≤◌, ◌<◌, ℕ, zero, suc, ◌+◌, ◌-◌, nat_lt, inl, inr, Bool, true, false, if◌then◌else◌, List, [], ◌∷◌, ◌++◌, length, refl, sym, ap, ◌∙◌, subst, arith}
+use Rattle.std.proofs.Common.{◌≡◌, ◌≢◌, ◌≤◌, ◌<◌, ℕ, zero, suc, ◌+◌, ◌-◌, ◌&&◌, nat_le, nat_lt, inl, inr, Bool, true, false, if◌then◌else◌, List, [], ◌∷◌, ◌++◌, length, refl, sym, ap, ◌∙◌, subst, arith}
 use Rattle.std.proofs.lemmas.Bool.Decides.{nat_tests}
 use Rattle.std.specs.Prelude.{◌⊎◌, Some, None, slice_index_or}
 use Rattle.std.specs.List.{AllByRecursion, list_any}
@@ -45,11 +45,12 @@ use Rattle.proof_answered.specs.Workers.{IsWorkedFor, KnowStaff, KnowsWorkers}
 use Rattle.proof_answered.proofs.Outwards.{marked_within}
 use Rattle.proof_answered.proofs.Staffing.{sent_on}
 use Rattle.proof_answered.proofs.Walking.{none_given}
-use Rattle.proof_in_time.specs.Coming.{AllWaitFor, AreInAir, AreWaiting, AsksFor, Asked, Coming, Flies, GoWhole, Has, IsAsking, IsKept, IsKeptFor, KnowPlainly, KnowWaits, Sent, Told, WaitsFor, brings, one_later, ticks_left}
+use Rattle.proof_in_time.specs.Coming.{AllWaitFor, AreInAir, AreWaiting, AsksFor, Asked, At_work, Coming, Flies, GoWhole, Has, IsAsking, IsBusy, IsKept, IsKeptFor, KnowPlainly, KnowWaits, Sent, Told, WaitsFor, brings, has_ticked, one_later, ticks_left}
 use Rattle.proof_in_time.specs.InStep.{IsPlainly}
 use Rattle.proof_in_time.proofs.Aired.{request_airs}
-use Rattle.proof_in_time.proofs.Bounded.{Devices, NoMore, arrives_wait, begins_waits, chip_waits, effect_waits, idle_lasts, lasts_of, later_waits, line_waits, session_of, still_fits, tick_event, ticks_wait, turn_waits, unfinished_waits}
-use Rattle.proof_in_time.proofs.Carried.{Fits, carry, many_on_air}
+use Rattle.proof_in_time.proofs.Bounded.{Devices, NoMore, arrives_wait, begins_waits, busy_still, chip_waits, effect_waits, idle_lasts, lasts_of, later_waits, line_waits, session_of, still_fits, tick_event, ticks_wait, turn_waits, unfinished_waits}
+use Rattle.proof_in_time.proofs.Carried.{Fits, IsNearEnd, carry, many_on_air}
+use Rattle.proof_in_time.proofs.Busy.{all_ticked, none_ticked, place_within, unless_ticking}
 use Rattle.proof_in_time.proofs.Commands.{on_whole, plain_start}
 use Rattle.proof_in_time.proofs.Grown.{same_adds}
 use Rattle.proof_in_time.proofs.Keeping.{judged_kept, kept_before, told_kept}
@@ -101,6 +102,12 @@ never_sooner place = ap (λ (b : Bool). if b then 0 else 1) (let so : nat_lt pla
 rests_none : (m : Machine) → LineRests m → unheard m.outside.outer ≡ []
 rests_none m line = ap (λ (bs : List ℕ). unheard_by bs m.outside.outer.chip.state.port) line.at_chip.down_bytes ∙ line.at_chip.waiting
 
+to_tick : (x was left : ℕ) → x ≡ 0 → 0 + 0 + was ≤ left → 0 + x + was ≤ left
+to_tick x was left none few = omega (arith, none, few)
+
+last_ticked : (x : ℕ) → x ≡ 1 → 0 + 1 ≤ 0 + x
+last_ticked x one = omega (arith, one)
+
 -- ---- where the host judges, what it is told is kept
 abbrev pub KeepsAll : Event → Type 0
 KeepsAll (Host_takes count rest items events) = AllByRecursion IsKept events
@@ -132,7 +139,7 @@ module _ (airs : Airs) (these : List Bool) (many : length these ≡ 233) (laws :
 
   -- then it is within these, or an attempt of it that was due has started
   abbrev pub LaterOn : ℕ → Phase → Machine → Event → Type 0
-  LaterOn few next m event = WaitsFor n few next (happens m event) ⊎ (((node_of m.host.state n).series ≡ series.Due) × WaitsFor n 2 next (happens m event))
+  LaterOn few next m event = WaitsFor n few next (happens m event) ⊎ (((node_of m.host.state n).series ≡ series.Due) × WaitsFor n 6 next (happens m event))
 
   abbrev Leads : ℕ → Phase → Machine → Event → Type 0
   Leads few next m event = LineAt next (happens m event) → LaterOn few next m event
@@ -162,7 +169,7 @@ module _ (airs : Airs) (these : List Bool) (many : length these ≡ 233) (laws :
       (omega (arith, room)) w))
   event_waits (Giving (suc results) ticks) next m event (route, is, to) may plainly keeps go line_at awaits room routed tie peopled listen sent joined w = absurd (none_given m results routed awaits.many)
   event_waits (Ticking_devices place (suc count) ticks) next m event (drawn, route, is, to) may plainly keeps go line_at awaits room routed tie peopled listen sent joined w =
-      as_is most next (Ticking_devices (place + 1) count ticks) m event _ is to (λ later. inl (ticks_wait airs these many laws n most marked node place count ticks m drawn route awaits.awaits w))
+      as_is most next (Ticking_devices (place + 1) count ticks) m event _ is to (λ later. inl (ticks_wait airs these many laws n most marked node place count ticks m drawn route (plainly n marked).step (joined n marked) awaits.awaits w))
   event_waits (Ticking_chip ticks) next m event (is, to) may plainly keeps go line_at awaits room routed tie peopled listen sent joined w =
       as_is most next (Ticking_decoder ticks) m event _ is to (λ later. inl (chip_waits airs these many laws n most marked node ticks m line_at later w))
   event_waits (Ticking_decoder ticks) next m event (is, to) may plainly keeps go line_at awaits room routed tie peopled listen sent joined w = as_is most next (Ticking_host _ ticks) m event _ is to (λ later. inl (unfinished_waits airs these many laws n most marked node ticks m w))
@@ -193,30 +200,34 @@ module _ (airs : Airs) (these : List Bool) (many : length these ≡ 233) (laws :
 
   -- ---- and with no event
 
-  stays : (here next : Phase) (m : Machine) → NoMore n here next → (IsAsking here → ⊥) → ((left : ℕ) → Fits n (many_on_air m) here left next left) → WaitsFor n most here m → WaitsFor n most next m
-  stays here next m less none fits w =
+  stays : (here next : Phase) (m : Machine) → NoMore n here next → (IsAsking here → ⊥) → ((left : ℕ) → Fits n (many_on_air m) here left next left)
+      → ((left : ℕ) (at : IsBusy n (session_of n m) m.outside.devices) → IsNearEnd n (session_of n m) left here m.outside.devices at → Coming n (session_of n m) left next m) → WaitsFor n most here m → WaitsFor n most next m
+  stays here next m less none fits works w =
       turn_waits n most here next less m
-      (λ left comes. carry n (session_of n m) left left here next m m (λ asking asks two. absurd (none asking)) (same_adds m.outside.outer m.outside.outer refl) (λ x has. has) (fits left) comes) w
+      (λ left comes. carry n (session_of n m) left left here next m m (λ asking asks six. absurd (none asking)) (works left) (same_adds m.outside.outer m.outside.outer refl) (λ x has. has) (fits left) comes) w
 
   to_is : (next to : Phase) (m : Machine) → next ≡ to → WaitsFor n most to m → WaitsFor n most next m
   to_is next to m same w = subst (λ (q : Phase). WaitsFor n most q m) (sym same) w
 
-  simply : (here next : Phase) (m : Machine) → (IsAsking here → ⊥) → ((place : ℕ) → ticks_left next + one_later next place ≤ ticks_left here + one_later here place) → ticks_left next ≤ ticks_left here → NoMore n here next → WaitsFor n most here m → WaitsFor n most next m
-  simply here next m none joint alone less w = stays here next m less none (λ left. still_fits n (many_on_air m) left here next joint alone) w
+  simply : (here next : Phase) (m : Machine) → (IsAsking here → ⊥) → ((place : ℕ) → ticks_left next + one_later next place ≤ ticks_left here + one_later here place) → ticks_left next ≤ ticks_left here
+      → ((place : ℕ) → ticks_left next + has_ticked next place ≤ ticks_left here + has_ticked here place) → NoMore n here next → WaitsFor n most here m → WaitsFor n most next m
+  simply here next m none joint alone near less w = stays here next m less none (λ left. still_fits n (many_on_air m) left here next joint alone) (λ left. busy_still n (session_of n m) left here next m m refl near) w
 
   -- a settling is over, and the line rests
   pumped_waits : (passes ticks : ℕ) (m : Machine) → LineAt (after_pump passes ticks) m → WaitsFor n most (Submitting passes ticks) m → WaitsFor n most (after_pump passes ticks) m
   pumped_waits zero ticks m rests w = turn_waits n most (Submitting zero ticks) (To_tick ticks) (omega arith) m goes w
     where
       goes : (left : ℕ) → Coming n (session_of n m) left (Submitting zero ticks) m → Coming n (session_of n m) left (To_tick ticks) m
-      goes left (Asked asking asks two) = absurd (let wrong = sym (ap on_line rests.at_host.turn_is) ∙ asks.frame in cc)
+      goes left (Asked asking asks six) = absurd (let wrong = sym (ap on_line rests.at_host.turn_is) ∙ asks.frame in cc)
       goes left (Sent at few) = Sent at (omega (arith, few))
       goes left (Flies at few) = Flies at (omega (arith, few))
+      goes left (At_work at few) = At_work at (omega (arith, few))
       goes left (Told payload tells has few) = absurd (subst (Has (brings n payload)) (rests_none m rests) has)
   pumped_waits (suc passes) ticks m rests w =
       turn_waits n most (Submitting (suc passes) ticks) (Moving passes ticks) (omega arith) m
       (λ left comes.
-      carry n (session_of n m) left left (Submitting (suc passes) ticks) (Moving passes ticks) m m (λ asking asks two. Asked tt asks two) (same_adds m.outside.outer m.outside.outer refl) (λ x has. has)
+      carry n (session_of n m) left left (Submitting (suc passes) ticks) (Moving passes ticks) m m (λ asking asks six. Asked tt asks six)
+      (busy_still n (session_of n m) left (Submitting (suc passes) ticks) (Moving passes ticks) m m refl (λ place. omega arith)) (same_adds m.outside.outer m.outside.outer refl) (λ x has. has)
       (still_fits n (many_on_air m) left (Submitting (suc passes) ticks) (Moving passes ticks) (λ place. omega arith) (omega arith)) comes)
       w
 
@@ -224,7 +235,8 @@ module _ (airs : Airs) (these : List Bool) (many : length these ≡ 233) (laws :
   still_waits passes ticks m tie later w =
       turn_waits n most (Moving passes ticks) (Moved false passes ticks) (omega arith) m
       (λ left comes.
-      carry n (session_of n m) left left (Moving passes ticks) (Moved false passes ticks) m m (λ asking asks two. absurd (none_asked n (session_of n m) m asks tie later)) (same_adds m.outside.outer m.outside.outer refl) (λ x has. has)
+      carry n (session_of n m) left left (Moving passes ticks) (Moved false passes ticks) m m (λ asking asks six. absurd (none_asked n (session_of n m) m asks tie later))
+      (busy_still n (session_of n m) left (Moving passes ticks) (Moved false passes ticks) m m refl (λ place. omega arith)) (same_adds m.outside.outer m.outside.outer refl) (λ x has. has)
       (still_fits n (many_on_air m) left (Moving passes ticks) (Moved false passes ticks) (λ place. omega arith) (omega arith)) comes)
       w
 
@@ -238,35 +250,44 @@ module _ (airs : Airs) (these : List Bool) (many : length these ≡ 233) (laws :
             omega (arith, soon);
         alone = omega arith;
       })
-      w
+      (λ left. busy_still n (session_of n m) left (Ticked ticks) (Arriving (m.outside.outer.air.frames.sent - m.outside.outer.air.frames.landed) ticks) m m refl (λ place. omega arith)) w
 
   giving_waits : (results ticks : ℕ) (m : Machine) → WaitsFor n most (Arriving zero ticks) m → WaitsFor n most (Giving results ticks) m
   giving_waits results ticks m w =
-      stays (Arriving zero ticks) (Giving results ticks) m (omega arith) (λ a. a) (λ left. record { joint = λ place less. let late = never_sooner place in omega (arith, late); alone = omega arith }) w
+      stays (Arriving zero ticks) (Giving results ticks) m (omega arith) (λ a. a) (λ left. record { joint = λ place less. let late = never_sooner place in omega (arith, late); alone = omega arith })
+      (λ left. busy_still n (session_of n m) left (Arriving zero ticks) (Giving results ticks) m m refl (λ place. omega arith)) w
+
+  -- the devices are to tick
+  devices_wait : (ticks : ℕ) (m : Machine) → WaitsFor n most (Giving zero ticks) m → WaitsFor n most (Ticking_devices 0 (length m.outside.devices) ticks) m
+  devices_wait ticks m w =
+      stays (Giving zero ticks) (Ticking_devices 0 (length m.outside.devices) ticks) m (omega arith) (λ a. a)
+      (λ left. still_fits n (many_on_air m) left (Giving zero ticks) (Ticking_devices 0 (length m.outside.devices) ticks) (λ place. omega arith) (omega arith)) (λ left at few.
+      At_work at
+      (to_tick (unless_ticking (nat_le 0 at.place && nat_lt at.place (0 + length m.outside.devices))) at.device.work_left left (none_ticked (length m.outside.devices) at.place (place_within m.outside.devices at.place at.device at.stands)) few)) w
 
   pub turns_wait : (here next : Phase) (m : Machine) → Turns here m next → AwaitsAt here m → TieAt here m → LineAt next m → TieAt next m → WaitsFor n most here m → WaitsFor n most next m
-  turns_wait (Begun line) next m (inl (events, is, same)) awaits tie line_next tie_next w = to_is next (Doing line events) m same (simply (Begun line) (Doing line events) m (λ a. a) (λ place. omega arith) (omega arith) (omega arith) w)
-  turns_wait (Begun line) next m (inr (ticks, is, same)) awaits tie line_next tie_next w = to_is next (To_tick ticks) m same (simply (Begun line) (To_tick ticks) m (λ a. a) (λ place. omega arith) (omega arith) (omega arith) w)
-  turns_wait (Doing line []) next m same awaits tie line_next tie_next w = to_is next (Sleeping 64 0) m same (simply (Doing line []) (Sleeping 64 0) m (λ a. a) (λ place. omega arith) (omega arith) (omega arith) w)
-  turns_wait (To_tick zero) next m same awaits tie line_next tie_next w = to_is next Between m same (simply (To_tick zero) Between m (λ a. a) (λ place. omega arith) (omega arith) (omega arith) w)
+  turns_wait (Begun line) next m (inl (events, is, same)) awaits tie line_next tie_next w = to_is next (Doing line events) m same (simply (Begun line) (Doing line events) m (λ a. a) (λ place. omega arith) (omega arith) (λ place. omega arith) (omega arith) w)
+  turns_wait (Begun line) next m (inr (ticks, is, same)) awaits tie line_next tie_next w = to_is next (To_tick ticks) m same (simply (Begun line) (To_tick ticks) m (λ a. a) (λ place. omega arith) (omega arith) (λ place. omega arith) (omega arith) w)
+  turns_wait (Doing line []) next m same awaits tie line_next tie_next w = to_is next (Sleeping 64 0) m same (simply (Doing line []) (Sleeping 64 0) m (λ a. a) (λ place. omega arith) (omega arith) (λ place. omega arith) (omega arith) w)
+  turns_wait (To_tick zero) next m same awaits tie line_next tie_next w = to_is next Between m same (simply (To_tick zero) Between m (λ a. a) (λ place. omega arith) (omega arith) (λ place. omega arith) (omega arith) w)
   turns_wait (Ticked ticks) next m same awaits tie line_next tie_next w = to_is next (Arriving _ ticks) m same (arriving_waits ticks m awaits w)
   turns_wait (Arriving zero ticks) next m same awaits tie line_next tie_next w = to_is next (Giving _ ticks) m same (giving_waits _ ticks m w)
-  turns_wait (Giving zero ticks) next m same awaits tie line_next tie_next w = to_is next (Ticking_devices 0 _ ticks) m same (simply (Giving zero ticks) (Ticking_devices 0 _ ticks) m (λ a. a) (λ place. omega arith) (omega arith) (omega arith) w)
+  turns_wait (Giving zero ticks) next m same awaits tie line_next tie_next w = to_is next (Ticking_devices 0 (length m.outside.devices) ticks) m same (devices_wait ticks m w)
   turns_wait (Ticking_devices place zero ticks) next m same awaits tie line_next tie_next w =
-      to_is next (Ticking_chip ticks) m same (simply (Ticking_devices place zero ticks) (Ticking_chip ticks) m (λ a. a) (λ at. omega arith) (omega arith) (omega arith) w)
-  turns_wait (Ticking_host [] ticks) next m same awaits tie line_next tie_next w = to_is next (Sleeping 64 ticks) m same (simply (Ticking_host [] ticks) (Sleeping 64 ticks) m (λ a. a) (λ place. omega arith) (omega arith) (omega arith) w)
+      to_is next (Ticking_chip ticks) m same (simply (Ticking_devices place zero ticks) (Ticking_chip ticks) m (λ a. a) (λ at. omega arith) (omega arith) (λ at. last_ticked (unless_ticking (nat_le place at && nat_lt at (place + 0))) (all_ticked place at)) (omega arith) w)
+  turns_wait (Ticking_host [] ticks) next m same awaits tie line_next tie_next w = to_is next (Sleeping 64 ticks) m same (simply (Ticking_host [] ticks) (Sleeping 64 ticks) m (λ a. a) (λ place. omega arith) (omega arith) (λ place. omega arith) (omega arith) w)
   turns_wait (Sleeping passes ticks) next m (none, same) awaits tie line_next tie_next w =
-      to_is next (Submitting passes ticks) m same (simply (Sleeping passes ticks) (Submitting passes ticks) m (λ a. a) (λ place. omega arith) (omega arith) (omega arith) w)
+      to_is next (Submitting passes ticks) m same (simply (Sleeping passes ticks) (Submitting passes ticks) m (λ a. a) (λ place. omega arith) (omega arith) (λ place. omega arith) (omega arith) w)
   turns_wait (Submitting passes ticks) next m (pumped, same) awaits tie line_next tie_next w =
       to_is next (after_pump passes ticks) m same (pumped_waits passes ticks m (subst (λ (q : Phase). LineAt q m) same line_next) w)
   turns_wait (Moving passes ticks) next m (still, same) awaits tie line_next tie_next w =
       to_is next (Moved false passes ticks) m same (still_waits passes ticks m tie (subst (λ (q : Phase). TieAt q m) same tie_next) w)
   turns_wait (Moved b passes ticks) next m (still, same) awaits tie line_next tie_next w =
-      to_is next (Sleeping (passes_after b passes) ticks) m same (simply (Moved b passes ticks) (Sleeping (passes_after b passes) ticks) m (λ a. a) (λ place. omega arith) (omega arith) (omega arith) w)
+      to_is next (Sleeping (passes_after b passes) ticks) m same (simply (Moved b passes ticks) (Sleeping (passes_after b passes) ticks) m (λ a. a) (λ place. omega arith) (omega arith) (λ place. omega arith) (omega arith) w)
   turns_wait here next m turns awaits tie line_next tie_next w = absurd turns
 
   pub said_waits : (line : Line) (m : Machine) → WaitsFor n most Between m → WaitsFor n most (Said_line line) m
-  said_waits line m w = simply Between (Said_line line) m (λ a. a) (λ place. omega arith) (omega arith) (omega arith) w
+  said_waits line m w = simply Between (Said_line line) m (λ a. a) (λ place. omega arith) (omega arith) (λ place. omega arith) (omega arith) w
 
 -- ---- the walk
 
@@ -278,7 +299,7 @@ marked_or these n = by (is_marked these n) refl
     by false is = inr is
 
 node_in_time : (these : List Bool) (here : Phase) (m : Machine) (n : ℕ) → NodeFacts (node_of m.host.state n) → AllWaitFor these here m → KnowsWorkers these m.host.state → (is_marked these n ≡ true) ⊎ (is_marked these n ≡ false) → (node_of m.host.state n).attempt_wait ≢ 1
-node_in_time these here m n facts all knows (inl marked) = lasts_of n 2 here m facts (all n marked)
+node_in_time these here m n facts all knows (inl marked) = lasts_of n 6 here m facts (all n marked)
 node_in_time these here m n facts all knows (inr other) = idle_lasts (node_of m.host.state n) facts (knows.others n other).idle
 
 pub in_time : (these : List Bool) (here : Phase) (past : List Entry) (m : Machine) (event : Event) → IsKeptFor these past → KnowWaits these here past m → IsInTime m event
@@ -296,13 +317,13 @@ module _ (airs : Airs) (these : List Bool) (many : length these ≡ 233) (none :
       let same : members (happens m event).outside.outer ≡ members m.outside.outer = event_members (members m.outside.outer) m event (covers_of here next m event goes at) may refl in
       ap (λ (ms : Members). slice_index_or ms.in_air n false) same ∙ joined n marked
 
-  two_most : (here : Phase) → most_then 2 here ≤ 2
-  two_most (To_tick (suc ticks)) = omega arith
-  two_most here = omega arith
+  six_most : (here : Phase) → most_then 6 here ≤ 6
+  six_most (To_tick (suc ticks)) = omega arith
+  six_most here = omega arith
 
-  with_two : (n : ℕ) (here next : Phase) (m : Machine) (event : Event) → WaitsFor n (most_then 2 here) next (happens m event) ⊎ (((node_of m.host.state n).series ≡ series.Due) × WaitsFor n 2 next (happens m event)) → WaitsFor n 2 next (happens m event)
-  with_two n here next m event (inl w) = later_waits n (most_then 2 here) 2 next (happens m event) (two_most here) w
-  with_two n here next m event (inr (due, w)) = w
+  with_six : (n : ℕ) (here next : Phase) (m : Machine) (event : Event) → WaitsFor n (most_then 6 here) next (happens m event) ⊎ (((node_of m.host.state n).series ≡ series.Due) × WaitsFor n 6 next (happens m event)) → WaitsFor n 6 next (happens m event)
+  with_six n here next m event (inl w) = later_waits n (most_then 6 here) 6 next (happens m event) (six_most here) w
+  with_six n here next m event (inr (due, w)) = w
 
   all_on : (here next : Phase) (past : List Entry) (m : Machine) (event : Event) → Goes here m event next → May m event → IsPlainly these m event → IsKeptFor these (past ++ entries m event) → KnowWaits these here past m
       → KnowStaff these next (past ++ entries m event) (happens m event) → AreWaiting these next (happens m event)
@@ -316,8 +337,8 @@ module _ (airs : Airs) (these : List Bool) (many : length these ≡ 233) (none :
       let was = known.1 before in
       record {
         waits = λ n marked.
-            with_two n here next m event
-            (event_waits airs these many laws n 2 marked (node_within these many none n marked) here next m event goes may plainly (keeps m event (told_kept these past (entries m event) is)) was.whole tied.0 tied.1 tied.2 tied.3 tied.6 tied.7
+            with_six n here next m event
+            (event_waits airs these many laws n 6 marked (node_within these many none n marked) here next m event goes may plainly (keeps m event (told_kept these past (entries m event) is)) was.whole tied.0 tied.1 tied.2 tied.3 tied.6 tied.7
             (at.0.0 stretched).1 sent was.joined (was.waits n marked) next_tied.0);
         whole = on_whole these here next m event goes tied.0 may (λ n marked. (was.waits n marked).openly) plainly was.whole;
         joined = joined_on here next m event goes tied.0 may was.joined;
@@ -331,7 +352,7 @@ module _ (airs : Airs) (these : List Bool) (many : length these ≡ 233) (none :
         (staff.said past m words line read known.0).1,
         λ is.
             let was = known.1 (kept_before these past (entry.Said words ∷ []) is) in
-            record { waits = λ n marked. said_waits airs these many laws n 2 marked (node_within these many none n marked) line m (was.waits n marked); whole = was.whole; joined = was.joined },
+            record { waits = λ n marked. said_waits airs these many laws n 6 marked (node_within these many none n marked) line m (was.waits n marked); whole = was.whole; joined = was.joined },
       ),
     );
     event = λ here next past m event goes may plainly known.
@@ -346,7 +367,7 @@ module _ (airs : Airs) (these : List Bool) (many : length these ≡ 233) (none :
               let next_tied = ((later is.worked).0.0 stretched).0.0.tied stretched.quiet in
               let was = known.1 is in
               record {
-                waits = λ n marked. turns_wait airs these many laws n 2 marked (node_within these many none n marked) here next m turns tied.1 tied.6 next_tied.0 next_tied.6 (was.waits n marked);
+                waits = λ n marked. turns_wait airs these many laws n 6 marked (node_within these many none n marked) here next m turns tied.1 tied.6 next_tied.0 next_tied.6 (was.waits n marked);
                 whole = was.whole;
                 joined = was.joined;
               },

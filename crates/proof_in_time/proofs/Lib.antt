@@ -1,6 +1,3 @@
-mod KeptByHearing
-mod Levels
-mod AtOnce
 mod Stepping
 mod Answered
 mod Reported
@@ -8,14 +5,17 @@ mod NodeWaits
 mod Grown
 mod Landed
 mod JudgedWaits
+mod Busy
 mod Carried
 mod Bounded
 mod Settled
 mod Aired
-mod Commands
+pub mod Commands
+mod GoingWhole
+pub mod PlainKinds
 mod Keeping
 mod Lasting
-mod Spoken
+pub mod Spoken
 mod InHand
 mod Retried
 mod Served
@@ -24,5 +24,18 @@ mod Plainly
 mod Queued
 mod Nearing
 mod Accepted
-mod Endings
+pub mod Endings
 mod LastOrder
+mod BegunBefore
+mod EndedSessions
+mod JudgedSessions
+mod JudgedRuns
+pub mod JudgedOutcomes
+mod HandFree
+mod BegunInside
+pub use Rattle.proof_host.proofs.Over
+pub use Rattle.proof_answered.proofs.Living
+pub use Rattle.proof_answered.proofs.Unmarked
+pub use Rattle.proof_spoken.proofs.HostRuns
+pub use Rattle.proof_spoken.proofs.HostFits
+pub use Rattle.proof_answered.proofs.Rested

@@ -1,5 +1,5 @@
 -- From phase to phase an open session comes nearer to its end, with each tick that begins.
-use Rattle.std.proofs.Common.{◌≡◌, ◌≢◌, ◌≤◌, ◌<◌, ℕ, suc, ◌+◌, ◌-◌, inl, inr, Bool, true, false, List, [], ◌∷◌, ◌++◌, length, refl, sym, ap, ◌∙◌, subst, arith}
+use Rattle.std.proofs.Common.{◌≡◌, ◌≢◌, ◌≤◌, ◌<◌, ℕ, suc, ◌+◌, ◌-◌, inl, inr, Bool, true, false, if◌then◌else◌, List, [], ◌∷◌, ◌++◌, length, refl, sym, ap, ◌∙◌, subst, arith}
 use Rattle.std.specs.Prelude.{◌⊎◌, Option, Some, None, IsSome}
 use Rattle.zw_text.specs.declared.entry.Entry.{Entry}
 use Rattle.zw_text.specs.declared.entry.Entry.TheVariants as entry
@@ -32,7 +32,7 @@ use Rattle.proof_answered.specs.FirstAttempts.{IsInTime}
 use Rattle.proof_answered.specs.Heard.{AllSayHeard}
 use Rattle.proof_answered.proofs.AttemptEnds.{LastsAt}
 use Rattle.proof_answered.proofs.FirstWalk.{first_on}
-use Rattle.proof_answered.proofs.TurnOrder.{comes_no_later, turn_most}
+use Rattle.proof_answered.proofs.TurnOrder.{comes_no_later, turn_least, turn_most}
 use Rattle.proof_answered.proofs.Unmarked.{nothing_asked}
 use Rattle.proof_answered.proofs.proof_traffic_Parts.{Airs}
 use Rattle.proof_answered.proofs.Staffing.{sent_on}
@@ -46,15 +46,15 @@ use Rattle.proof_answered.proofs.Speaking.{Same, event_of, next_is_so, pending_f
 use Rattle.proof_answered.proofs.Staffed.{line_on}
 use Rattle.proof_in_time.proofs.Plainly.{Tells, speak_so}
 use Rattle.proof_in_time.specs.Plainly.{SpeakPlainly}
-use Rattle.proof_in_time.specs.InHand.{AllServe, ComesAfter, HasEnded, IsInHand, MayServe, Opened, RestsBefore, Unopened, ticks_begun, ticks_enough, ticks_of_all}
+use Rattle.proof_in_time.specs.InHand.{AllServe, ComesAfter, HasEnded, IsInHand, Opened, RestsBefore, Unopened, ticks_begun, ticks_blocked, ticks_enough, ticks_of_all}
 use Rattle.proof_in_time.specs.InStep.{IsPlainly}
 use Rattle.proof_in_time.proofs.Bounded.{Devices, either_node, some_left}
 use Rattle.proof_in_time.proofs.InHand.{Any, Due, Ended, Ends, EndsLater, Goes_on, Hand, HandAt, HasTurn, Idles, KeptLaws, Rests, Runs, any_kept, event_hand, later_hand_as, later_kept}
-use Rattle.proof_in_time.proofs.InTurn.{ComesTo, In_turn, IsOwed, Owed, no_part, owed_on, owed_turn, three_left}
+use Rattle.proof_in_time.proofs.InTurn.{ComesTo, In_turn, IsOwed, Owed, no_part, owed_on, owed_turn, seven_left}
 use Rattle.proof_in_time.proofs.Keeping.{kept_before, none_unkept, told_kept}
 use Rattle.proof_in_time.proofs.Queued.{queue_on}
 use Rattle.proof_in_time.proofs.Lasting.{LaterOn, event_waits, in_time, keeps, most_then, node_within, said_waits, turns_wait}
-use Rattle.proof_in_time.proofs.Retried.{own_tick_left, rests_on, rests_turn, ticks_then}
+use Rattle.proof_in_time.proofs.Retried.{held_on, own_tick_left, rests_on, rests_turn, ticks_then}
 use Rattle.proof_in_time.proofs.Served.{BeginsNone, BeginsNoTick, IsPartOf, ServesNext, event_clock, served_now, tick_clock}
 
 -- an attempt of the node runs, and what it waits for comes within so many ticks
@@ -67,12 +67,18 @@ pub record RunsOn (n ticks : ℕ) (here : Phase) (m : Machine) : Type 0 where
 abbrev pub IsOverSoon : List Bool → ℕ → ℕ → ℕ → ℕ → Phase → Type 0
 IsOverSoon these n ticks more wait here = suc wait + (1 + ticks_of_all these (suc (suc more))) ≤ ticks + own_tick_left n here
 
+-- the node is blocked until its tick, and then ticks enough are left for the sessions up to its own
+abbrev pub IsHeldSoon : List Bool → ℕ → ℕ → ℕ → Phase → Type 0
+IsHeldSoon these n ticks more here = 1 + ticks_of_all these (suc more) ≤ ticks + own_tick_left n here
+
 -- the session of the command is over within so many ticks: those of the sessions that are to follow the one that is to begin or is open come after that
 abbrev pub Soon : List Bool → ℕ → ℕ → ℕ → Phase → Machine → Type 0
 Soon these n command ticks here m =
-    Hand (EndsLater command (λ (more : ℕ). ComesTo these n (ticks - ticks_of_all these more) here m) (λ (more : ℕ). RunsOn n (ticks - ticks_of_all these more) here m) (λ (more wait : ℕ). IsOverSoon these n ticks more wait here)) (node_of m.host.state n)
+    Hand
+    (EndsLater command (λ (more : ℕ). ComesTo these n (ticks - ticks_of_all these more) here m) (λ (more : ℕ). RunsOn n (ticks - ticks_of_all these more) here m) (λ (more : ℕ). IsHeldSoon these n ticks more here)
+    (λ (more wait : ℕ). IsOverSoon these n ticks more wait here)) (node_of m.host.state n)
 
--- the host may serve each of them, and has no task of its own; and what is on its way to it asks it for none
+-- the host listens to each of them, and has no task of its own; and what is on its way to it asks it for none
 pub record AreServed (these : List Bool) (m : Machine) : Type 0 where
   pub serve : AllServe these m.host.state
   pub speak : SpeakPlainly these m
@@ -87,17 +93,21 @@ KnowSoon these n command most here past m = KnowServed these here past m × (IsK
 
 -- ---- what is so of the host: a node that has work comes no later
 
--- before an event: so it is of a node that had work, of one that ran, or of a session that was over then; with so many sessions to follow
+-- before an event: so it is of a node that had work, of one that ran, of a session that was over then, or of a node that is blocked; with so many sessions to follow
 pub record Origins : Type 1 where
   pub Turns_up : ℕ → Type 0
   pub Ran : ℕ → Type 0
   pub Left : ℕ → Type 0
+  pub Held : ℕ → Type 0
   pub Rests_so : ℕ → ℕ → Type 0
   pub turn_left : (more : ℕ) → Turns_up (suc more) → Left more
   pub ran_left : (more : ℕ) → Ran (suc more) → Left more
   pub left_left : (more : ℕ) → Left (suc more) → Left more
+  pub fewer : (more : ℕ) → Held (suc more) → Held more
+  pub held_left : (more : ℕ) → Held more → Left more
   pub rests_fall : (more wait : ℕ) → Rests_so more (suc wait) → Rests_so more wait
   pub rests_left : (more wait : ℕ) → Rests_so more wait → Left (suc more)
+  pub rests_held : (more wait : ℕ) → Rests_so more wait → Held (suc more)
 
 module _ (facts_kept : (h : HostState) (event : HostEvent) → HostFacts h → MayHost h event → HostFacts (after h event)) (these : List Bool) (n : ℕ) (within : n < 233) (some : 1 ≤ n) (command turn : ℕ) (o : Origins) where
   -- its turn is no later than it was
@@ -109,10 +119,13 @@ module _ (facts_kept : (h : HostState) (event : HostEvent) → HostFacts h → M
 
   record On (h : HostState) : Type 0 where
     pub facts : HostFacts h
-    pub hand : Hand (EndsLater command (D h) R o.Rests_so) (node_of h n)
+    pub hand : Hand (EndsLater command (D h) R o.Held o.Rests_so) (node_of h n)
 
   on_kept : (h : HostState) (event : HostEvent) → LastsAt h event → MayHost h event → On h → On (after h event)
-  on_kept h event lasts may on = record { facts = facts_kept h event on.facts may; hand = later_hand_as command D1 R (D (after h event)) R o.Rests_so o.Rests_so (node_of (after h event) n) due (λ more so r. r) (λ more wait idle again w. w) later.hand }
+  on_kept h event lasts may on = record {
+    facts = facts_kept h event on.facts may;
+    hand = later_hand_as command D1 R o.Held (D (after h event)) R o.Held o.Rests_so o.Rests_so (node_of (after h event) n) due (λ more so r. r) (λ more blocked v. v) (λ more wait idle again w. w) later.hand;
+  }
     where
       D1 : ℕ → Type 0
       D1 more = (HasTurn (node_of h n) × o.Turns_up more × (turn_of these h.served n ≤ turn)) ⊎ o.Left more
@@ -134,13 +147,15 @@ module _ (facts_kept : (h : HostState) (event : HostEvent) → HostFacts h → M
       as_turn more has (inl (a, few)) = inl (has, a, few)
       as_turn more has (inr left) = inr left
 
-      laws : KeptLaws (EndsLater command D1 R o.Rests_so)
-      laws = later_kept command D1 R starts less over o.Rests_so o.rests_fall (λ more wait w. inr (o.rests_left more wait w)) (λ more wait w. inr (o.left_left more (o.rests_left more wait w)))
+      laws : KeptLaws (EndsLater command D1 R o.Held o.Rests_so)
+      laws =
+          later_kept command D1 R o.Held starts less over o.fewer (λ more v. inr (o.held_left more v)) o.Rests_so o.rests_fall (λ more wait w. inr (o.rests_left more wait w)) (λ more wait w. inr (o.left_left more (o.rests_left more wait w)))
+          o.rests_held
 
-      later : HandAt (EndsLater command D1 R o.Rests_so) laws n (after h event).nodes
+      later : HandAt (EndsLater command D1 R o.Held o.Rests_so) laws n (after h event).nodes
       later =
-          event_hand (EndsLater command D1 R o.Rests_so) laws n within h event lasts may
-          (record { places = on.facts.nodes.places; hand = later_hand_as command (D h) R D1 R o.Rests_so o.Rests_so (node_of h n) as_turn (λ more so r. r) (λ more wait idle again w. w) on.hand })
+          event_hand (EndsLater command D1 R o.Held o.Rests_so) laws n within h event lasts may
+          (record { places = on.facts.nodes.places; hand = later_hand_as command (D h) R o.Held D1 R o.Held o.Rests_so o.Rests_so (node_of h n) as_turn (λ more so r. r) (λ more blocked v. v) (λ more wait idle again w. w) on.hand })
 
       turned : HasTurn (node_of h n) → (node_of (after h event) n).series ≢ series.Running → turn_of these h.served n ≤ turn → ((after h event).served ≡ h.served) ⊎ ServesNext h event → turn_of these (after h event).served n ≤ turn
       turned has then_rests few (inl same) = subst (λ (s : ℕ). turn_of these s n ≤ turn) (sym same) few
@@ -174,10 +189,10 @@ module _ (airs : Airs) (these : List Bool) (many : length these ≡ 233) (laws :
       omega (arith, some, within, few)
   few_on here most ticks m w so few = few
 
-  three_on : (here : Phase) (ticks : ℕ) (m : Machine) → ComesTo these n ticks here m → 3 ≤ ticks_then ticks here
-  three_on (To_tick (suc more)) ticks m (In_turn few) = omega (arith, few)
-  three_on (To_tick (suc more)) ticks m (Owed owed few) = absurd owed
-  three_on here ticks m comes = three_left these n ticks here m comes
+  seven_on : (here : Phase) (ticks : ℕ) (m : Machine) → ComesTo these n ticks here m → 7 ≤ ticks_then ticks here
+  seven_on (To_tick (suc more)) ticks m (In_turn few) = let least = turn_least these m.host.state.served n marked in omega (arith, few, least)
+  seven_on (To_tick (suc more)) ticks m (Owed owed few) = absurd owed
+  seven_on here ticks m comes = seven_left these n ticks here m marked comes
 
   begins_comes : (ticks more : ℕ) (next : Phase) (m : Machine) (event : Event) → Goes (To_tick (suc more)) m event next → turn_of these (happens m event).host.state.served n ≤ turn_of these m.host.state.served n
       → ComesTo these n ticks (To_tick (suc more)) m → ComesTo these n (ticks - 1) next (happens m event)
@@ -203,24 +218,25 @@ module _ (airs : Airs) (these : List Bool) (many : length these ≡ 233) (laws :
   then_less ticks less (To_tick (suc more)) = omega arith
   then_less ticks less here = refl
 
-  then_most : (ticks : ℕ) (here : Phase) → ticks ≤ ticks_then ticks here + 1
+  -- none but the one that begins is lost, and then the node has its own
+  then_most : (ticks : ℕ) (here : Phase) → ticks + own_tick_left n here ≤ ticks_then ticks here + 1
   then_most ticks (To_tick (suc more)) = omega arith
   then_most ticks here = omega arith
 
   -- a session is over, and the ticks of another are left
   abbrev HasMore : ℕ → ℕ → Type 0
-  HasMore ticks more = ticks_enough these + 1 ≤ ticks - ticks_of_all these more
+  HasMore ticks more = ticks_enough these ≤ ticks - ticks_of_all these more
 
   has_more : (ticks more some : ℕ) → 1 ≤ some → some ≤ ticks - ticks_of_all these (suc more) → HasMore ticks more
   has_more ticks more some least few = omega (arith, least, few)
 
   soon_on : (ticks : ℕ) (here next : Phase) (m : Machine) (event : Event) → Goes here m event next → May m event → m.host.state.requests.queue ≡ [] → IsInTime m event → ((k : ℕ) → event ≡ Host_does (Begin_unkept k) → ⊥) → Tied_at here m
-      → AllSayHeard (unheard m.outside.outer) → KnowsWorkers these m.host.state → Tied_at next (happens m event) → WaitsFor n 2 next (happens m event)
+      → AllSayHeard (unheard m.outside.outer) → KnowsWorkers these m.host.state → Tied_at next (happens m event) → WaitsFor n 6 next (happens m event)
       → ((most : ℕ) → WaitsFor n most here m → LaterOn airs these many laws n most marked node (most_then most here) next m event) → Soon these n command ticks here m → Soon these n command (ticks_then ticks here) next (happens m event)
-  soon_on ticks here next m event goes may empty on_time kept at heard knows next_at two waits_on soon =
-      later_hand_as command (D facts_kept these n below node.0 command turn o (happens m event).host.state) (R facts_kept these n below node.0 command turn o)
+  soon_on ticks here next m event goes may empty on_time kept at heard knows next_at six waits_on soon =
+      later_hand_as command (D facts_kept these n below node.0 command turn o (happens m event).host.state) (R facts_kept these n below node.0 command turn o) o.Held
       (λ (more : ℕ). ComesTo these n (ticks_then ticks here - ticks_of_all these more) next (happens m event)) (λ (more : ℕ). RunsOn n (ticks_then ticks here - ticks_of_all these more) next (happens m event))
-      o.Rests_so (λ (more wait : ℕ). IsOverSoon these n (ticks_then ticks here) more wait next) (node_of (happens m event).host.state n) due runs rests later.hand
+      (λ (more : ℕ). IsHeldSoon these n (ticks_then ticks here) more next) o.Rests_so (λ (more wait : ℕ). IsOverSoon these n (ticks_then ticks here) more wait next) (node_of (happens m event).host.state n) due runs held rests later.hand
     where
       turn : ℕ
       turn = turn_of these m.host.state.served n
@@ -237,34 +253,56 @@ module _ (airs : Airs) (these : List Bool) (many : length these ≡ 233) (laws :
       C : ℕ → ℕ → Type 0
       C more wait = (old + (1 + ticks_of_all these (suc (suc more))) ≤ ticks + own_tick_left n here) × (suc wait ≤ old)
 
-      turn_left : (more : ℕ) → A (suc more) → HasMore ticks more
-      turn_left more (has, comes) = has_more ticks more 3 (omega arith) (three_left these n (ticks - ticks_of_all these (suc more)) here m comes)
+      -- it is blocked until its tick; or it is as if it were so after that
+      V : ℕ → Type 0
+      V more = (((node_of m.host.state n).blocked ≡ true) × IsHeldSoon these n ticks more here) ⊎ (1 + ticks_of_all these (suc more) ≤ ticks_then ticks here)
 
-      ran_left : (more : ℕ) → B (suc more) → HasMore ticks more
-      ran_left more (so, r) = let few = r.few in has_more ticks more (r.most + 1) (omega arith) few
+      one : ticks + own_tick_left n here ≤ ticks_then ticks here + 1
+      one = then_most ticks here
 
-      left_left : (more : ℕ) → HasMore ticks (suc more) → HasMore ticks more
+      turn_left : (more : ℕ) → A (suc more) → HasMore (ticks_then ticks here) more
+      turn_left more (has, comes) =
+          has_more (ticks_then ticks here) more 7 (omega arith) (subst (λ (k : ℕ). 7 ≤ k) (then_less ticks (ticks_of_all these (suc more)) here) (seven_on here (ticks - ticks_of_all these (suc more)) m comes))
+
+      ran_left : (more : ℕ) → B (suc more) → HasMore (ticks_then ticks here) more
+      ran_left more (so, r) =
+          has_more (ticks_then ticks here) more (most_then r.most here + 1) (omega arith)
+          (subst (λ (k : ℕ). most_then r.most here + 1 ≤ k) (then_less ticks (ticks_of_all these (suc more)) here) (few_on here r.most (ticks - ticks_of_all these (suc more)) m r.waits so r.few))
+
+      left_left : (more : ℕ) → HasMore (ticks_then ticks here) (suc more) → HasMore (ticks_then ticks here) more
       left_left more left = omega (arith, left)
+
+      fewer : (more : ℕ) → V (suc more) → V more
+      fewer more (inl (blocked, enough)) = inl (blocked, omega (arith, enough))
+      fewer more (inr enough) = inr (omega (arith, enough))
+
+      held_left : (more : ℕ) → V more → HasMore (ticks_then ticks here) more
+      held_left more (inl (blocked, enough)) = omega (arith, enough, one)
+      held_left more (inr enough) = omega (arith, enough)
 
       o : Origins
       o = record {
         Turns_up = A;
         Ran = B;
-        Left = λ (more : ℕ). HasMore ticks more;
+        Left = λ (more : ℕ). HasMore (ticks_then ticks here) more;
+        Held = V;
         Rests_so = C;
         turn_left = turn_left;
         ran_left = ran_left;
         left_left = left_left;
+        fewer = fewer;
+        held_left = held_left;
         rests_fall = λ more wait w. (w.0, let less = w.1 in omega (arith, less));
-        rests_left = λ more wait w. let enough = w.0 in let less = w.1 in omega (arith, enough, less);
+        rests_left = λ more wait w. let enough = w.0 in let less = w.1 in omega (arith, enough, less, one);
+        rests_held = λ more wait w. let enough = w.0 in let less = w.1 in inr (omega (arith, enough, less, one));
       }
 
       now : On facts_kept these n below node.0 command turn o m.host.state
       now = record {
         facts = at.7.facts;
         hand = later_hand_as command (λ (more : ℕ). ComesTo these n (ticks - ticks_of_all these more) here m) (λ (more : ℕ). RunsOn n (ticks - ticks_of_all these more) here m)
-            (D facts_kept these n below node.0 command turn o m.host.state) (R facts_kept these n below node.0 command turn o) (λ (more wait : ℕ). IsOverSoon these n ticks more wait here) o.Rests_so (node_of m.host.state n)
-            (λ more has comes. inl ((has, comes), omega arith)) (λ more so runs_on. inl (inl (so, runs_on)))
+            (λ (more : ℕ). IsHeldSoon these n ticks more here) (D facts_kept these n below node.0 command turn o m.host.state) (R facts_kept these n below node.0 command turn o) o.Held (λ (more wait : ℕ). IsOverSoon these n ticks more wait here) o.Rests_so
+            (node_of m.host.state n) (λ more has comes. inl ((has, comes), omega arith)) (λ more so runs_on. inl (inl (so, runs_on))) (λ more blocked v. inl (blocked, v))
             (λ more wait idle again w. (omega (arith, w, again), omega (arith, again))) soon;
       }
 
@@ -275,20 +313,22 @@ module _ (airs : Airs) (these : List Bool) (many : length these ≡ 233) (laws :
       rests : (more wait : ℕ) → (node_of (happens m event).host.state n).series ≡ series.Idle → (node_of (happens m event).host.state n).again_wait ≡ suc wait → C more wait → IsOverSoon these n (ticks_then ticks here) more wait next
       rests more wait idle again (enough, less) = rests_on n (node.0, below) ticks wait (1 + ticks_of_all these (suc (suc more))) here next m event goes on_time at.7.facts.nodes.places (omega arith) idle again less enough
 
-      due : (more : ℕ) → HasTurn (node_of (happens m event).host.state n) → (A more × (turn_of these (happens m event).host.state.served n ≤ turn)) ⊎ HasMore ticks more
+      held : (more : ℕ) → (node_of (happens m event).host.state n).blocked ≡ true → V more → IsHeldSoon these n (ticks_then ticks here) more next
+      held more later_so (inl (blocked, enough)) = held_on n (node.0, below) ticks (ticks_of_all these (suc more)) here next m event goes at.7.facts.nodes.places (omega arith) blocked later_so enough
+      held more later_so (inr enough) = omega (arith, enough)
+
+      due : (more : ℕ) → HasTurn (node_of (happens m event).host.state n) → (A more × (turn_of these (happens m event).host.state.served n ≤ turn)) ⊎ HasMore (ticks_then ticks here) more
           → ComesTo these n (ticks_then ticks here - ticks_of_all these more) next (happens m event)
       due more then_has (inl ((has, comes), passed)) =
           subst (λ (k : ℕ). ComesTo these n k next (happens m event)) (then_less ticks (ticks_of_all these more) here)
           (comes_on (ticks - ticks_of_all these more) here next m event goes passed
           (λ owed. owed_on airs these n marked node here next m event goes may at.0 at.2 at.6 next_at.0 next_at.6 empty at.7.facts (λ k is_next. workers m.host.state k knows is_next) has then_has.0 owed) comes)
       due more then_has (inr left) =
-          let most = turn_most these (happens m event).host.state.served n node.1 in
-          let one = then_most ticks here in
-          In_turn (omega (arith, left, most, one))
+          let most = turn_most these (happens m event).host.state.served n node.1 in In_turn (omega (arith, left, most))
 
-      runs : (more : ℕ) → (node_of (happens m event).host.state n).series ≡ series.Running → (B more ⊎ A more) ⊎ HasMore ticks more → RunsOn n (ticks_then ticks here - ticks_of_all these more) next (happens m event)
+      runs : (more : ℕ) → (node_of (happens m event).host.state n).series ≡ series.Running → (B more ⊎ A more) ⊎ HasMore (ticks_then ticks here) more → RunsOn n (ticks_then ticks here - ticks_of_all these more) next (happens m event)
       runs more then_runs (inl (inr (has, comes))) =
-          record { most = 2; waits = two; few = subst (λ (k : ℕ). 3 ≤ k) (then_less ticks (ticks_of_all these more) here) (three_on here (ticks - ticks_of_all these more) m comes) }
+          record { most = 6; waits = six; few = subst (λ (k : ℕ). 7 ≤ k) (then_less ticks (ticks_of_all these more) here) (seven_on here (ticks - ticks_of_all these more) m comes) }
       runs more then_runs (inl (inl (so, runs_on))) = by (waits_on runs_on.most runs_on.waits)
         where
           few : most_then runs_on.most here + 1 ≤ ticks_then ticks here - ticks_of_all these more
@@ -297,7 +337,7 @@ module _ (airs : Airs) (these : List Bool) (many : length these ≡ 233) (laws :
           by : LaterOn airs these many laws n runs_on.most marked node (most_then runs_on.most here) next m event → RunsOn n (ticks_then ticks here - ticks_of_all these more) next (happens m event)
           by (inl w) = record { most = most_then runs_on.most here; waits = w; few = few }
           by (inr (was_due, w)) = absurd (let wrong : series.Due ≡ series.Running = sym was_due ∙ so in cc)
-      runs more then_runs (inr left) = let one = then_most ticks here in record { most = 2; waits = two; few = omega (arith, left, one) }
+      runs more then_runs (inr left) = record { most = 6; waits = six; few = omega (arith, left) }
 
   tied_before : (next : Phase) (m : Machine) → Tied_at next m → (ticks : ℕ) → next ≡ To_tick ticks → IsTied these m
   tied_before next m at ticks is =
@@ -306,9 +346,10 @@ module _ (airs : Airs) (these : List Bool) (many : length these ≡ 233) (laws :
 
   soon_turn : (ticks : ℕ) (here next : Phase) (m : Machine) → Turns here m next → Tied_at here m → Tied_at next m → Soon these n command ticks here m → Soon these n command ticks next m
   soon_turn ticks here next m turns at next_at soon =
-      later_hand_as command (λ (more : ℕ). ComesTo these n (ticks - ticks_of_all these more) here m) (λ (more : ℕ). RunsOn n (ticks - ticks_of_all these more) here m) (λ (more : ℕ). ComesTo these n (ticks - ticks_of_all these more) next m)
-      (λ (more : ℕ). RunsOn n (ticks - ticks_of_all these more) next m) (λ (more wait : ℕ). IsOverSoon these n ticks more wait here) (λ (more wait : ℕ). IsOverSoon these n ticks more wait next) (node_of m.host.state n) due runs
-      (λ more wait idle again w. let same = rests_turn n (node.0, below) here next m turns in omega (arith, w, same)) soon
+      later_hand_as command (λ (more : ℕ). ComesTo these n (ticks - ticks_of_all these more) here m) (λ (more : ℕ). RunsOn n (ticks - ticks_of_all these more) here m) (λ (more : ℕ). IsHeldSoon these n ticks more here)
+      (λ (more : ℕ). ComesTo these n (ticks - ticks_of_all these more) next m) (λ (more : ℕ). RunsOn n (ticks - ticks_of_all these more) next m) (λ (more : ℕ). IsHeldSoon these n ticks more next)
+      (λ (more wait : ℕ). IsOverSoon these n ticks more wait here) (λ (more wait : ℕ). IsOverSoon these n ticks more wait next) (node_of m.host.state n) due runs
+      (λ more blocked v. let same = rests_turn n (node.0, below) here next m turns in omega (arith, v, same)) (λ more wait idle again w. let same = rests_turn n (node.0, below) here next m turns in omega (arith, w, same)) soon
     where
       due : (more : ℕ) → HasTurn (node_of m.host.state n) → ComesTo these n (ticks - ticks_of_all these more) here m → ComesTo these n (ticks - ticks_of_all these more) next m
       due more has (In_turn few) = In_turn few
@@ -319,9 +360,9 @@ module _ (airs : Airs) (these : List Bool) (many : length these ≡ 233) (laws :
 
   soon_said : (ticks : ℕ) (line : Line) (m : Machine) → Soon these n command ticks Between m → Soon these n command ticks (Said_line line) m
   soon_said ticks line m soon =
-      later_hand_as command (λ (more : ℕ). ComesTo these n (ticks - ticks_of_all these more) Between m) (λ (more : ℕ). RunsOn n (ticks - ticks_of_all these more) Between m)
-      (λ (more : ℕ). ComesTo these n (ticks - ticks_of_all these more) (Said_line line) m) (λ (more : ℕ). RunsOn n (ticks - ticks_of_all these more) (Said_line line) m) (λ (more wait : ℕ). IsOverSoon these n ticks more wait Between)
-      (λ (more wait : ℕ). IsOverSoon these n ticks more wait (Said_line line)) (node_of m.host.state n) due runs (λ more wait idle again w. w) soon
+      later_hand_as command (λ (more : ℕ). ComesTo these n (ticks - ticks_of_all these more) Between m) (λ (more : ℕ). RunsOn n (ticks - ticks_of_all these more) Between m) (λ (more : ℕ). IsHeldSoon these n ticks more Between)
+      (λ (more : ℕ). ComesTo these n (ticks - ticks_of_all these more) (Said_line line) m) (λ (more : ℕ). RunsOn n (ticks - ticks_of_all these more) (Said_line line) m) (λ (more : ℕ). IsHeldSoon these n ticks more (Said_line line))
+      (λ (more wait : ℕ). IsOverSoon these n ticks more wait Between) (λ (more wait : ℕ). IsOverSoon these n ticks more wait (Said_line line)) (node_of m.host.state n) due runs (λ more blocked v. v) (λ more wait idle again w. w) soon
     where
       due : (more : ℕ) → HasTurn (node_of m.host.state n) → ComesTo these n (ticks - ticks_of_all these more) Between m → ComesTo these n (ticks - ticks_of_all these more) (Said_line line) m
       due more has (In_turn few) = In_turn few
@@ -410,19 +451,18 @@ module _ (airs : Airs) (these : List Bool) (many : length these ≡ 233) (laws :
 -- ---- the host may serve these nodes
 
 module _ (airs : Airs) (these : List Bool) (many : length these ≡ 233) (none : is_marked these 0 ≡ false) (same : Same) (tells : Tells) (plainly : WalkWhere (IsPlainly these) AsksNothing (KnowPlainly these)) where
-  serves_on : (here next : Phase) (past : List Entry) (m : Machine) (event : Event) → Goes here m event next → May m event → IsKeptFor these (past ++ entries m event) → KnowServed these here past m → (n : ℕ) → is_marked these n ≡ true → MayServe (node_of (happens m event).host.state n)
+  serves_on : (here next : Phase) (past : List Entry) (m : Machine) (event : Event) → Goes here m event next → May m event → IsKeptFor these (past ++ entries m event) → KnowServed these here past m → (n : ℕ) → is_marked these n ≡ true → (node_of (happens m event).host.state n).listens ≡ true
   serves_on here next past m event goes may is known n marked =
       let before = kept_before these past (entries m event) is in
       let stretched = before.worked.stretched in
       let staff = known.0.0.0 before.worked in
       let tied = (staff.0.0 stretched).0.0.tied stretched.quiet in
-      let served = (known.1 before).serve.each n marked in
       let node = node_within these many none n marked in
       let below : n < 233 = (let few = node.1 in omega (arith, few)) in
       let later = first_on (λ (h : HostState). HandAt Any any_kept n h.nodes) (λ h e lasts may_it at. event_hand Any any_kept n below h e lasts may_it at) airs here next m event goes may
       (in_time these here past m event before known.0.0) tied.0 tied.1 tied.6 (staff.0.0 stretched).0.1 (λ k same on. absurd (none_unkept m event (told_kept these past (entries m event) is) k same))
-      (record { places = tied.7.facts.nodes.places; hand = record { listens = served.listens; unblocked = served.unblocked; ends = tt } }) in
-      record { listens = later.hand.listens; unblocked = later.hand.unblocked }
+      (record { places = tied.7.facts.nodes.places; hand = record { listens = (known.1 before).serve.listens n marked; ends = tt } }) in
+      later.hand.listens
 
   task_on : (here next : Phase) (past : List Entry) (m : Machine) (event : Event) → Goes here m event next → May m event → IsKeptFor these (past ++ entries m event) → KnowServed these here past m → (happens m event).host.state.requests.queue ≡ []
   task_on here next past m event goes may is known =
@@ -459,7 +499,7 @@ module _ (airs : Airs) (these : List Bool) (many : length these ≡ 233) (none :
           (
             later,
             λ is. record {
-              serve = record { each = serves_on here next past m event goes may is known; no_task = task_on here next past m event goes may is known };
+              serve = record { listens = serves_on here next past m event goes may is known; no_task = task_on here next past m event goes may is known };
               speak = speaks_on here next past m event goes may plain is known later;
             },
           ),
@@ -486,13 +526,10 @@ idle_of x facts none = by x.series refl facts.series
     by series.Due so is = absurd (no is.0.is_open)
     by series.Running so is = absurd (no is.0.is_open)
 
-soon_first : (these : List Bool) (n command more ticks : ℕ) (m : Machine) → IsNode n → NodeFacts (node_of m.host.state n) → MayServe (node_of m.host.state n) → IsInHand command more (node_of m.host.state n) → WaitsFor n 2 Between m
-    → ticks_of_all these (suc more) ≤ ticks → Soon these n command ticks Between m
-soon_first these n command more ticks m node facts serves is waits enough = record { listens = serves.listens; unblocked = serves.unblocked; ends = by is }
+soon_first : (these : List Bool) (n command more ticks : ℕ) (m : Machine) → IsNode n → NodeFacts (node_of m.host.state n) → (node_of m.host.state n).listens ≡ true → IsInHand command more (node_of m.host.state n) → WaitsFor n 6 Between m
+    → ticks_blocked (node_of m.host.state n) + ticks_of_all these (suc more) ≤ ticks → Soon these n command ticks Between m
+soon_first these n command more ticks m node facts listens is waits enough = record { listens = listens; ends = by is }
   where
-    x : NodeState
-    x = node_of m.host.state n
-
     left : ticks_enough these ≤ ticks - ticks_of_all these more
     left = omega (arith, enough)
 
@@ -500,35 +537,41 @@ soon_first these n command more ticks m node facts serves is waits enough = reco
     comes = let most = turn_most these m.host.state.served n node.1 in In_turn (omega (arith, most, left))
 
     goes : RunsOn n (ticks - ticks_of_all these more) Between m
-    goes = record { most = 2; waits = waits; few = omega (arith, left) }
+    goes = record { most = 6; waits = waits; few = omega (arith, left) }
+
+    held : (node_of m.host.state n).blocked ≡ true → IsHeldSoon these n ticks more Between
+    held blocked = let one : ticks_blocked (node_of m.host.state n) ≡ 1 = ap (λ (b : Bool). if b then 1 else 0) blocked in omega (arith, enough, one)
 
     E : Type 0
-    E = EndsLater command (λ (k : ℕ). ComesTo these n (ticks - ticks_of_all these k) Between m) (λ (k : ℕ). RunsOn n (ticks - ticks_of_all these k) Between m) (λ (k wait : ℕ). IsOverSoon these n ticks k wait Between) (node_of m.host.state n)
+    E = EndsLater command (λ (k : ℕ). ComesTo these n (ticks - ticks_of_all these k) Between m) (λ (k : ℕ). RunsOn n (ticks - ticks_of_all these k) Between m) (λ (k : ℕ). IsHeldSoon these n ticks k Between)
+        (λ (k wait : ℕ). IsOverSoon these n ticks k wait Between) (node_of m.host.state n)
 
     opened : (session : ℕ) → open_session (node_of m.host.state n).book ≡ Some session → ComesAfter more command session (node_of m.host.state n) → ((node_of m.host.state n).series ≡ series.Due) ⊎ ((node_of m.host.state n).series ≡ series.Running) → E
-    opened session opens after_it (inl due) = Goes_on (Due more session opens due after_it comes)
-    opened session opens after_it (inr run) = Goes_on (Runs more session opens run after_it goes)
+    opened session opens after_it (inl due) = Goes_on (Due more session opens due after_it comes held)
+    opened session opens after_it (inr run) = Goes_on (Runs more session opens run after_it goes held)
 
     by : IsInHand command more (node_of m.host.state n) → E
     by (Opened session opens busy after_it) = opened session opens after_it (series_or (node_of m.host.state n).series busy)
-    by (Unopened none at) = Goes_on (Idles more none (idle_of (node_of m.host.state n) facts none) at comes)
+    by (Unopened none at) = Goes_on (Idles more none (idle_of (node_of m.host.state n) facts none) at (λ free. comes) held)
 
-soon_rests : (these : List Bool) (n command more ticks : ℕ) (m : Machine) → MayServe (node_of m.host.state n) → RestsBefore command more (node_of m.host.state n) → (node_of m.host.state n).again_wait + (1 + ticks_of_all these (suc (suc more))) ≤ ticks → Soon these n command ticks Between m
-soon_rests these n command more ticks m serves is enough =
-    let again = is.again in record { listens = serves.listens; unblocked = serves.unblocked; ends = Rests more is.session is.wait is.opened is.idle is.again is.stands (omega (arith, enough, again)) }
+soon_rests : (these : List Bool) (n command more ticks : ℕ) (m : Machine) → (node_of m.host.state n).listens ≡ true → RestsBefore command more (node_of m.host.state n) → (node_of m.host.state n).again_wait + (1 + ticks_of_all these (suc (suc more))) ≤ ticks
+    → Soon these n command ticks Between m
+soon_rests these n command more ticks m listens is enough =
+    let again = is.again in record { listens = listens; ends = Rests more is.session is.wait is.opened is.idle is.again is.stands (omega (arith, enough, again)) }
 
 -- and so it is where that is known of the machine
-pub soon_then : (these : List Bool) (n command more ticks : ℕ) (past : List Entry) (m : Machine) → is_marked these n ≡ true → IsNode n → KnowServed these Between past m → IsInHand command more (node_of m.host.state n) → ticks_of_all these (suc more) ≤ ticks
+pub soon_then : (these : List Bool) (n command more ticks : ℕ) (past : List Entry) (m : Machine) → is_marked these n ≡ true → IsNode n → KnowServed these Between past m → IsInHand command more (node_of m.host.state n)
+    → ticks_blocked (node_of m.host.state n) + ticks_of_all these (suc more) ≤ ticks
     → IsKeptFor these past → Soon these n command ticks Between m
 soon_then these n command more ticks past m marked node known is enough kept =
     let stretched = kept.worked.stretched in
     let staff = known.0.0.0 kept.worked in
     let tied = (staff.0.0 stretched).0.0.tied stretched.quiet in
-    soon_first these n command more ticks m node (tied.7.facts.nodes.facts n) ((known.1 kept).serve.each n marked) is ((known.0.0.1 kept).waits n marked) enough
+    soon_first these n command more ticks m node (tied.7.facts.nodes.facts n) ((known.1 kept).serve.listens n marked) is ((known.0.0.1 kept).waits n marked) enough
 
 pub soon_rested : (these : List Bool) (n command more ticks : ℕ) (past : List Entry) (m : Machine) → is_marked these n ≡ true → KnowServed these Between past m → RestsBefore command more (node_of m.host.state n)
     → (node_of m.host.state n).again_wait + (1 + ticks_of_all these (suc (suc more))) ≤ ticks → IsKeptFor these past → Soon these n command ticks Between m
-soon_rested these n command more ticks past m marked known is enough kept = soon_rests these n command more ticks m ((known.1 kept).serve.each n marked) is enough
+soon_rested these n command more ticks past m marked known is enough kept = soon_rests these n command more ticks m ((known.1 kept).serve.listens n marked) is enough
 
 pub soon_past : (these : List Bool) (n command : ℕ) (m : Machine) → Soon these n command 0 Between m → HasEnded command (node_of m.host.state n).book
 soon_past these n command m soon = over soon.ends
@@ -540,13 +583,18 @@ soon_past these n command m soon = over soon.ends
     none_runs : (more : ℕ) → RunsOn n (0 - ticks_of_all these more) Between m → ⊥
     none_runs more r = let few = r.few in absurd (omega (arith, few))
 
-    by : Ends command (λ (k : ℕ). ComesTo these n (0 - ticks_of_all these k) Between m) (λ (k : ℕ). RunsOn n (0 - ticks_of_all these k) Between m) (node_of m.host.state n) → HasEnded command (node_of m.host.state n).book
-    by (Ended is) = is
-    by (Idles more none idle at d) = absurd (none_comes more d)
-    by (Due more session opened so at d) = absurd (none_comes more d)
-    by (Runs more session opened so at r) = absurd (none_runs more r)
+    none_idles : (more : ℕ) (b : Bool) → (b ≡ false → ComesTo these n (0 - ticks_of_all these more) Between m) → (b ≡ true → IsHeldSoon these n 0 more Between) → ⊥
+    none_idles more false d v = none_comes more (d refl)
+    none_idles more true d v = let held = v refl in absurd (omega (arith, held))
 
-    over : EndsLater command (λ (k : ℕ). ComesTo these n (0 - ticks_of_all these k) Between m) (λ (k : ℕ). RunsOn n (0 - ticks_of_all these k) Between m) (λ (k wait : ℕ). IsOverSoon these n 0 k wait Between) (node_of m.host.state n)
+    by : Ends command (λ (k : ℕ). ComesTo these n (0 - ticks_of_all these k) Between m) (λ (k : ℕ). RunsOn n (0 - ticks_of_all these k) Between m) (λ (k : ℕ). IsHeldSoon these n 0 k Between) (node_of m.host.state n)
         → HasEnded command (node_of m.host.state n).book
+    by (Ended is) = is
+    by (Idles more none idle at d v) = absurd (none_idles more (node_of m.host.state n).blocked d v)
+    by (Due more session opened so at d v) = absurd (none_comes more d)
+    by (Runs more session opened so at r v) = absurd (none_runs more r)
+
+    over : EndsLater command (λ (k : ℕ). ComesTo these n (0 - ticks_of_all these k) Between m) (λ (k : ℕ). RunsOn n (0 - ticks_of_all these k) Between m) (λ (k : ℕ). IsHeldSoon these n 0 k Between)
+        (λ (k wait : ℕ). IsOverSoon these n 0 k wait Between) (node_of m.host.state n) → HasEnded command (node_of m.host.state n).book
     over (Goes_on e) = by e
     over (Rests more session wait opened idle again at w) = absurd (omega (arith, w))

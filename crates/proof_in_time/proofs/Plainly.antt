@@ -1,5 +1,5 @@
 -- What is on its way to the host of these nodes asks it for nothing: so it comes to no task of its own as it judges that.
-use Rattle.std.proofs.Common.{◌≡◌, ◌≤◌, ℕ, ◌==◌, nat_lt, inl, inr, Bool, true, false, if◌then◌else◌, List, [], ◌∷◌, length, refl, sym, ap, ◌∙◌, subst, arith}
+use Rattle.std.proofs.Common.{◌≡◌, ◌≤◌, ℕ, ◌==◌, nat_lt, inl, inr, Bool, true, false, if◌then◌else◌, List, [], ◌∷◌, length, refl, sym, ◌∙◌, subst, arith}
 use Rattle.std.proofs.lemmas.Bool.{cases_Bool, eq-eqb, eqb-true}
 use Rattle.std.specs.Prelude.{◌⊎◌, Option, Some, None, slice_get}
 use Rattle.std.specs.List.{AllByRecursion}
@@ -13,8 +13,10 @@ use Rattle.supervision.specs.Host.{told_of}
 use Rattle.supervision.specs.declared.host_node.Told.{Told as TheTold}
 use Rattle.supervision.specs.declared.host_node.Told.TheVariants as told
 use Rattle.chip_sim.specs.Nodes.{is_marked}
+use Rattle.supervision.specs.Session.{wire_id}
+use Rattle.device_kinds.specs.Answers.{report_status}
 use Rattle.device_kinds.specs.Kind.{listens, lists}
-use Rattle.device_sim.specs.Event.{DeviceEvent, Hears, Ticks, Wakes, device_replies, outcome_of}
+use Rattle.device_sim.specs.Event.{DeviceEvent, Hears, Ticks, Wakes, device_after, device_replies, outcome_of}
 use Rattle.device_sim.specs.State.{State}
 use Rattle.device_stack.specs.State.{silent}
 use Rattle.device_stack.specs.Ticking.{woken}
@@ -33,7 +35,7 @@ use Rattle.host_model.specs.Taking.{FinalEvents, IsKeptOr, IsTaken, NonceReportE
 use Rattle.value_store.specs.Values.{count_with}
 use Rattle.world_model.specs.State.{Machine}
 use Rattle.proof_messages.specs.Asking.{takes_openly}
-use Rattle.proof_messages.specs.Reporting.{IsPlainTold, TellsPlainly}
+use Rattle.proof_messages.specs.Reporting.{CanSay, IsPlainTold, TellsPlainly, asks_now}
 use Rattle.proof_course_plain.proofs.Replies.{one_place, one_stands}
 use Rattle.proof_answered.specs.proof_calm.proof_work.Doing.{IsTold}
 use Rattle.proof_answered.specs.Outward.{AllListen}
@@ -41,6 +43,7 @@ use Rattle.proof_answered.specs.Workers.{IsFromSaying}
 use Rattle.proof_answered.proofs.Judging.{EachFollows}
 use Rattle.proof_answered.proofs.Speaking.{SpeakSo}
 use Rattle.proof_answered.proofs.Works.{ticks_say}
+use Rattle.proof_in_time.specs.Answering.{Ends, Goes_on, IsAtWork, IsDoneOrAtWork, WorksOn}
 use Rattle.proof_in_time.specs.InStep.{HasInStep}
 
 -- ---- events by which no task comes to wait
@@ -132,9 +135,10 @@ each_none these joined = record { hears = λ item. tt; told = requests_none; bri
 
 -- ---- the devices of these nodes
 
--- what is proved of a device
-abbrev pub Tells : Type 0
-Tells = (device : State) (payload drawn : List ℕ) → takes_openly device.kind ≡ true → lists device.kind 0x55 ≡ false → AllByRecursion TellsPlainly (device_replies device (Hears payload drawn))
+-- what is proved of a device that hears something, and of one at work
+pub record Tells : Type 0 where
+  pub heard : (device : State) (payload drawn : List ℕ) → takes_openly device.kind ≡ true → lists device.kind 0x55 ≡ false → AllByRecursion TellsPlainly (device_replies device (Hears payload drawn))
+  pub works : (device : State) (drawn : List ℕ) → CanSay device → IsAtWork device → WorksOn device (device_after device (Ticks drawn)) (device_replies device (Ticks drawn))
 
 none_said : (device : State) (event : DeviceEvent) → device_replies device event ≡ [] → AllByRecursion TellsPlainly (device_replies device event)
 none_said device event none = subst (AllByRecursion TellsPlainly) (sym none) tt
@@ -151,26 +155,39 @@ ticks_silent device drawn none = by (ticks_say device drawn)
     by (inl silent) = silent
     by (inr (one, few)) = absurd (omega (arith, one, none))
 
+-- the end of its work is told so
+work_told : (device new : State) (drawn : List ℕ) → WorksOn device new (device_replies device (Ticks drawn)) → AllByRecursion TellsPlainly (device_replies device (Ticks drawn))
+work_told device new drawn (Goes_on silent work taken less) = none_said device (Ticks drawn) silent
+work_told device new drawn (Ends payload says tells some few done taken one) =
+    subst (AllByRecursion TellsPlainly) (sym says) (record { told = Report (wire_id new.sessions.taken) (report_status new.sessions.status) (asks_now new); heard = tells; plain = tt }, tt)
+
+ticks_plainly : Tells → (device : State) (drawn : List ℕ) → CanSay device → IsDoneOrAtWork device → AllByRecursion TellsPlainly (device_replies device (Ticks drawn))
+ticks_plainly tells device drawn can (inl done) = none_said device (Ticks drawn) (ticks_silent device drawn done.no_work)
+ticks_plainly tells device drawn can (inr work) = work_told device (device_after device (Ticks drawn)) drawn (tells.works device drawn can work)
+
 module _ (these : List Bool) (m : Machine) (steps : (n : ℕ) → is_marked these n ≡ true → HasInStep n m) where
-  at_rest : (place : ℕ) (device : State) → is_marked these device.node ≡ true → slice_get m.outside.devices place ≡ Some device → device.work_left ≡ 0
-  at_rest place device marked there = by (place == is.place) refl
+  ticks_so : Tells → (place : ℕ) (device : State) (drawn : List ℕ) → is_marked these device.node ≡ true → slice_get m.outside.devices place ≡ Some device → AllByRecursion TellsPlainly (device_replies device (Ticks drawn))
+  ticks_so tells place device drawn marked there = by (place == is.place) refl
     where
       is : HasInStep device.node m
       is = steps device.node marked
 
-      by : (b : Bool) → (place == is.place) ≡ b → device.work_left ≡ 0
-      by true same = ap (λ (d : State). d.work_left) (one_stands m.outside.devices place is.place device is.device there is.stands (eqb-true place is.place same)) ∙ is.plain.is_done.no_work
-      by false other = (is.others place device there refl (λ e. let wrong : true ≡ false = sym (eq-eqb place is.place e) ∙ other in cc)).no_work
+      by : (b : Bool) → (place == is.place) ≡ b → AllByRecursion TellsPlainly (device_replies device (Ticks drawn))
+      by true same =
+          let own : is.device ≡ device = one_stands m.outside.devices is.place place is.device device is.stands there (sym (eqb-true place is.place same)) in
+          subst (λ (d : State). AllByRecursion TellsPlainly (device_replies d (Ticks drawn))) own (ticks_plainly tells is.device drawn is.plain.can is.plain.at)
+      by false other =
+          let idle = is.others place device there refl (λ e. let wrong : true ≡ false = sym (eq-eqb place is.place e) ∙ other in cc) in none_said device (Ticks drawn) (ticks_silent device drawn idle.no_work)
 
   pub speak_so : Tells → AllListen these m → SpeakSo these TellsPlainly m.outside.devices
   speak_so tells listen = record {
     heard = λ node place device payload drawn marked first there.
         let is = steps node marked in
         let same : is.device ≡ device = one_stands m.outside.devices is.place place is.device device is.stands there (one_place node m.outside.devices is.place place is.first first) in
-        subst (λ (d : State). AllByRecursion TellsPlainly (device_replies d (Hears payload drawn))) same (tells is.device payload drawn is.plain.openly is.plain.whole);
+        subst (λ (d : State). AllByRecursion TellsPlainly (device_replies d (Hears payload drawn))) same (tells.heard is.device payload drawn is.plain.openly is.plain.whole);
     woken = λ node place device marked first there.
         let is = listen.nodes node marked in
         let same : is.device ≡ device = one_stands m.outside.devices is.place place is.device device is.stands there (one_place node m.outside.devices is.place place is.first first) in
         subst (λ (d : State). AllByRecursion TellsPlainly (device_replies d Wakes)) same (none_said is.device Wakes (wakes_silent is.device is.is_up.is_listening));
-    ticked = λ place device drawn marked there. none_said device (Ticks drawn) (ticks_silent device drawn (at_rest place device marked there));
+    ticked = ticks_so tells;
   }

@@ -151,7 +151,7 @@ none_wants these h n serves knows is = by (is_marked these n) refl
     parts = wants_parts (node_of h n) (node_of h n).awake (node_of h n).listens (wants h.nodes n is)
 
     by : (b : Bool) → is_marked these n ≡ b → ⊥
-    by true marked = absurd (let wrong : true ≡ false = sym (serves.each n marked).listens ∙ parts.1 in cc)
+    by true marked = absurd (let wrong : true ≡ false = sym (serves.listens n marked) ∙ parts.1 in cc)
     by false other = still_wants (node_of h n) (knows.others n other) (wants h.nodes n is)
 
 -- ---- from phase to phase

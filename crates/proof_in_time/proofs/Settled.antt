@@ -22,7 +22,7 @@ use Rattle.host_model.specs.May.{May as MayHost}
 use Rattle.host_model.specs.Pumping.{IsNext, no_more_event}
 use Rattle.host_model.specs.State.{HostState, node_of}
 use Rattle.host_model.proofs.Submitted.{next_is, no_more_is}
-use Rattle.outside_model.specs.Events.{Chip_takes}
+use Rattle.outside_model.specs.Events.{Chip_takes, devices_after}
 use Rattle.world_model.specs.Events.{Outside_does, Host_does, Host_takes, happens, May}
 use Rattle.world_model.specs.State.{Machine}
 use Rattle.proof_answered.specs.proof_calm.proof_traffic.OnAir.{on_air}
@@ -42,28 +42,34 @@ use Rattle.proof_answered.proofs.Peopled.{judged_are}
 use Rattle.proof_answered.proofs.Reading.{goods}
 use Rattle.proof_answered.proofs.Requested.{moved_frames}
 use Rattle.proof_answered.specs.Outward.{IsSentTo}
+use Rattle.proof_answered.proofs.Walking.{takes_still}
 use Rattle.proof_answered.proofs.Unheard.{chip_part_says, unheard_idle, unheard_judged}
-use Rattle.proof_in_time.specs.Coming.{AsksFor, Coming, Has, IsKept, IsMessage, IsOnAir, IsPlainStart, IsRequest, Sent, Stands, TellsEnd, Told, WaitsFor, brings, one_later, own_ticks, ticks_left, is_layered}
-use Rattle.proof_in_time.proofs.Bounded.{NoMore, again_far, does_waits, either_node, host_stays, open_where, outer_waits, refuses_waits, session_of, start_waits, still_fits, waits_none}
-use Rattle.proof_in_time.proofs.Carried.{Fits, IsThere, carry, carry_or, many_on_air}
+use Rattle.proof_in_time.specs.Coming.{AsksFor, Coming, Has, IsBusy, IsKept, IsMessage, IsOnAir, IsPlainStart, IsRequest, Sent, Stands, TellsEnd, Told, WaitsFor, brings, has_ticked, one_later, own_ticks, ticks_left, is_layered}
+use Rattle.proof_in_time.proofs.Bounded.{NoMore, again_far, busy_still, does_waits, either_node, host_stays, open_where, outer_waits, refuses_waits, session_of, start_waits, still_fits, waits_none}
+use Rattle.proof_in_time.proofs.Carried.{Fits, IsNearEnd, IsThere, carry, carry_or, many_on_air}
 use Rattle.proof_in_time.proofs.Grown.{Adds, calm_adds, takes_add}
 use Rattle.proof_in_time.proofs.JudgedWaits.{Judges, Runs, units_judge}
 use Rattle.proof_in_time.proofs.Landed.{has_piled}
 use Rattle.proof_in_time.proofs.NodeWaits.{IsBeside}
 
+-- the chip moves no device
+chip_devices : (m : Machine) (count : ℕ) (rest : Rest) (ways : List (Item × Option Route)) → (happens m (Outside_does (Chip_takes count rest ways))).outside.devices ≡ m.outside.devices
+unfolding happens devices_after
+chip_devices m count rest ways = refl
+
 -- ---- a pump
 
 module _ (airs : Airs) (these : List Bool) (many : length these ≡ 233) (n most : ℕ) (marked : is_marked these n ≡ true) (node : IsNode n) (within : n < 233) where
   asks_still : (here next : Phase) (m : Machine) (event : HostEvent) → (AsksFor n (session_of n m) m.host.state → ⊥) → ((place : ℕ) → ticks_left next + one_later next place ≤ ticks_left here + one_later here place) → ticks_left next ≤ ticks_left here
-      → NoMore n here next → IsBeside n m.host.state event → length m.host.state.nodes ≡ 233 → WaitsFor n most here m → WaitsFor n most next (happens m (Host_does event))
-  asks_still here next m event none joint alone less beside places w =
-      does_waits n most within here next m event less beside places (host_stays airs n here next m event (λ asking asks. none asks) (λ left. still_fits n (many_on_air m) left here next joint alone)) w
+      → ((place : ℕ) → ticks_left next + has_ticked next place ≤ ticks_left here + has_ticked here place) → NoMore n here next → IsBeside n m.host.state event → length m.host.state.nodes ≡ 233 → WaitsFor n most here m → WaitsFor n most next (happens m (Host_does event))
+  asks_still here next m event none joint alone near less beside places w =
+      does_waits n most within here next m event less beside places (host_stays airs n here next m event (λ asking asks. none asks) (λ left. still_fits n (many_on_air m) left here next joint alone) near) w
 
   pub sleeps_wait : (passes ticks : ℕ) (m : Machine) (k : ℕ) → length m.host.state.nodes ≡ 233 → WaitsFor n most (Sleeping passes ticks) m → WaitsFor n most (Sleeping passes ticks) (happens m (Host_does (no_more_event m.host.state k)))
   sleeps_wait passes ticks m k places w =
       does_waits n most within (Sleeping passes ticks) (Sleeping passes ticks) m (no_more_event m.host.state k) (omega arith) (no_more_is (IsBeside n m.host.state) (record { queues = λ j. tt; drops = λ j. tt }) m.host.state k) places
       (host_stays airs n (Sleeping passes ticks) (Sleeping passes ticks) m (no_more_event m.host.state k) (λ asking asks. asking)
-      (λ left. still_fits n (many_on_air m) left (Sleeping passes ticks) (Sleeping passes ticks) (λ place. omega arith) (omega arith))) w
+      (λ left. still_fits n (many_on_air m) left (Sleeping passes ticks) (Sleeping passes ticks) (λ place. omega arith) (omega arith)) (λ place. omega arith)) w
 
   -- either another event, or an attempt of the node
   abbrev IsStartOf : HostEvent → Type 0
@@ -92,7 +98,7 @@ module _ (airs : Airs) (these : List Bool) (many : length these ≡ 233) (n most
 
   -- then it is as it was, or an attempt of it that was due has started
   abbrev Submitted : ℕ → ℕ → Machine → HostEvent → Type 0
-  Submitted passes ticks m event = WaitsFor n most (Submitting passes ticks) (happens m (Host_does event)) ⊎ (((node_of m.host.state n).series ≡ series.Due) × WaitsFor n 2 (Submitting passes ticks) (happens m (Host_does event)))
+  Submitted passes ticks m event = WaitsFor n most (Submitting passes ticks) (happens m (Host_does event)) ⊎ (((node_of m.host.state n).series ≡ series.Due) × WaitsFor n 6 (Submitting passes ticks) (happens m (Host_does event)))
 
   pub submits_wait : (passes ticks : ℕ) (m : Machine) (event : HostEvent) → IsNext m.host.state event → May m (Host_does event) → IsPlainStart these m.host.state event → length m.host.state.nodes ≡ 233 → NodeFacts (node_of m.host.state n)
       → WaitsFor n most (Submitting passes ticks) m → Submitted passes ticks m event
@@ -100,11 +106,11 @@ module _ (airs : Airs) (these : List Bool) (many : length these ≡ 233) (n most
   submits_wait passes ticks m event next may plainly places facts w = by (asked_is m.host.state event next)
     where
       by : IsBeside n m.host.state event ⊎ IsStartOf event → Submitted passes ticks m event
-      by (inl beside) = inl (asks_still (Submitting passes ticks) (Submitting passes ticks) m event (none_asks m event next) (λ place. omega arith) (omega arith) (omega arith) beside places w)
+      by (inl beside) = inl (asks_still (Submitting passes ticks) (Submitting passes ticks) m event (none_asks m event next) (λ place. omega arith) (omega arith) (λ place. omega arith) (omega arith) beside places w)
       by (inr (plan, (more, (payload, is)))) =
           inr (
             due,
-            subst (λ (e : HostEvent). WaitsFor n 2 (Submitting passes ticks) (happens m (Host_does e))) (sym is)
+            subst (λ (e : HostEvent). WaitsFor n 6 (Submitting passes ticks) (happens m (Host_does e))) (sym is)
                 (start_waits n most within (Submitting passes ticks) (Submitting passes ticks) m plan more payload places none (subst (IsPlainStart these m.host.state) is plainly marked) tt (omega arith) w),
           )
         where
@@ -127,7 +133,8 @@ module _ (airs : Airs) (these : List Bool) (many : length these ≡ 233) (n most
       outer_waits n most (Moving passes ticks) (Moved true passes ticks) (omega arith) m (Chip_takes (length m.outside.outer.to_chip.bytes) rest ways)
       (λ left comes.
       carry n (session_of n m) left left (Moving passes ticks) (Moved true passes ticks) m (chip_taken m rest ways)
-      (λ asking asks two. Sent (aired (session_of n m) asks.payload (on_air (chip_taken m rest ways).outside.outer.air.frames) asks.message (airs_it asks)) (omega (arith, two)))
+      (λ asking asks six. Sent (aired (session_of n m) asks.payload (on_air (chip_taken m rest ways).outside.outer.air.frames) asks.message (airs_it asks)) (omega (arith, six)))
+      (busy_still n (session_of n m) left (Moving passes ticks) (Moved true passes ticks) m (chip_taken m rest ways) (chip_devices m (length m.outside.outer.to_chip.bytes) rest ways) (λ place. omega arith))
       (takes_add airs m awaits these many (length m.outside.outer.to_chip.bytes) rest ways sent) (λ x has. chip_part_says AnyFrame (Has x) (has_piled x) tt passes m rest ways may at room tie later has)
       (still_fits n (many_on_air m) left (Moving passes ticks) (Moved true passes ticks) (λ place. omega arith) (omega arith)) comes)
       w
@@ -137,7 +144,7 @@ module _ (airs : Airs) (these : List Bool) (many : length these ≡ 233) (n most
   -- what else is to come, and the wait
   record Elsewhere (session wait : ℕ) (next : Phase) (later : Machine) : Type 0 where
     pub left : ℕ
-    pub few : left ≤ 2
+    pub few : left ≤ 6
     pub within_most : left ≤ most
     pub comes : Coming n session left next later
     pub far : (wait ≡ 0) ⊎ (90 + left + 0 ≤ wait)
@@ -145,7 +152,7 @@ module _ (airs : Airs) (these : List Bool) (many : length these ≡ 233) (n most
   -- by the host, which is that of the machine
   record BoundedBy (next : Phase) (later : Machine) (h : HostState) : Type 0 where
     pub left : ℕ
-    pub few : left ≤ 2
+    pub few : left ≤ 6
     pub within_most : left ≤ most
     pub comes : Coming n (begun_of (node_of h n).book) left next later
     pub waits : ((node_of h n).attempt_wait ≡ 0) ⊎ (90 + left + own_ticks n next ≤ (node_of h n).attempt_wait)
@@ -167,11 +174,15 @@ module _ (airs : Airs) (these : List Bool) (many : length these ≡ 233) (n most
     fits : (left : ℕ) → Fits n (many_on_air m) (Moved b passes ticks) left (Sleeping passes ticks) left
     fits left = still_fits n (many_on_air m) left (Moved b passes ticks) (Sleeping passes ticks) (λ place. omega arith) (omega arith)
 
+    works : (left : ℕ) (at : IsBusy n (session_of n m) m.outside.devices) → IsNearEnd n (session_of n m) left (Moved b passes ticks) m.outside.devices at → Coming n (session_of n m) left (Sleeping passes ticks) later
+    works left =
+        busy_still n (session_of n m) left (Moved b passes ticks) (Sleeping passes ticks) m later (takes_still airs m (length m.outside.outer.to_host.bytes) rest items events) (λ place. omega arith)
+
     idle_waits : (host turn : Turn) (frames : List FrameParts) → OnLine [] [] host turn frames m → WaitsFor n most (Moved b passes ticks) m → WaitsFor n most (Sleeping passes ticks) later
     idle_waits host turn frames line w =
         refuses_waits n most (Moved b passes ticks) (Sleeping passes ticks) (omega arith) m (Host_takes (length m.outside.outer.to_host.bytes) rest items events) (host_idles m host turn frames rest items events line may).2
         (λ left comes.
-        carry n (session_of n m) left left (Moved b passes ticks) (Sleeping passes ticks) m later (λ asking asks two. absurd asking) adds
+        carry n (session_of n m) left left (Moved b passes ticks) (Sleeping passes ticks) m later (λ asking asks six. absurd asking) (works left) adds
         (λ x has. subst (Has x) (sym (unheard_idle AnyFrame (Has x) (has_piled x) airs m rest items events host turn frames line may)) has) (fits left) comes)
         w
 
@@ -198,10 +209,10 @@ module _ (airs : Airs) (these : List Bool) (many : length these ≡ 233) (n most
         host_is : later.host.state ≡ after_all m.host.state events
         host_is = (host_turns airs m unit units host turn frames rest items events plain (omega (arith, few)) line may).3
 
-        comes_or : (left : ℕ) → left ≤ 2 → left ≤ most → (wait ≡ 0) ⊎ (90 + left + 0 ≤ wait) → Coming n session left (Sleeping passes ticks) later ⊎ IsThere n session left (Moved b passes ticks) m
+        comes_or : (left : ℕ) → left ≤ 6 → left ≤ most → (wait ≡ 0) ⊎ (90 + left + 0 ≤ wait) → Coming n session left (Sleeping passes ticks) later ⊎ IsThere n session left (Moved b passes ticks) m
             → Elsewhere session wait (Sleeping passes ticks) later ⊎ ((payload : List ℕ) × (TellsEnd session payload × Has (brings n payload) (frames_in (unit ∷ units) ++ waiting)))
-        comes_or left two few_more far (inl comes) = inl (record { left = left; few = two; within_most = few_more; comes = comes; far = far })
-        comes_or left two few_more far (inr there) = inr (there.payload, (there.tells, subst (Has (brings n there.payload)) frames_are there.has))
+        comes_or left six few_more far (inl comes) = inl (record { left = left; few = six; within_most = few_more; comes = comes; far = far })
+        comes_or left six few_more far (inr there) = inr (there.payload, (there.tells, subst (Has (brings n there.payload)) frames_are there.has))
 
         bound_of : (left : ℕ) → (wait ≡ 0) ⊎ (90 + left + 0 ≤ wait) → (wait ≡ 0) ⊎ (90 ≤ wait)
         bound_of left (inl none) = inl none
@@ -218,7 +229,7 @@ module _ (airs : Airs) (these : List Bool) (many : length these ≡ 233) (n most
                 waits = inl refl;
                 bound = bound_of of.left of.waits;
                 report = comes_or of.left of.few of.within of.waits
-                    (carry_or n session of.left of.left (Moved b passes ticks) (Sleeping passes ticks) m later (λ asking asks two. absurd asking) adds (fits of.left) of.comes);
+                    (carry_or n session of.left of.left (Moved b passes ticks) (Sleeping passes ticks) m later (λ asking asks six. absurd asking) (works of.left) adds (fits of.left) of.comes);
               };
         }
 

@@ -21,6 +21,17 @@ whole_before : (last : List Spoken) (m : Machine) (spoken : Spoken) → IsLine s
 whole_before [] m spoken is = inl is
 whole_before (next ∷ last) m spoken is = is
 
+-- lines before others, some of which were cut short at most at their end
+part_before : (last lines : List Spoken) (m : Machine) (spoken : Spoken) → IsLineBefore (last ++ lines) spoken.line m spoken.events → IsLineBefore last spoken.line m spoken.events
+part_before [] [] m spoken is = is
+part_before [] (next ∷ lines) m spoken is = inl is
+part_before (next ∷ last) lines m spoken is = is
+
+pub done_first : (m : Machine) (first lines : List Spoken) → AreDone m (first ++ lines) → AreDone m first
+done_first m [] lines are = tt
+done_first m (spoken ∷ first) lines are =
+    (record { read = are.0.read; is_line = part_before first lines m spoken are.0.is_line; may = are.0.may }, done_first (after m spoken) first lines are.1)
+
 pub whole_parts : (m : Machine) (first lines : List Spoken) → AreDone m (first ++ lines) → AreWhole m (first ++ lines) → AreDone m first × AreWhole m first × AreWhole (after_all m first) lines
 whole_parts m [] lines are whole = (tt, tt, whole)
 whole_parts m (spoken ∷ first) lines are whole =

@@ -38,10 +38,15 @@ pub record AnswersSession (session : ℕ) (new : State) (replies : List (List �
   pub few : length payload ≤ 46
   pub comes_to : IsDoneOrAtWork new
 
--- a tick of its work, which goes on silently, or ends and is told
+-- it is still at the work on its last session, for as long
+pub record IsStill (old new : State) : Type 0 where
+  pub sessions : new.sessions ≡ old.sessions
+  pub work_left : new.work_left ≡ old.work_left
+
+-- a tick of its work, which goes on silently, or ends and is told; no session is taken
 pub data WorksOn (old new : State) (replies : List (List ℕ)) : Type 0 where
-  Goes_on : replies ≡ [] → IsAtWork new → new.work_left + 1 ≡ old.work_left → WorksOn old new replies
-  Ends : (payload : List ℕ) → replies ≡ payload ∷ [] → TellsOwn new payload → 1 ≤ length payload → length payload ≤ 46 → IsDone new → old.work_left ≡ 1 → WorksOn old new replies
+  Goes_on : replies ≡ [] → IsAtWork new → new.sessions.taken ≡ old.sessions.taken → new.work_left + 1 ≡ old.work_left → WorksOn old new replies
+  Ends : (payload : List ℕ) → replies ≡ payload ∷ [] → TellsOwn new payload → 1 ≤ length payload → length payload ≤ 46 → IsDone new → new.sessions.taken ≡ old.sessions.taken → old.work_left ≡ 1 → WorksOn old new replies
 
 -- nothing happens to it
 pub record StaysDone (old new : State) (replies : List (List ℕ)) : Type 0 where

@@ -1,8 +1,9 @@
 -- What is on its way while an attempt of a node runs, at each phase of quiet lines and ticks (this project's own rule), and how many ticks of the node are to come before its session is over.
-use Rattle.std.specs.Prelude.{◌≡◌, ◌≢◌, ◌⊎◌, ℕ, ◌+◌, ◌≤◌, ◌==◌, nat_lt, Bool, false, true, if◌then◌else◌, List, [], ◌∷◌, ◌++◌, length, ◌||◌, Option, Some, None}
+use Rattle.std.specs.Prelude.{◌≡◌, ◌≢◌, ◌⊎◌, ℕ, ◌+◌, ◌≤◌, ◌==◌, ◌&&◌, nat_le, nat_lt, Bool, false, true, if◌then◌else◌, List, [], ◌∷◌, ◌++◌, length, ◌||◌, Option, Some, None, slice_get}
 use Rattle.std.specs.List.{list_any}
 use Rattle.zw_base.specs.declared.order.Order.{Order}
 use Rattle.zw_text.specs.declared.entry.Entry.{Entry}
+use Rattle.law_transcript.specs.Nodes.{listing_of}
 use Rattle.law_time.specs.Stretches.{is_keeper_fault}
 use Rattle.supervision.specs.Host.{begun_of}
 use Rattle.supervision.specs.declared.session.TheConstants.{WORKING}
@@ -10,9 +11,12 @@ use Rattle.serial_frame.specs.Frame.{FrameParts}
 use Rattle.chip_functions.specs.declared.notice.Notice.TheVariants.{ApplicationCommandHandler}
 use Rattle.chip_sim.specs.Answers.{notice_frame}
 use Rattle.chip_sim.specs.Nodes.{is_marked}
+use Rattle.device_sim.specs.State.{State}
 use Rattle.air_frames.specs.Flown.{Flown}
 use Rattle.air_frames.specs.declared.frame.Heading.TheVariants.{Outward, Homeward}
+use Rattle.device_sim.specs.State.{State}
 use Rattle.mesh_sim.specs.Air.{is_joined}
+use Rattle.mesh_sim.specs.Fates.{place_of}
 use Rattle.host_orders.specs.Classes.{lists as lists_class}
 use Rattle.host_orders.specs.Refusals.{IsFit}
 use Rattle.host_orders.specs.Wrapping.{form_of, message_of}
@@ -87,6 +91,17 @@ pub record Stands (Is : Flown → Type 0) (flights : List Flown) : Type 0 where
   pub are : flights ≡ before ++ frame ∷ behind
   pub is : Is frame
 
+-- ---- devices
+
+-- the first device of a node is at work on the session
+pub record IsBusy (n session : ℕ) (devices : List State) : Type 0 where
+  pub place : ℕ
+  pub device : State
+  pub first : place_of n devices ≡ Some place
+  pub stands : slice_get devices place ≡ Some device
+  pub taken : device.sessions.taken ≡ session
+  pub working : device.sessions.status ≡ WORKING
+
 -- ---- ticks
 
 abbrev pub ticks_of : ℕ → List HostEvent → ℕ
@@ -128,6 +143,18 @@ one_later (Moving passes ticks) place = 1
 one_later (Moved has_moved passes ticks) place = 1
 one_later here place = 0
 
+-- and one more for a device at a place that is not to tick any more in this one
+abbrev pub has_ticked : Phase → ℕ → ℕ
+has_ticked (Ticking_devices at count ticks) place = if nat_le at place && nat_lt place (at + count) then 0 else 1
+has_ticked (Ticking_chip ticks) place = 1
+has_ticked (Ticking_decoder ticks) place = 1
+has_ticked (Ticking_host events ticks) place = 1
+has_ticked (Sleeping passes ticks) place = 1
+has_ticked (Submitting passes ticks) place = 1
+has_ticked (Moving passes ticks) place = 1
+has_ticked (Moved has_moved passes ticks) place = 1
+has_ticked here place = 0
+
 -- ---- what is to come
 
 -- in a settling, before the chip has taken the request
@@ -146,17 +173,18 @@ pub record AsksFor (n session : ℕ) (h : HostState) : Type 0 where
   pub message : IsMessage session payload
   pub frame : on_line h.side.turn ≡ frame_of request.purpose h.requests.last_id ∷ []
 
--- The request is on its way to the chip; the message is on the air, or the report; or the chip has that for the host. So the host is told within so many ticks.
+-- The request is on its way to the chip; the message is on the air, or the report; the device is at work, for five ticks at most, and then tells the end; or the chip has the report for the host. So the host is told within so many ticks.
 pub data Coming (n session left : ℕ) (here : Phase) (m : Machine) : Type 0 where
-  Asked : IsAsking here → AsksFor n session m.host.state → 2 ≤ left → Coming n session left here m
-  Sent : (at : Stands (IsRequest n session) (on_air m.outside.outer.air.frames)) → ticks_left here + one_later here (length at.before) + 1 ≤ left → Coming n session left here m
+  Asked : IsAsking here → AsksFor n session m.host.state → 6 ≤ left → Coming n session left here m
+  Sent : (at : Stands (IsRequest n session) (on_air m.outside.outer.air.frames)) → ticks_left here + one_later here (length at.before) + 5 ≤ left → Coming n session left here m
   Flies : (at : Stands (IsReport n session) (on_air m.outside.outer.air.frames)) → ticks_left here + one_later here (length at.before) ≤ left → Coming n session left here m
+  At_work : (at : IsBusy n session m.outside.devices) → ticks_left here + has_ticked here at.place + at.device.work_left ≤ left → Coming n session left here m
   Told : (payload : List ℕ) → TellsEnd session payload → Has (brings n payload) (unheard m.outside.outer) → ticks_left here ≤ left → Coming n session left here m
 
 -- within so many at most; and the wait of the attempt does not run, or is far from its end
 pub record IsBounded (n most : ℕ) (here : Phase) (m : Machine) : Type 0 where
   pub left : ℕ
-  pub few : left ≤ 2
+  pub few : left ≤ 6
   pub within : left ≤ most
   pub comes : Coming n (begun_of (node_of m.host.state n).book) left here m
   pub waits : ((node_of m.host.state n).attempt_wait ≡ 0) ⊎ (90 + left + own_ticks n here ≤ (node_of m.host.state n).attempt_wait)
@@ -173,7 +201,7 @@ pub record WaitsFor (n most : ℕ) (here : Phase) (m : Machine) : Type 0 where
   pub bounded : (node_of m.host.state n).series ≡ Running → IsBounded n most here m
 
 abbrev pub AllWaitFor : List Bool → Phase → Machine → Type 0
-AllWaitFor these here m = (n : ℕ) → is_marked these n ≡ true → WaitsFor n 2 here m
+AllWaitFor these here m = (n : ℕ) → is_marked these n ≡ true → WaitsFor n 6 here m
 
 -- ---- commands
 
@@ -185,6 +213,10 @@ pub record GoesWhole (order : Order) (carriage : Carriage) : Type 0 where
 -- so does each of these nodes
 abbrev pub GoWhole : List Bool → List Command → Type 0
 GoWhole these commands = (number : ℕ) (command : Command) → command_at commands number ≡ Some command → is_marked these command.order.node ≡ true → GoesWhole command.order command.carriage
+
+-- the device of each of these nodes lists neither Security 0 nor Transport Service
+abbrev pub ListOpenly : List Bool → List State → Type 0
+ListOpenly these devices = (n : ℕ) → is_marked these n ≡ true → is_layered (Some (listing_of devices n)) ≡ false
 
 -- ---- events
 

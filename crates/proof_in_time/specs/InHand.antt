@@ -1,5 +1,5 @@
 -- Commands that wait for a node, or whose session is open, are in hand until that session is over (this project's own rule), and within how many ticks it is.
-use Rattle.std.specs.Prelude.{◌≡◌, ◌≢◌, ◌⊎◌, ℕ, zero, suc, ◌+◌, ◌≤◌, Bool, true, false, List, [], ◌∷◌, ◌++◌, length, Some, None}
+use Rattle.std.specs.Prelude.{◌≡◌, ◌≢◌, ◌⊎◌, ℕ, zero, suc, ◌+◌, ◌≤◌, Bool, true, if◌then◌else◌, List, [], ◌∷◌, ◌++◌, length, Some, None}
 use Rattle.supervision.specs.Host.{HostBook, begun_of, command_at, open_session}
 use Rattle.chip_sim.specs.Nodes.{is_marked}
 use Rattle.host_node.specs.State.{NodeState}
@@ -36,14 +36,9 @@ pub record RestsBefore (command more : ℕ) (x : NodeState) : Type 0 where
   pub again : x.again_wait ≡ suc wait
   pub stands : StandsAt command more x.waiting
 
--- the host may serve the node at any time: it listens, and no record of a session of it failed to be kept since its last tick
-pub record MayServe (x : NodeState) : Type 0 where
-  pub listens : x.listens ≡ true
-  pub unblocked : x.blocked ≡ false
-
--- so it is of each of these nodes, and no task of its own comes before them
+-- each of these nodes listens, as the host knows, and no task of its own comes before them
 pub record AllServe (these : List Bool) (h : HostState) : Type 0 where
-  pub each : (n : ℕ) → is_marked these n ≡ true → MayServe (node_of h n)
+  pub listens : (n : ℕ) → is_marked these n ≡ true → (node_of h n).listens ≡ true
   pub no_task : h.requests.queue ≡ []
 
 -- a session has its final outcome: the last one, or a later one has begun, which only then does
@@ -58,15 +53,19 @@ pub record HasEnded (command : ℕ) (book : HostBook) : Type 0 where
 
 -- ---- ticks
 
--- those of a session, from the end of the one before it on: one for each of these nodes, whose turn may come before, one until the message is on the air, two
--- until the report comes, and one more
+-- those of a session, from the end of the one before it on: one for each of these nodes, whose turn may come before, six until the report comes that tells the
+-- end of a work, and one more
 abbrev pub ticks_enough : List Bool → ℕ
-ticks_enough these = marked_to these 232 + 4
+ticks_enough these = marked_to these 232 + 7
 
 -- those of so many sessions
 abbrev pub ticks_of_all : List Bool → ℕ → ℕ
 ticks_of_all these zero = 0
 ticks_of_all these (suc sessions) = ticks_enough these + ticks_of_all these sessions
+
+-- where no record of its last session was kept, the node is blocked until its own tick, which comes with the next one of the host
+abbrev pub ticks_blocked : NodeState → ℕ
+ticks_blocked x = if x.blocked then 1 else 0
 
 -- how many ticks have begun
 abbrev pub ticks_begun : Machine → ℕ

@@ -2,6 +2,7 @@
 use Rattle.std.specs.Prelude.{◌≡◌, ℕ, ◌≤◌, Bool, true, false, List, Some, slice_get}
 use Rattle.std.specs.List.{AllByRecursion}
 use Rattle.supervision.specs.Host.{begun_of}
+use Rattle.law_transcript.specs.Nodes.{device_of}
 use Rattle.chip_sim.specs.Nodes.{is_marked}
 use Rattle.mesh_sim.specs.Fates.{place_of}
 use Rattle.device_kinds.specs.Kind.{lists}
@@ -15,20 +16,17 @@ use Rattle.proof_course_plain.specs.Device.{OthersAreIdle}
 use Rattle.proof_course_plain.specs.Mesh.{HasDevice}
 use Rattle.proof_course_plain.specs.World.{OrdersPlain}
 use Rattle.proof_messages.specs.Asking.{takes_openly}
-use Rattle.proof_in_time.specs.Answering.{IsDone, IsInStep}
+use Rattle.proof_messages.specs.Reporting.{CanSay}
+use Rattle.proof_in_time.specs.Answering.{IsDoneOrAtWork, IsInStep}
 
 -- ---- a device
 
--- one without levels is at no work
-abbrev pub IsAtOnce : State → Type 0
-IsAtOnce device = lists device.kind 0x26 ≡ false → device.work_left ≡ 0
-
--- a device without levels, which takes what is not sealed, whole, at no work
+-- a device that takes what is not sealed, whole, at no work or at that of its last session, and what it says can be said
 pub record IsPlainDevice (device : State) : Type 0 where
   pub openly : takes_openly device.kind ≡ true
-  pub at_once : lists device.kind 0x26 ≡ false
   pub whole : lists device.kind 0x55 ≡ false
-  pub is_done : IsDone device
+  pub can : CanSay device
+  pub at : IsDoneOrAtWork device
 
 -- such a one in step with the host
 pub record HearsInStep (session : ℕ) (device : State) : Type 0 where
@@ -66,10 +64,20 @@ IsPlainly these m event = (n : ℕ) → is_marked these n ≡ true → GoesInSte
 
 -- ---- from what that follows
 
--- the first device of a node is as its maker left it, takes what is not sealed, whole, and has no levels; and over these events its orders go unsealed
+-- the first device of a node is of a kind that takes commands in sessions, not sealed, whole
+pub record IsPlainByKind (devices : List State) (n : ℕ) : Type 0 where
+  pub device : State
+  pub first : device_of n devices ≡ Some device
+  pub supervised : lists device.kind 0x6C ≡ true
+  pub unsealed : lists device.kind 0x98 ≡ false
+  pub whole : lists device.kind 0x55 ≡ false
+
+abbrev pub ArePlainByKind : List Bool → List State → Type 0
+ArePlainByKind these devices = (n : ℕ) → is_marked these n ≡ true → IsPlainByKind devices n
+
+-- the first device of a node is as its maker left it, takes what is not sealed, whole; and over these events its orders go unsealed
 pub record IsPlainOver (devices : List State) (events : List Event) (n : ℕ) : Type 0 where
   pub at_first : HasDevice n first_course devices
-  pub at_once : lists at_first.device.kind 0x26 ≡ false
   pub whole : lists at_first.device.kind 0x55 ≡ false
   pub orders : AllByRecursion (OrdersPlain n) events
 

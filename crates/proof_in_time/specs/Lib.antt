@@ -4,4 +4,6 @@ pub mod InStep
 pub mod Coming
 pub mod InHand
 pub mod Plainly
+pub mod Openly
 pub mod Stretch
+pub use Rattle.proof_answered.specs as proof_answered

@@ -14,7 +14,8 @@ use Rattle.proof_in_time.specs.InStep.{ArePlainOver}
 use Rattle.proof_in_time.specs.Plainly.{SpeakPlainly}
 
 -- All lines were run whole; the devices are as their makers left them, and those of these nodes are plain, as are the orders for them. The stretch is for these
--- nodes, and the keeper does not fail in it. As it begins, nothing is on its way that would disturb it, the host may serve these nodes, and has nothing else to do
+-- nodes, and the keeper does not fail in it. As it begins, nothing is on its way that would disturb it, the host knows that these
+-- nodes listen, and has nothing else to do
 pub record IsStretchFor (these : List Bool) (keys : Keys) (devices : List State) (before lines : List Spoken) : Type 0 where
   pub many : length these ≡ 233
   pub none : is_marked these 0 ≡ false

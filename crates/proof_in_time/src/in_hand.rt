@@ -7,7 +7,7 @@ ghost use Rattle.device_sim.specs.State.{State};
 ghost use Rattle.host_model.specs.State.{Command, command_at, node_of};
 ghost use Rattle.world_model.specs.State.{first_machine};
 ghost use Rattle.world_lines.specs.Spoken.{Spoken, after_all};
-ghost use Rattle.proof_in_time.specs.InHand.{HasEnded, IsInHand, RestsBefore, ticks_begun, ticks_of_all};
+ghost use Rattle.proof_in_time.specs.InHand.{HasEnded, IsInHand, RestsBefore, ticks_begun, ticks_blocked, ticks_of_all};
 ghost use Rattle.proof_in_time.specs.Stretch.{IsStretchFor};
 
 use crate::{messages_are_answered, nodes_stay_in_step, waits_never_run_out};
@@ -17,17 +17,19 @@ use proof_course_plain::devices_stay_the_same;
 use proof_messages::reports_tell;
 
 /// Over lines as in `waits_never_run_out`: after some of these, a command for one of these nodes that waits there, or whose session is open and has a series
-/// that is due or runs, has the final outcome of its session once so many ticks have begun from then on as there are of these nodes, and four more, for each
-/// session of its node up to its own (`in_hand`). For with each tick the turn of the node comes nearer, and from its attempt on three ticks begin at most until
-/// the host is told. One that waits after a session that is open and whose series is over has it once the wait until the next series has gone down, and as many
-/// ticks for its own session and each of those before (`rests`). So each command that was accepted in these lines has it within 18 times as many ticks
-/// (`accepted`), since at most 16 wait. As the stretch begins no task of the host waits, what is on its way to it asks for none, and it may serve these nodes:
-/// it listens to them, and keeps their records. So it stays, since these take what is not sealed, whole: what they answer asks for no nonce and no segment.
+/// that is due or runs, has the final outcome of its session once so many ticks have begun from then on as there are of these nodes, and seven more, for each
+/// session of its node up to its own (`in_hand`), and one more where the node is blocked there: since the keeper failed for a session of it, it is so until
+/// its next tick. For with each tick the turn of the node comes nearer, and from its attempt on seven ticks begin at most until the host is told. One that
+/// waits after a session that is open and whose series is over has it once the wait until the next series has gone down, and as many ticks for its own session
+/// and each of those before (`rests`). So each command that was accepted in these lines has it within 18 times as many ticks (`accepted`), and that one more,
+/// since at most 16 wait. As the stretch begins no task of the host waits, what is on its way to it asks for none, and it listens to these nodes. So it stays,
+/// since these take what is not sealed, whole: what they answer asks for no nonce and no segment.
 pub fn commands_end_in_time()
     ensures in_hand { (these : List Bool) (n command more : ℕ) (keys : Keys) (devices : List State) (before first lines : List Spoken) →
         IsStretchFor these keys devices before (first ++ lines) → is_marked these n ≡ true →
         IsInHand command more (node_of (after_all (first_machine keys (Some []) devices) (before ++ first)).host.state n) →
-        ticks_begun (after_all (first_machine keys (Some []) devices) (before ++ first)) + ticks_of_all these (suc more) ≤
+        ticks_begun (after_all (first_machine keys (Some []) devices) (before ++ first)) +
+        (ticks_blocked (node_of (after_all (first_machine keys (Some []) devices) (before ++ first)).host.state n) + ticks_of_all these (suc more)) ≤
         ticks_begun (after_all (first_machine keys (Some []) devices) (before ++ (first ++ lines))) →
         HasEnded command (node_of (after_all (first_machine keys (Some []) devices) (before ++ (first ++ lines))).host.state n).book }
     ensures rests { (these : List Bool) (n command more : ℕ) (keys : Keys) (devices : List State) (before first lines : List Spoken) →
@@ -42,7 +44,8 @@ pub fn commands_end_in_time()
         command_at (after_all (first_machine keys (Some []) devices) (before ++ first)).host.state.commands command ≡ Some found →
         found.order.node ≡ n →
         length (after_all (first_machine keys (Some []) devices) before).host.state.commands + 1 ≤ command →
-        ticks_begun (after_all (first_machine keys (Some []) devices) (before ++ first)) + ticks_of_all these 18 ≤
+        ticks_begun (after_all (first_machine keys (Some []) devices) (before ++ first)) +
+        (ticks_blocked (node_of (after_all (first_machine keys (Some []) devices) (before ++ first)).host.state n) + ticks_of_all these 18) ≤
         ticks_begun (after_all (first_machine keys (Some []) devices) (before ++ (first ++ lines))) →
         HasEnded command (node_of (after_all (first_machine keys (Some []) devices) (before ++ (first ++ lines))).host.state n).book }
 {

@@ -1,15 +1,13 @@
-//! Devices without levels, in step with the host.
+//! Devices in step with the host.
 
 ghost use Rattle.std.specs.Prelude.{◌<◌, List, Some, [], ℕ};
 ghost use Rattle.s0_crypto.specs.declared.key_pair.Keys.{Keys};
-ghost use Rattle.device_sim.specs.Event.{DeviceEvent, device_after};
 ghost use Rattle.device_sim.specs.State.{State};
 ghost use Rattle.world_model.specs.Did.{AllAlong};
 ghost use Rattle.world_model.specs.State.{first_machine};
 ghost use Rattle.world_lines.specs.Spoken.{Spoken};
 ghost use Rattle.world_lines.specs.Done.{AreDone, events_of};
-ghost use Rattle.proof_answered.specs.Few.{AreIdle};
-ghost use Rattle.proof_in_time.specs.InStep.{GoesInStep, IsAtOnce, IsPlainOver};
+ghost use Rattle.proof_in_time.specs.InStep.{GoesInStep, IsPlainOver};
 
 use proof_course_plain::{
     at_most_two_are_on_the_air, devices_go_on, devices_stay_the_same, hosts_write_well,
@@ -17,13 +15,12 @@ use proof_course_plain::{
     units_are_judged_whole, worlds_follow_the_course,
 };
 
-/// A device without levels is at no work, whatever happens to it. So over any lines from the first machine on, whatever is lost, repeated or changed and
-/// however often the host starts again: where the first device of a node is one, takes what is not sealed, and the orders for the node go unsealed, at each
-/// event it is at no work and in step with the host: the host's last session of it is the last that it took, or the next one. And each order for the node is
-/// for an end point up to 127.
+/// Over any lines from the first machine on, whatever is lost, repeated or changed and however often the host starts again: where the first device of a node
+/// takes what is not sealed, and the orders for the node go unsealed, at each event it is in step with the host: the host's last session of it is the last
+/// that it took, or the next one, and then it is at no work. Where it is at work it is to tell the end of that within five ticks. And each order for the node
+/// is for an end point up to 127.
 pub fn nodes_stay_in_step()
-    ensures at_once { (device : State) (event : DeviceEvent) → IsAtOnce device → IsAtOnce (device_after device event) }
-    ensures along { (n : ℕ) (keys : Keys) (devices : List State) (lines : List Spoken) → n < 233 → IsPlainOver devices (events_of lines) n → AreIdle devices →
+    ensures along { (n : ℕ) (keys : Keys) (devices : List State) (lines : List Spoken) → n < 233 → IsPlainOver devices (events_of lines) n →
         AreDone (first_machine keys (Some []) devices) lines → AllAlong (GoesInStep n) (first_machine keys (Some []) devices) (events_of lines) }
 {
     at_most_two_are_on_the_air();

@@ -26,21 +26,21 @@ use proof_spoken::{
 use proof_walk::time_goes_on;
 
 /// Over a stretch as in `commands_end_in_time`: each command for one of these nodes whose acceptance was entered in it has its final outcome in the entries,
-/// once lines have asked for 18 times as many ticks from then on as there are of these nodes, and four more (`accepted`); and so has each that waits as the
-/// stretch begins: after 16 times as many, where the last session of its node has its final outcome (`waiting`); or, where the wait after a series of that
-/// session runs, after 17 times as many and 102 more (`rests`).
+/// once lines have asked for 18 times as many ticks from then on as there are of these nodes, and seven more, and for one more, until whose end the node may be
+/// blocked (`accepted`); and so has each that waits as the stretch begins: after 16 times as many and one more, where the last session of its node has its
+/// final outcome (`waiting`); or, where the wait after a series of that session runs, after 17 times as many and 102 more (`rests`).
 pub fn outcomes_come_in_time()
     ensures accepted { (these : List Bool) (n command : ℕ) (keys : Keys) (devices : List State) (before first lines : List Spoken) →
         IsStretchFor these keys devices before (first ++ lines) → is_marked these n ≡ true →
         Has (shown (accepted_for n) (transcript_of (after_all (first_machine keys (Some []) devices) before) first)) command →
-        ticks_asked (lines_run (transcript_of (first_machine keys (Some []) devices) (before ++ first))) + ticks_of_all these 18 ≤
+        ticks_asked (lines_run (transcript_of (first_machine keys (Some []) devices) (before ++ first))) + (1 + ticks_of_all these 18) ≤
         ticks_asked (lines_run (transcript_of (first_machine keys (Some []) devices) (before ++ (first ++ lines)))) →
         is_final (outcome command (transcript_of (first_machine keys (Some []) devices) (before ++ (first ++ lines)))) ≡ true }
     ensures waiting { (these : List Bool) (n command : ℕ) (keys : Keys) (devices : List State) (before lines : List Spoken) →
         IsStretchFor these keys devices before lines → is_marked these n ≡ true →
         Has (waiting n (transcript_of (first_machine keys (Some []) devices) before)) command →
         is_open n (transcript_of (first_machine keys (Some []) devices) before) ≡ false →
-        ticks_asked (lines_run (transcript_of (first_machine keys (Some []) devices) before)) + ticks_of_all these 16 ≤
+        ticks_asked (lines_run (transcript_of (first_machine keys (Some []) devices) before)) + (1 + ticks_of_all these 16) ≤
         ticks_asked (lines_run (transcript_of (first_machine keys (Some []) devices) (before ++ lines))) →
         is_final (outcome command (transcript_of (first_machine keys (Some []) devices) (before ++ lines))) ≡ true }
     ensures rests { (these : List Bool) (n command : ℕ) (keys : Keys) (devices : List State) (before lines : List Spoken) →

@@ -29,7 +29,7 @@ SameKeys old new = new.keys ≡ old.keys
 
 keeping : Keeping SameKeys
 keeping = record {
-  still = λ old new nodes commands store keys. keys;
+  still = λ old new nodes commands store keys served. keys;
   both = λ a b c first later. later ∙ first;
   node = λ h n event of. refl;
   outcome = λ h command how. refl;
@@ -40,7 +40,7 @@ event_keys h (Accepts order carriage) = refl
 event_keys h (Joins n) = refl
 event_keys h (Interviews n listens classes update) = refl
 event_keys h (Hears_value n setting) = refl
-event_keys h event = each_kept SameKeys keeping (λ h n settings. refl) h event tt
+event_keys h event = each_kept SameKeys keeping (λ h n. refl) (λ h n settings. refl) h event tt
 
 pub all_keys : (h : HostState) (events : List HostEvent) → (after_all h events).keys ≡ h.keys
 all_keys h [] = refl

@@ -16,6 +16,7 @@ pub use Rattle.proof_waking.proofs.Running
 pub use Rattle.proof_transcript.proofs.AttemptStarts
 pub use Rattle.proof_transcript.proofs.ServedNodes
 pub use Rattle.proof_transcript.proofs.Bodies
+pub use Rattle.proof_transcript.proofs.Keeping
 pub use Rattle.proof_transcript.proofs.proof_device_HostOuts
 pub use Rattle.proof_transcript.proofs.Lists
 pub use Rattle.proof_transcript.proofs.StoredValues
@@ -28,3 +29,4 @@ pub use Rattle.proof_waking.proofs.Apart
 pub use Rattle.proof_waking.proofs.Parts
 pub use Rattle.proof_waking.proofs.proof_line_Hosting
 pub use Rattle.proof_transcript.proofs.Ordered
+pub use Rattle.proof_transcript.proofs.Answering as proof_transcript_Answering

@@ -20,10 +20,13 @@ pub use answers::{hosts_answer_lines, hosts_do_as_is_said};
 pub use known::{hosts_keep_what_is_said, hosts_know_what_nodes_list, hosts_know_what_was_told};
 pub use noted::{hosts_note_what_was_told, rejected_telling, worked_telling};
 pub use proof_transcript::{
-    laws_follow, lines_are_answered, orders_are_carried_as_said, tables_are_what_was_said,
+    answers_stand_after_their_lines, interviews_give_what_is_known, laws_follow,
+    lines_are_answered, lines_tell_what_nodes_list, orders_are_carried_as_said,
+    tables_are_what_was_said, the_machine_keeps_facts,
 };
 pub use proof_waking::{
-    hosts_wake_as_told, lines_are_a_hosts, lines_wake_as_told, what_is_heard_is_a_hosts,
+    hosts_wake_as_told, lines_are_a_hosts, lines_wake_as_told, machines_are_read_as_hosts,
+    what_is_heard_is_a_hosts,
 };
 pub use records::hosts_record_what_is_shown;
 pub use shown::hosts_show_what_they_keep;

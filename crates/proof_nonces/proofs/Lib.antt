@@ -11,7 +11,6 @@ mod Opening
 mod Counting
 mod Standing
 mod Unsealed
-pub use Rattle.proof_notes.proofs.AnswerFacts
 pub use Rattle.proof_notes.proofs.ByMessage
 pub use Rattle.proof_notes.proofs.Along as proof_notes_Along
 pub use Rattle.proof_notes.proofs.Walking as proof_notes_Walking
@@ -52,3 +51,4 @@ pub use Rattle.proof_notes.proofs.Stepping
 pub use Rattle.proof_notes.proofs.proof_attempts_Walking as proof_requests_Walking
 pub use Rattle.proof_notes.proofs.Times
 pub use Rattle.proof_notes.proofs.HostNotes
+pub use Rattle.proof_notes.proofs.proof_transcript_Answering

@@ -16,13 +16,16 @@ mod worked;
 
 pub use giving::{hosts_count_nonces, lines_count_nonces};
 pub use proof_notes::{
-    ends_of_tasks_are_told, hosts_ask_as_told, hosts_fall_asleep_as_told, hosts_hold_as_asked,
-    hosts_hold_as_told, hosts_keep_what_is_said, hosts_know_their_work, hosts_know_what_nodes_list,
-    hosts_know_what_was_told, hosts_listen_as_told, hosts_note_in_full, hosts_run_series_as_told,
-    hosts_say_what_is_not_kept, hosts_show_open_sessions, hosts_tell_of_ends, hosts_tell_of_sleep,
-    laws_follow, lines_are_a_hosts, lines_fall_asleep_as_told, lines_hold_as_asked,
-    lines_note_in_full, lines_say_what_is_not_kept, orders_are_carried_as_said,
-    tables_are_what_was_said, tasks_end_in_order, what_is_heard_is_a_hosts,
+    answers_stand_after_their_lines, ends_of_tasks_are_told, hosts_ask_as_told,
+    hosts_fall_asleep_as_told, hosts_hold_as_asked, hosts_hold_as_told, hosts_keep_what_is_said,
+    hosts_know_their_work, hosts_know_what_nodes_list, hosts_know_what_was_told,
+    hosts_listen_as_told, hosts_note_in_full, hosts_run_series_as_told, hosts_say_what_is_not_kept,
+    hosts_show_open_sessions, hosts_tell_of_ends, hosts_tell_of_sleep,
+    interviews_give_what_is_known, laws_follow, lines_are_a_hosts, lines_are_answered,
+    lines_fall_asleep_as_told, lines_hold_as_asked, lines_note_in_full, lines_say_what_is_not_kept,
+    lines_tell_what_nodes_list, machines_are_read_as_hosts, orders_are_carried_as_said,
+    tables_are_what_was_said, tasks_end_in_order, the_machine_keeps_facts,
+    what_is_heard_is_a_hosts,
 };
 pub use sealing::{hosts_seal_once, lines_seal_once};
 pub use worked::{rejected_counts, rejected_seals, worked_seals};

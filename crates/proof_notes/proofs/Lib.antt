@@ -16,11 +16,9 @@ pub use Rattle.proof_attempts.proofs.Wrote
 pub use Rattle.proof_attempts.proofs.proof_requests_Telling
 pub use Rattle.proof_attempts.proofs.Queueing
 pub use Rattle.proof_attempts.proofs.Lasting
-pub use Rattle.proof_known.proofs.AnswerFacts
 pub use Rattle.proof_known.proofs.KeptKeys
 pub use Rattle.proof_known.proofs.Running
 pub use Rattle.proof_known.proofs.Apart
-pub use Rattle.proof_known.proofs.Bodies
 pub use Rattle.proof_known.proofs.Events
 pub use Rattle.proof_known.proofs.Lists
 pub use Rattle.proof_known.proofs.Noting
@@ -54,3 +52,4 @@ pub use Rattle.proof_attempts.proofs.Payloads as attempts_Payloads
 pub use Rattle.proof_attempts.proofs.Computing
 pub use Rattle.proof_attempts.proofs.SealedByNumber
 pub use Rattle.proof_attempts.proofs.SealedTexts
+pub use Rattle.proof_known.proofs.proof_transcript_Answering

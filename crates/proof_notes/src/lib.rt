@@ -22,8 +22,10 @@ pub use proof_attempts::{
     what_is_heard_is_a_hosts,
 };
 pub use proof_known::{
-    hosts_keep_what_is_said, hosts_know_what_nodes_list, hosts_know_what_was_told, laws_follow,
-    orders_are_carried_as_said, tables_are_what_was_said,
+    answers_stand_after_their_lines, hosts_keep_what_is_said, hosts_know_what_nodes_list,
+    hosts_know_what_was_told, interviews_give_what_is_known, laws_follow, lines_are_answered,
+    lines_tell_what_nodes_list, machines_are_read_as_hosts, orders_are_carried_as_said,
+    tables_are_what_was_said, the_machine_keeps_facts,
 };
 pub use unkept::{hosts_say_what_is_not_kept, lines_say_what_is_not_kept};
 pub use worked::{rejected_notes, rejected_unkept, worked_notes};

@@ -31,10 +31,10 @@ use Rattle.law_transcript.specs.Units.{Carried, bringing_in, bringing_of, read_w
 use Rattle.law_time.specs.Ends.{is_ending_here}
 use Rattle.law_time.specs.Heeds.{Heeds}
 use Rattle.law_time.specs.Queue.{queue_before}
-use Rattle.proof_choice.specs.proof_giving.Told.{LeavesAttempts, attempts_so_far}
-use Rattle.proof_choice.proofs.Asking.{mark_leaves}
-use Rattle.proof_choice.proofs.Framed.{notices_in, notices_of}
-use Rattle.proof_choice.proofs.Told.{attempts_left}
+use Rattle.proof_hearing.specs.proof_choice.proof_giving.Told.{LeavesAttempts, attempts_so_far}
+use Rattle.proof_hearing.proofs.Asking.{mark_leaves}
+use Rattle.proof_hearing.proofs.Framed.{notices_in, notices_of}
+use Rattle.proof_hearing.proofs.Told.{attempts_left}
 use Rattle.proof_hearing.specs.Books.{BooksSo}
 use Rattle.proof_hearing.specs.Hearing.{Whole, choosing, finishes, hearing_at}
 use Rattle.proof_hearing.specs.proof_queue.Heeding.{heeded_frame, heeded_notice, heeded_payload}
@@ -50,10 +50,10 @@ use Rattle.proof_hearing.specs.proof_queue.proof_attempts.proof_requests.proof_a
 use Rattle.proof_hearing.proofs.Alike.{same_alike}
 use Rattle.proof_hearing.proofs.BooksGo.{books_on}
 use Rattle.proof_hearing.proofs.Spelled.{source_is}
-use Rattle.proof_choice.specs.proof_following.Quiet.{acknowledges}
-use Rattle.proof_choice.proofs.Acks.{ack_after, frame_next_is, judges_payload}
-use Rattle.proof_choice.proofs.Framing.{none_ends}
-use Rattle.proof_choice.proofs.proof_ends_Walking.{ShowsOpen}
+use Rattle.proof_hearing.specs.proof_choice.proof_following.Quiet.{acknowledges}
+use Rattle.proof_hearing.proofs.Acks.{ack_after, frame_next_is, judges_payload}
+use Rattle.proof_hearing.proofs.Framing.{none_ends}
+use Rattle.proof_hearing.proofs.proof_ends_Walking.{ShowsOpen}
 use Rattle.proof_noting.specs.Following.{Outset, course_since}
 use Rattle.proof_noting.specs.Behind.{AtOpen, InPayload}
 use Rattle.proof_noting.specs.Ground.{GroundAlong}

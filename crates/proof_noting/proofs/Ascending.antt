@@ -1,11 +1,11 @@
 -- The nodes that tick come in the order of their numbers, as the nodes in order do that the course of notes looks at: where one gives up, those before it are done or do not tick.
 use Rattle.host_model.specs.Events.{HostEvent, Node_ticks}
 use Rattle.law_transcript.specs.Lists.{Has}
-use Rattle.proof_choice.proofs.proof_queue_Orders.{is_among}
+use Rattle.proof_hearing.proofs.proof_queue_Orders.{is_among}
 use Rattle.proof_hearing.specs.proof_queue.proof_attempts.Since.{is_to_tick}
 use Rattle.proof_hearing.specs.proof_queue.proof_attempts.proof_requests.Walking.{IsNodeTick}
 use Rattle.proof_hearing.specs.proof_queue.proof_attempts.proof_requests.law_host.Ticks.{nodes_in_order}
-use Rattle.proof_choice.specs.proof_following.proof_ends.Ascending.{Ascends}
+use Rattle.proof_hearing.specs.proof_choice.proof_ends.Ascending.{Ascends}
 use Rattle.proof_hearing.proofs.Ordered.{Sorted, in_order_has, in_order_sorted}
 use Rattle.std.proofs.Common.{Bool, List, [], ap, ap₂, arith, false, inl, inr, refl, sym, true, ℕ, ◌++◌, ◌<◌, ◌==◌, ◌||◌, ◌∷◌, ◌≡◌, ◌≤◌}
 use Rattle.std.proofs.lemmas.Bool.{eqb-true, ne_eqb}

@@ -36,24 +36,24 @@ use Rattle.host_model.specs.Outs.{answers}
 use Rattle.host_model.specs.Sessions.{message_for, nonce_get, start_by}
 use Rattle.host_model.proofs.Submitted.{next_is}
 use Rattle.proof_messages.proofs.SealedTexts.{first_bare}
-use Rattle.proof_choice.specs.proof_giving.Tie.{has_text}
-use Rattle.proof_choice.specs.proof_giving.proof_queue.proof_attempts.Since.{KnowsSince, Lasts, TieOf, AlongRuns}
-use Rattle.proof_choice.specs.proof_giving.proof_queue.proof_attempts.Waking.{KnowsWork}
-use Rattle.proof_choice.specs.proof_giving.proof_queue.proof_attempts.proof_requests.Walking.{Ground as RequestsGround, KnowsAsked}
-use Rattle.proof_choice.specs.proof_giving.proof_queue.proof_attempts.proof_requests.proof_alone.Phases.{Phase, Resting, Asked, Open, Submitting, May}
-use Rattle.proof_choice.specs.proof_giving.proof_queue.proof_attempts.proof_requests.proof_alone.Runs.{Knowledge, both_know}
-use Rattle.proof_choice.specs.proof_giving.proof_queue.proof_attempts.proof_requests.proof_alone.State.{HostMachine, done}
-use Rattle.proof_choice.specs.proof_giving.proof_queue.proof_attempts.proof_requests.proof_alone.Steps.{Does, IsAskedBy}
-use Rattle.proof_choice.specs.proof_giving.proof_queue.proof_attempts.proof_work.Doing.{IsTold}
-use Rattle.proof_choice.proofs.proof_giving_Along.{texts_run}
-use Rattle.proof_choice.proofs.Counting.{each_restarts}
-use Rattle.proof_choice.proofs.Doings.{did, node_after}
-use Rattle.proof_choice.proofs.Lasting.{along, since_walk}
-use Rattle.proof_choice.proofs.Requested.{Unsubmitted, event_keeps}
-use Rattle.proof_choice.proofs.Stepping.{IsSubmission, asked_beside, submissions}
-use Rattle.proof_choice.proofs.Wrote.{Wrote, writes}
-use Rattle.proof_choice.proofs.Wrote.Wrote.{Quietly, Again, Anew}
-use Rattle.proof_choice.proofs.Staying.{LeavesTexts, Stays, all_stay, event_goes, no_some}
+use Rattle.proof_hearing.specs.proof_choice.proof_giving.Tie.{has_text}
+use Rattle.proof_hearing.specs.proof_nonces.proof_attempts.Since.{KnowsSince, Lasts, TieOf, AlongRuns}
+use Rattle.proof_hearing.specs.proof_nonces.proof_attempts.Waking.{KnowsWork}
+use Rattle.proof_hearing.specs.proof_nonces.proof_requests.Walking.{Ground as RequestsGround, KnowsAsked}
+use Rattle.proof_hearing.specs.proof_nonces.proof_known.proof_alone.Phases.{Phase, Resting, Asked, Open, Submitting, May}
+use Rattle.proof_hearing.specs.proof_nonces.proof_known.proof_alone.Runs.{Knowledge, both_know}
+use Rattle.proof_hearing.specs.proof_nonces.proof_known.proof_alone.State.{HostMachine, done}
+use Rattle.proof_hearing.specs.proof_nonces.proof_known.proof_alone.Steps.{Does, IsAskedBy}
+use Rattle.proof_hearing.specs.proof_nonces.proof_work.Doing.{IsTold}
+use Rattle.proof_hearing.proofs.proof_giving_Along.{texts_run}
+use Rattle.proof_hearing.proofs.Counting.{each_restarts}
+use Rattle.proof_hearing.proofs.Doings.{did, node_after}
+use Rattle.proof_hearing.proofs.Lasting.{along, since_walk}
+use Rattle.proof_hearing.proofs.Requested.{Unsubmitted, event_keeps}
+use Rattle.proof_hearing.proofs.proof_queue_Stepping.{IsSubmission, asked_beside, submissions}
+use Rattle.proof_hearing.proofs.Wrote.{Wrote, writes}
+use Rattle.proof_hearing.proofs.Wrote.Wrote.{Quietly, Again, Anew}
+use Rattle.proof_hearing.proofs.Staying.{LeavesTexts, Stays, all_stay, event_goes, no_some}
 use Rattle.proof_hearing.specs.proof_nonces.Known.{AreOther, KnowsSealing}
 use Rattle.proof_hearing.proofs.Queueing.{opened_asks}
 

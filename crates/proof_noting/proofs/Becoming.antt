@@ -41,14 +41,14 @@ use Rattle.proof_hearing.specs.proof_queue.proof_attempts.proof_requests.proof_a
 use Rattle.proof_hearing.specs.proof_queue.proof_attempts.proof_requests.proof_alone.Steps.{AreFrames}
 use Rattle.proof_hearing.specs.proof_queue.proof_attempts.proof_requests.proof_alone.Phases.{Phase, Resting, Open, Behind, Sleeping, Submitting}
 use Rattle.proof_hearing.proofs.Slept.{frame_tells}
-use Rattle.proof_choice.specs.proof_following.Ended.{rest_of, sleep_entries}
-use Rattle.proof_choice.specs.proof_following.Quiet.{IsWithin, NoneGone, NothingOf, Waits, ended_silently}
-use Rattle.proof_choice.proofs.Coming.{calm_ticks}
-use Rattle.proof_choice.proofs.Entering.{comes_within}
-use Rattle.proof_choice.proofs.Silent.{silently_denied, silently_ticks}
-use Rattle.proof_choice.proofs.Ticking.{undenied}
-use Rattle.proof_choice.proofs.proof_ends_Noting.{asked_by, asleep_is, purpose_asks, purpose_interviews}
-use Rattle.proof_choice.proofs.proof_ends_Walking.{ShowsOpen, nodes_so}
+use Rattle.proof_hearing.specs.proof_choice.proof_following.Ended.{rest_of, sleep_entries}
+use Rattle.proof_hearing.specs.proof_choice.proof_following.Quiet.{IsWithin, NoneGone, NothingOf, Waits, ended_silently}
+use Rattle.proof_hearing.proofs.Coming.{calm_ticks}
+use Rattle.proof_hearing.proofs.Entering.{comes_within}
+use Rattle.proof_hearing.proofs.Silent.{silently_denied, silently_ticks}
+use Rattle.proof_hearing.proofs.Ticking.{undenied}
+use Rattle.proof_hearing.proofs.proof_ends_Noting.{asked_by, asleep_is, purpose_asks, purpose_interviews}
+use Rattle.proof_hearing.proofs.proof_ends_Walking.{ShowsOpen, nodes_so}
 use Rattle.proof_noting.specs.Behind.{Answered}
 use Rattle.proof_noting.specs.Following.{Follows, IsLevel, Lags, Level, timed}
 use Rattle.proof_noting.specs.Ground.{NotingGround}

@@ -36,13 +36,13 @@ use Rattle.host_model.specs.State.{HostState, node_of}
 use Rattle.host_model.specs.declared.out.HostOut.TheVariants.{Note}
 use Rattle.host_model.proofs.Pumps.{next_works}
 use Rattle.proof_host.proofs.Commands.{taken_set}
-use Rattle.proof_choice.proofs.Queued.{served_is_node}
-use Rattle.proof_choice.proofs.Stepping.{not_awaiting}
-use Rattle.proof_choice.proofs.Told.{attempts_left, node_is}
-use Rattle.proof_choice.proofs.proof_attempts_Walking.{turn_idle}
-use Rattle.proof_choice.specs.proof_giving.Told.{LeavesAttempts}
-use Rattle.proof_choice.proofs.Parts.{to_begin}
-use Rattle.proof_choice.proofs.ReadyTie.{facts_of, within_of}
+use Rattle.proof_hearing.proofs.Queued.{served_is_node}
+use Rattle.proof_hearing.proofs.proof_queue_Stepping.{not_awaiting}
+use Rattle.proof_hearing.proofs.Told.{attempts_left, node_is}
+use Rattle.proof_hearing.proofs.proof_attempts_Walking.{turn_idle}
+use Rattle.proof_hearing.specs.proof_choice.proof_giving.Told.{LeavesAttempts}
+use Rattle.proof_hearing.proofs.Parts.{to_begin}
+use Rattle.proof_hearing.proofs.ReadyTie.{facts_of, within_of}
 use Rattle.proof_hearing.specs.Books.{BooksSo, SealedOpen, SealerSo}
 use Rattle.proof_hearing.specs.proof_queue.proof_attempts.proof_requests.Asking.{Doing, TieAsked, TieLine, TieUnderWay, doing_of}
 use Rattle.proof_hearing.specs.proof_queue.proof_attempts.proof_requests.Standing.{standing_of}
@@ -57,10 +57,10 @@ use Rattle.proof_hearing.proofs.Alike.{here_node, other_node, same_alike}
 use Rattle.proof_hearing.proofs.BooksGo.{books_one, sealer_on}
 use Rattle.proof_hearing.proofs.proof_attempts_Ending.{over_so}
 use Rattle.proof_hearing.proofs.proof_requests_Ended.{gave_up}
-use Rattle.proof_choice.specs.proof_following.Ended.{sleep_entries}
-use Rattle.proof_choice.specs.proof_following.Quiet.{IsPlainly}
-use Rattle.proof_choice.proofs.Entering.{plainly_within}
-use Rattle.proof_choice.proofs.proof_ends_Walking.{ShowsOpen}
+use Rattle.proof_hearing.specs.proof_choice.proof_following.Ended.{sleep_entries}
+use Rattle.proof_hearing.specs.proof_choice.proof_following.Quiet.{IsPlainly}
+use Rattle.proof_hearing.proofs.Entering.{plainly_within}
+use Rattle.proof_hearing.proofs.proof_ends_Walking.{ShowsOpen}
 use Rattle.proof_noting.specs.Following.{IsLevel, IsQuiet, Outset, timed}
 use Rattle.proof_noting.specs.Ground.{GroundAlong, NotingGround}
 use Rattle.proof_noting.specs.Noting.{AtRest, KnowsCourse}

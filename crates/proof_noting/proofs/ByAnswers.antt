@@ -48,12 +48,12 @@ use Rattle.host_model.specs.Facts.{HostFacts}
 use Rattle.host_model.specs.Outs.{noted, outs, request_entries}
 use Rattle.host_model.specs.Taking.{told_requests}
 use Rattle.proof_host.specs.Tables.{taken_at}
-use Rattle.proof_choice.specs.proof_giving.proof_queue.proof_attempts.Since.{AlongRuns, KnowsSince}
-use Rattle.proof_choice.proofs.Doings.{does_at, end_does, node_after, purpose_does}
-use Rattle.proof_choice.proofs.Holding.{clock_now}
+use Rattle.proof_hearing.specs.proof_nonces.proof_attempts.Since.{AlongRuns, KnowsSince}
+use Rattle.proof_hearing.proofs.Doings.{does_at, end_does, node_after, purpose_does}
+use Rattle.proof_hearing.proofs.Holding.{clock_now}
 use Rattle.proof_hearing.proofs.EndsLate.{denied_here}
 use Rattle.proof_hearing.proofs.OnLine.{was_denied}
-use Rattle.proof_choice.proofs.ReadyTie.{asked_of, facts_of, ground_of}
+use Rattle.proof_hearing.proofs.ReadyTie.{asked_of, facts_of, ground_of}
 use Rattle.proof_hearing.specs.Books.{BooksSo, nonces_to}
 use Rattle.proof_hearing.specs.Hearing.{choosing}
 use Rattle.proof_hearing.specs.proof_queue.proof_attempts.proof_requests.Asking.{TieAsked, TieLine, doing_from, doing_next, doing_of, to_come, TieUnderWay}
@@ -72,14 +72,14 @@ use Rattle.proof_hearing.specs.proof_queue.proof_attempts.proof_work.Doing.{IsTo
 use Rattle.proof_hearing.proofs.Alike.{same_alike}
 use Rattle.proof_hearing.proofs.BooksGo.{books_on}
 use Rattle.proof_hearing.proofs.proof_requests_Ended.{denied_fails}
-use Rattle.proof_choice.specs.proof_following.Ended.{AreGone, EndingOf, noted_by, outcome_entries, sent_by, rest_of, sleep_entries}
-use Rattle.proof_choice.specs.proof_following.Quiet.{ended_silently}
-use Rattle.proof_choice.specs.proof_following.proof_ends.Ends.{errands_of, seconds_of}
-use Rattle.proof_choice.proofs.Ending.{entries_are, late_is}
-use Rattle.proof_choice.proofs.Entering.{comes_within, first_after, note_plainly, notes_after, plainly_within}
-use Rattle.proof_choice.proofs.HostEnds.{ending_of}
-use Rattle.proof_choice.proofs.Ticking.{denied}
-use Rattle.proof_choice.proofs.proof_ends_Walking.{ShowsOpen, event_way}
+use Rattle.proof_hearing.specs.proof_choice.proof_following.Ended.{AreGone, EndingOf, noted_by, outcome_entries, sent_by, rest_of, sleep_entries}
+use Rattle.proof_hearing.specs.proof_choice.proof_following.Quiet.{ended_silently}
+use Rattle.proof_hearing.specs.proof_choice.proof_ends.Ends.{errands_of, seconds_of}
+use Rattle.proof_hearing.proofs.Ending.{entries_are, late_is}
+use Rattle.proof_hearing.proofs.Entering.{comes_within, first_after, note_plainly, notes_after, plainly_within}
+use Rattle.proof_hearing.proofs.HostEnds.{ending_of}
+use Rattle.proof_hearing.proofs.Ticking.{denied}
+use Rattle.proof_hearing.proofs.proof_ends_Walking.{ShowsOpen, event_way}
 use Rattle.proof_noting.specs.Behind.{AtOpen, OneLeft}
 use Rattle.proof_noting.specs.Following.{Follows, Lags, Level, Outset, timed}
 use Rattle.proof_noting.specs.Ground.{GroundAlong, NotingGround}
@@ -94,7 +94,7 @@ use Rattle.proof_noting.proofs.EndLeaves.{request_leaves, slept_not}
 use Rattle.proof_noting.proofs.EndedBooks.{bad_ended}
 use Rattle.proof_noting.proofs.Followed.{follows_by}
 use Rattle.proof_noting.proofs.Going.{so_on}
-use Rattle.proof_noting.proofs.GoneSo.{are_gone, most}
+use Rattle.proof_noting.proofs.GoneSo.{are_gone, most, none_noted}
 use Rattle.proof_noting.proofs.Sendings.{ToNodes, sending_nodes}
 use Rattle.proof_noting.proofs.Surely.{sure_step}
 
@@ -429,11 +429,7 @@ module _ (key : List ℕ) (taken : List Entry → Carried → List Told) (from :
       bad = badly_goes heeds past (clock past) outcome noting_it sent gone
 
       none_sent : sent ≡ [] → outcome ≡ []
-      none_sent none = by gone
-        where
-          by : AreGone heeds (past ++ noting_it.due) (clock past) u.purpose id outcome → outcome ≡ []
-          by (inl (nothing, is)) = is
-          by (inr (one, is, some)) = absurd (let no : one ∷ [] ≡ [] = sym is ∙ none in cc)
+      none_sent = none_noted heeds (past ++ noting_it.due) (clock past) u.purpose id outcome gone
 
       abbrev made : Course
       made = made_of sent bad.gone outcome noting_it

@@ -21,9 +21,9 @@ use Rattle.host_requests.specs.declared.task.Purpose.TheVariants.{Abort, Attempt
 use Rattle.host_model.specs.State.{HostState, node_of}
 use Rattle.host_model.specs.After.{after}
 use Rattle.host_model.specs.Events.{Hears}
-use Rattle.proof_choice.proofs.Stepping.{not_awaiting, time_told}
-use Rattle.proof_choice.proofs.proof_requests_Telling.{IsQuiet as QuietEntry, mark_quiet}
-use Rattle.proof_choice.proofs.ReadyTie.{ground_of}
+use Rattle.proof_hearing.proofs.proof_queue_Stepping.{not_awaiting, time_told}
+use Rattle.proof_hearing.proofs.proof_requests_Telling.{IsQuiet as QuietEntry, mark_quiet}
+use Rattle.proof_hearing.proofs.ReadyTie.{ground_of}
 use Rattle.proof_hearing.specs.Books.{BooksSo}
 use Rattle.proof_hearing.specs.Hearing.{choosing}
 use Rattle.proof_hearing.specs.proof_queue.proof_attempts.proof_requests.Walking.{Ground as RequestsGround}
@@ -35,9 +35,9 @@ use Rattle.proof_hearing.specs.proof_queue.proof_attempts.proof_requests.proof_a
 use Rattle.proof_hearing.specs.proof_queue.proof_attempts.proof_requests.proof_alone.Phases.{IsNumbered, Open}
 use Rattle.proof_hearing.proofs.Alike.{same_alike}
 use Rattle.proof_hearing.proofs.BooksGo.{books_on}
-use Rattle.proof_choice.specs.proof_following.Ended.{sleep_entries}
-use Rattle.proof_choice.proofs.Entering.{plain_after}
-use Rattle.proof_choice.proofs.proof_ends_Walking.{ShowsOpen}
+use Rattle.proof_hearing.specs.proof_choice.proof_following.Ended.{sleep_entries}
+use Rattle.proof_hearing.proofs.Entering.{plain_after}
+use Rattle.proof_hearing.proofs.proof_ends_Walking.{ShowsOpen}
 use Rattle.proof_noting.specs.Behind.{Answered, AtOpen}
 use Rattle.proof_noting.specs.Following.{IsQuiet, Lags, Outset, timed}
 use Rattle.proof_noting.specs.Ground.{GroundAlong, NotingGround}

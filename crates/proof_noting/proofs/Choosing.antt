@@ -11,8 +11,8 @@ use Rattle.proof_hearing.specs.Hearing.{choosing}
 use Rattle.proof_hearing.specs.proof_queue.proof_attempts.proof_requests.law_host.Course.{Book, Choices, Course, book_of, each_in_turn, nothing_sealed, with_book, without_texts}
 use Rattle.proof_hearing.specs.proof_queue.proof_attempts.proof_requests.law_host.Ends.{ends_sealing, is_of_sealed}
 use Rattle.proof_hearing.specs.proof_queue.proof_attempts.proof_requests.law_host.Following.{comes_to, course_after, is_note, may_stand}
-use Rattle.proof_choice.specs.proof_following.Quiet.{IsPlainly, ended_silently}
-use Rattle.proof_choice.proofs.Entering.{course_both, makes_none, marks_after, notes_after, plain_after}
+use Rattle.proof_hearing.specs.proof_choice.proof_following.Quiet.{IsPlainly, ended_silently}
+use Rattle.proof_hearing.proofs.Entering.{course_both, makes_none, marks_after, notes_after, plain_after}
 use Rattle.proof_noting.specs.Following.{CourseOf, Goes, Outset, course_since, first_course}
 
 -- ---- the end of a request with nothing to note

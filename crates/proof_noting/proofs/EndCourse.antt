@@ -6,8 +6,8 @@ use Rattle.law_time.specs.Heeds.{Heeds}
 use Rattle.proof_hearing.specs.Hearing.{choosing}
 use Rattle.proof_hearing.specs.proof_queue.proof_attempts.proof_requests.law_host.Course.{Course, each_in_turn, with_notes, without_texts}
 use Rattle.proof_hearing.specs.proof_queue.proof_attempts.proof_requests.law_host.Ends.{ends_badly, ends_sealing, given_up_notes, gives_up, is_of_sealed, to_give_up_by_end}
-use Rattle.proof_choice.specs.proof_following.Ended.{GoneOf, rest_of}
-use Rattle.proof_choice.proofs.Ending.{sealing_due}
+use Rattle.proof_hearing.specs.proof_choice.proof_following.Ended.{GoneOf, rest_of}
+use Rattle.proof_hearing.proofs.Ending.{sealing_due}
 use Rattle.proof_noting.proofs.InFront.{sealing_passes}
 
 -- ---- the course

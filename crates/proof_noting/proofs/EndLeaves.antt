@@ -37,7 +37,7 @@ use Rattle.host_model.specs.Ends.{Bad, Good as part_good, PartEnd, Passed_over, 
 use Rattle.host_model.specs.Events.{HostEvent, Requests_do}
 use Rattle.host_model.specs.Facts.{HostFacts}
 use Rattle.proof_host.proofs.Commands.{taken_set}
-use Rattle.proof_choice.proofs.Doings.{Doing, did, does_all, does_at, end_does, node_after, nodes_are, part_does, purpose_does, task_does}
+use Rattle.proof_hearing.proofs.Doings.{Doing, did, does_all, does_at, end_does, node_after, nodes_are, part_does, purpose_does, task_does}
 use Rattle.proof_hearing.specs.proof_queue.proof_attempts.proof_work.Doing.{IsTold}
 use Rattle.proof_hearing.proofs.Alike.{Alike, Cleared, other_node}
 use Rattle.proof_hearing.proofs.BooksGo.{KeepsOrders}

@@ -41,8 +41,8 @@ use Rattle.host_model.specs.Ends.{Bad, Good as part_good, PartEnd, Passed_over, 
 use Rattle.host_model.specs.Events.{Node_ticks, Requests_do}
 use Rattle.host_model.specs.Facts.{HostFacts}
 use Rattle.host_model.specs.Outs.{noted, request_entries}
-use Rattle.proof_choice.proofs.HostOuts.{EndsAre, OutsAre, outs_put}
-use Rattle.proof_choice.proofs.Opening.{open_last}
+use Rattle.proof_hearing.proofs.HostOuts.{EndsAre, OutsAre, outs_put}
+use Rattle.proof_hearing.proofs.Opening.{open_last}
 use Rattle.proof_hearing.proofs.Nodes.{ends_by}
 use Rattle.proof_hearing.specs.Books.{nonces_to, BooksSo}
 use Rattle.proof_hearing.specs.proof_queue.proof_attempts.proof_requests.Ends.{EndsHere, next_at}
@@ -54,10 +54,10 @@ use Rattle.proof_hearing.specs.proof_queue.proof_attempts.proof_work.Doing.{IsTo
 use Rattle.proof_hearing.proofs.SeriesGoes.{lasts_of, others_by}
 use Rattle.proof_hearing.proofs.Alike.{same_alike}
 use Rattle.proof_hearing.proofs.BooksGo.{books_on}
-use Rattle.proof_choice.specs.proof_following.Ended.{EndingOf, IsByFrame, IsFrameEvent, answer_entries, errand_entries, failed_entries, noted_by, outcome_entries, sent_by, sleep_entries}
-use Rattle.proof_choice.proofs.Ending.{frame_notes_are, interview_fails}
-use Rattle.proof_choice.proofs.Framing.{callback_framed, response_framed, update_framed}
-use Rattle.proof_choice.proofs.proof_ends_Noting.{badly}
+use Rattle.proof_hearing.specs.proof_choice.proof_following.Ended.{EndingOf, IsByFrame, IsFrameEvent, answer_entries, errand_entries, failed_entries, noted_by, outcome_entries, sent_by, sleep_entries}
+use Rattle.proof_hearing.proofs.Ending.{frame_notes_are, interview_fails}
+use Rattle.proof_hearing.proofs.Framing.{callback_framed, response_framed, update_framed}
+use Rattle.proof_hearing.proofs.proof_ends_Noting.{badly}
 use Rattle.proof_noting.proofs.EndLeaves.{request_leaves}
 use Rattle.proof_noting.proofs.Lately.{KeepsLate}
 use Rattle.proof_noting.proofs.Sendings.{ToNodes}

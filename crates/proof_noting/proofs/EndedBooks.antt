@@ -28,7 +28,7 @@ use Rattle.host_model.specs.Ends.{Bad, Good as part_good, PartEnd, Passed_over, 
 use Rattle.host_model.specs.Events.{Requests_do}
 use Rattle.host_model.specs.Facts.{HostFacts}
 use Rattle.host_model.specs.Outs.{request_entries}
-use Rattle.proof_choice.specs.proof_giving.Tie.{has_text}
+use Rattle.proof_hearing.specs.proof_choice.proof_giving.Tie.{has_text}
 use Rattle.proof_hearing.specs.Books.{BooksSo}
 use Rattle.proof_hearing.specs.proof_queue.proof_attempts.proof_requests.Carrying.{CarriesSo}
 use Rattle.proof_hearing.specs.proof_queue.proof_attempts.proof_requests.law_host.Course.{Course, without_texts}
@@ -37,7 +37,7 @@ use Rattle.proof_hearing.specs.proof_queue.proof_attempts.proof_requests.law_hos
 use Rattle.proof_hearing.specs.proof_queue.proof_attempts.proof_requests.law_host.Nonces.{is_late}
 use Rattle.proof_hearing.specs.proof_queue.proof_attempts.proof_work.Doing.{IsTold}
 use Rattle.proof_hearing.proofs.Alike.{Alike}
-use Rattle.proof_choice.specs.proof_following.Ended.{GaveUp, outcome_entries, sent_by}
+use Rattle.proof_hearing.specs.proof_choice.proof_following.Ended.{GaveUp, outcome_entries, sent_by}
 use Rattle.proof_noting.proofs.AsksSealed.{AskSo}
 use Rattle.proof_noting.proofs.EndCourse.{made_of}
 use Rattle.proof_noting.proofs.EndLeaves.{CutOff, EndLeaves, NodeEnds, cut_at, itself, kept_at, node_ends, others_at, request_leaves}

@@ -16,7 +16,7 @@ use Rattle.proof_hearing.specs.proof_queue.proof_attempts.proof_requests.law_hos
 use Rattle.proof_hearing.specs.proof_queue.proof_attempts.proof_requests.law_host.HostLegal.{IsHeeded, gone_through}
 use Rattle.proof_hearing.specs.proof_queue.proof_attempts.proof_requests.law_host.Nonces.{IsOffer, IsOpening, IsSeal, UsesNonces}
 use Rattle.proof_hearing.specs.proof_queue.proof_attempts.proof_requests.proof_alone.State.{HostMachine}
-use Rattle.proof_choice.specs.proof_following.Quiet.{ended_silently}
+use Rattle.proof_hearing.specs.proof_choice.proof_following.Quiet.{ended_silently}
 use Rattle.proof_noting.specs.Following.{CourseOf, Follows, Lags, Level, Outset, course_since, timed}
 use Rattle.proof_noting.specs.Steps.{Fitting}
 use Rattle.proof_noting.proofs.Choosing.{silently_is}

@@ -15,7 +15,7 @@ use Rattle.proof_hearing.specs.proof_queue.proof_attempts.proof_requests.law_hos
 use Rattle.proof_hearing.specs.proof_queue.proof_attempts.proof_requests.law_host.Heard.{heeds_alone}
 use Rattle.proof_hearing.specs.proof_queue.proof_attempts.proof_requests.law_host.HostLegal.{IsHeeded}
 use Rattle.proof_hearing.specs.proof_queue.proof_attempts.proof_requests.proof_alone.State.{HostMachine}
-use Rattle.proof_choice.specs.proof_following.Quiet.{ended_silently}
+use Rattle.proof_hearing.specs.proof_choice.proof_following.Quiet.{ended_silently}
 use Rattle.proof_noting.specs.Following.{Follows, Lags, Level, timed}
 use Rattle.proof_noting.specs.Ticking.{OverSo}
 use Rattle.proof_noting.proofs.Aborts.{abort_unended}

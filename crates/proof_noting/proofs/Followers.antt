@@ -21,18 +21,19 @@ use Rattle.law_time.specs.Sessions.{is_last_command}
 use Rattle.host_model.specs.State.{HostState, command_at, node_of}
 use Rattle.host_model.specs.Sessions.{open_command, settings_with}
 use Rattle.host_model.specs.After.{after, is_full, is_held}
-use Rattle.host_model.specs.Events.{HostEvent, Finishes, Gives, Has_no_room, Hears_value, Is_unkept, Notifies, Offers, Reports_old, Resends, Spends, Spends_unread, Takes_nonce, Unreads, Works}
+use Rattle.host_model.specs.Events.{HostEvent, Begins, Finishes, Gives, Has_no_room, Hears, Hears_value, Interview_unkept, Interviews, Is_unkept, Node_ticks, Notifies, Offers, Queues, Reports_old, Resends, Spends, Spends_unread, Takes_nonce, Unreads, Works}
 use Rattle.host_model.specs.Facts.{HostFacts}
 use Rattle.host_model.specs.May.{IsFinal, May}
 use Rattle.host_model.specs.Outs.{dropped_if, ended_of, held_entries, noted, outs, stored_entries}
 use Rattle.host_model.specs.declared.out.HostOut.{HostOut}
 use Rattle.host_model.specs.declared.out.HostOut.TheVariants.{Note, Write}
-use Rattle.proof_choice.specs.proof_giving.Stays.{ShowsSessions}
-use Rattle.proof_choice.specs.proof_giving.Told.{attempts_so_far}
-use Rattle.proof_choice.proofs.Kept.{IsFollower}
-use Rattle.proof_choice.proofs.Opening.{open_last}
-use Rattle.proof_choice.proofs.Telling.{same_sessions_by}
-use Rattle.proof_choice.proofs.Told.{attempts_left, attempts_one, node_is}
+use Rattle.proof_hearing.specs.proof_choice.proof_giving.Stays.{ShowsSessions}
+use Rattle.proof_hearing.specs.proof_choice.proof_giving.Told.{attempts_so_far}
+use Rattle.proof_hearing.proofs.Heeded.{follow_mild}
+use Rattle.proof_hearing.proofs.Kept.{IsFollower}
+use Rattle.proof_hearing.proofs.Opening.{open_last}
+use Rattle.proof_hearing.proofs.Telling.{same_sessions_by}
+use Rattle.proof_hearing.proofs.Told.{attempts_left, attempts_one, node_is}
 use Rattle.proof_hearing.specs.Hearing.{NoOut, StaysLate}
 use Rattle.proof_hearing.specs.proof_queue.proof_attempts.proof_requests.Asking.{Doing}
 use Rattle.proof_hearing.specs.proof_queue.proof_attempts.proof_requests.law_host.Following.{is_note, is_noted}
@@ -126,21 +127,13 @@ follower_notes h n event told follows are = (quiet_told (outs h event) told are 
 -- ---- the request under way
 
 follower_beside : (n : ℕ) (event : HostEvent) → IsFollower n event → IsBeside event
-follower_beside n (Unreads m payload) follows = tt
-follower_beside n (Is_unkept m) follows = tt
-follower_beside n (Reports_old m id) follows = tt
-follower_beside n (Works m id) follows = tt
-follower_beside n (Finishes m session id command status wake) follows = tt
-follower_beside n (Offers m) follows = tt
-follower_beside n (Gives m drawn) follows = tt
-follower_beside n (Spends m) follows = tt
-follower_beside n (Spends_unread m payload) follows = tt
-follower_beside n (Takes_nonce m seen text) follows = tt
-follower_beside n (Notifies m) follows = tt
-follower_beside n (Resends m payload) follows = tt
-follower_beside n (Hears_value m setting) follows = tt
-follower_beside n (Has_no_room m property) follows = tt
-follower_beside n event follows = absurd follows
+follower_beside n (Queues task) follows = absurd follows
+follower_beside n (Hears item) follows = absurd follows
+follower_beside n (Interviews m listens classes update) follows = absurd follows
+follower_beside n (Interview_unkept m update) follows = absurd follows
+follower_beside n (Node_ticks m) follows = absurd follows
+follower_beside n (Begins m session command) follows = absurd follows
+follower_beside n event follows = follow_mild n event follows
 
 pub follower_same : (h : HostState) (n : ℕ) (event : HostEvent) → IsFollower n event → (after h event).requests.under_way ≡ h.requests.under_way
 follower_same h n event follows = ap (λ (d : Doing). d.under_way) (beside_same h event (follower_beside n event follows))

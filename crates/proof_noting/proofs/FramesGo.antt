@@ -48,10 +48,10 @@ use Rattle.host_model.specs.Outs.{outs, noted, request_entries}
 use Rattle.host_model.specs.Ends.{Bad, Good as part_good, end_entries, end_entries_if, part_end}
 use Rattle.host_model.specs.Facts.{HostFacts}
 use Rattle.host_model.specs.Taking.{told_requests}
-use Rattle.proof_choice.specs.proof_giving.proof_queue.proof_attempts.Since.{AlongRuns, KnowsSince}
-use Rattle.proof_choice.proofs.proof_requests_Telling.{mark_quiet, quiet_goes}
-use Rattle.proof_choice.proofs.Doings.{node_after}
-use Rattle.proof_choice.proofs.ReadyTie.{facts_of}
+use Rattle.proof_hearing.specs.proof_nonces.proof_attempts.Since.{AlongRuns, KnowsSince}
+use Rattle.proof_hearing.proofs.proof_requests_Telling.{mark_quiet, quiet_goes}
+use Rattle.proof_hearing.proofs.Doings.{node_after}
+use Rattle.proof_hearing.proofs.ReadyTie.{facts_of}
 use Rattle.proof_hearing.specs.Books.{BooksSo, nonces_to}
 use Rattle.proof_hearing.specs.Hearing.{choosing}
 use Rattle.proof_hearing.specs.proof_queue.proof_attempts.proof_requests.Asking.{doing_of, doing_from, doing_next}
@@ -71,17 +71,17 @@ use Rattle.proof_hearing.specs.proof_queue.proof_attempts.proof_work.Doing.{IsTo
 use Rattle.proof_hearing.proofs.Alike.{same_alike, Alike}
 use Rattle.proof_hearing.proofs.BooksGo.{books_on, KeepsOrders}
 use Rattle.proof_hearing.proofs.proof_requests_Growing.{asked_on}
-use Rattle.proof_choice.proofs.Interviews.{interviews_may}
-use Rattle.proof_choice.specs.proof_following.Quiet.{acknowledges}
-use Rattle.proof_choice.specs.proof_following.Ended.{AreGone, EndingOf, IsByFrame, IsFrameEvent, noted_by, outcome_entries, sent_by}
-use Rattle.proof_choice.proofs.proof_ends_Walking.{ShowsOpen, Informs, TellsWalk, event_way, informs_so}
-use Rattle.proof_choice.proofs.Acks.{ack_after, frame_next_is, judges_request}
-use Rattle.proof_choice.proofs.Framing.{none_ends, informed_note, one_ends}
-use Rattle.proof_choice.proofs.Ending.{entries_are, frame_ends_it}
-use Rattle.proof_choice.proofs.Hearing.{entries_tell}
-use Rattle.proof_choice.proofs.HostEnds.{ending_of}
-use Rattle.proof_choice.proofs.Informing.{IsInterview, interview_follows, node_in}
-use Rattle.proof_choice.proofs.proof_ends_Noting.{badly}
+use Rattle.proof_hearing.proofs.Interviews.{interviews_may}
+use Rattle.proof_hearing.specs.proof_choice.proof_following.Quiet.{acknowledges}
+use Rattle.proof_hearing.specs.proof_choice.proof_following.Ended.{AreGone, EndingOf, IsByFrame, IsFrameEvent, noted_by, outcome_entries, sent_by}
+use Rattle.proof_hearing.proofs.proof_ends_Walking.{ShowsOpen, Informs, TellsWalk, event_way, informs_so}
+use Rattle.proof_hearing.proofs.Acks.{ack_after, frame_next_is, judges_request}
+use Rattle.proof_hearing.proofs.Framing.{none_ends, informed_note, one_ends}
+use Rattle.proof_hearing.proofs.Ending.{entries_are, frame_ends_it}
+use Rattle.proof_hearing.proofs.Hearing.{entries_tell}
+use Rattle.proof_hearing.proofs.HostEnds.{ending_of}
+use Rattle.proof_hearing.proofs.Informing.{IsInterview, interview_follows, node_in}
+use Rattle.proof_hearing.proofs.proof_ends_Noting.{badly}
 use Rattle.proof_noting.specs.Behind.{AtOpen, OneLeft}
 use Rattle.proof_noting.specs.Following.{CourseOf, Goes, Outset}
 use Rattle.proof_noting.specs.Ground.{GroundAlong, NotingGround}
@@ -99,7 +99,7 @@ use Rattle.proof_noting.proofs.EndLeaves.{queue_told}
 use Rattle.proof_noting.proofs.EndCourse.{Badly, badly_goes, made_due, made_of, made_rest}
 use Rattle.proof_noting.proofs.EndNotes.{at_does, at_ends, by_frame, frame_told, framed_is, good_called, outcome_well, quiet_books, request_notes}
 use Rattle.proof_noting.proofs.EndedBooks.{bad_ended, kept_ended}
-use Rattle.proof_noting.proofs.GoneSo.{are_gone, most}
+use Rattle.proof_noting.proofs.GoneSo.{are_gone, most, none_noted}
 use Rattle.proof_noting.proofs.Sendings.{ToNodes, sending_nodes}
 
 module _ (key : List ℕ) (taken : List Entry → Carried → List Told) (from : Outset) (shows : ShowsOpen) (ground : GroundAlong taken (first_of key)) (past : List Entry) (m : HostMachine)
@@ -345,11 +345,7 @@ module _ (key : List ℕ) (taken : List Entry → Carried → List Told) (from :
       bad = badly_goes heeds later (clock later) outcome noting_it sent gone
 
       none_sent : sent ≡ [] → outcome ≡ []
-      none_sent none = by gone
-        where
-          by : AreGone heeds (later ++ noting_it.due) (clock later) u.purpose id outcome → outcome ≡ []
-          by (inl (nothing, is)) = is
-          by (inr (one, is, some)) = absurd (let no : one ∷ [] ≡ [] = sym is ∙ none in cc)
+      none_sent = none_noted heeds (later ++ noting_it.due) (clock later) u.purpose id outcome gone
 
       goes_first : (keepings : List Bool) (texts : List (Option (List ℕ))) → ends_by_frame heeds later (choosing keepings texts begun)
           ≡ (if is_called_back 0 later then choosing keepings texts noting_it else each_in_turn (ends_badly heeds later (clock later)) sent (choosing keepings texts noting_it))

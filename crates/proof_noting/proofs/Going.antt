@@ -9,8 +9,8 @@ use Rattle.host_requests.specs.declared.task.Purpose.{Purpose}
 use Rattle.host_requests.specs.declared.task.Purpose.TheVariants.{Abort}
 use Rattle.host_requests.specs.declared.under_way.UnderWay.{UnderWay}
 use Rattle.host_model.specs.State.{HostState}
-use Rattle.proof_choice.specs.proof_giving.Told.{attempts_so_far}
-use Rattle.proof_choice.proofs.ReadyTie.{ground_of}
+use Rattle.proof_hearing.specs.proof_choice.proof_giving.Told.{attempts_so_far}
+use Rattle.proof_hearing.proofs.ReadyTie.{ground_of}
 use Rattle.proof_hearing.specs.Books.{BooksSo}
 use Rattle.proof_hearing.specs.proof_queue.proof_attempts.proof_requests.law_host.Course.{Course, each_in_turn}
 use Rattle.proof_hearing.specs.proof_queue.proof_attempts.proof_requests.law_host.Ends.{ends_sealing}
@@ -19,7 +19,7 @@ use Rattle.proof_hearing.specs.proof_queue.proof_attempts.proof_requests.law_hos
 use Rattle.proof_hearing.specs.proof_queue.proof_attempts.proof_requests.law_host.Ticks.{is_denied}
 use Rattle.proof_hearing.specs.proof_queue.proof_attempts.proof_requests.proof_alone.Phases.{Phase}
 use Rattle.proof_hearing.specs.proof_queue.proof_attempts.proof_requests.proof_alone.State.{HostMachine}
-use Rattle.proof_choice.specs.proof_following.Quiet.{ended_silently}
+use Rattle.proof_hearing.specs.proof_choice.proof_following.Quiet.{ended_silently}
 use Rattle.proof_noting.specs.Following.{IsLevel, IsQuiet, Lags, Level, timed}
 use Rattle.proof_noting.specs.Ground.{NotingGround}
 use Rattle.proof_noting.proofs.Lately.{same_late, timed_attempts, timed_clock}

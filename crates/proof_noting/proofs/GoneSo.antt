@@ -43,16 +43,16 @@ use Rattle.host_model.specs.Events.{Requests_do}
 use Rattle.host_model.specs.Outs.{request_entries}
 use Rattle.host_model.specs.Taking.{told_requests}
 use Rattle.proof_host.specs.Facts.{Facts}
-use Rattle.proof_choice.specs.proof_giving.Told.{attempts_so_far}
-use Rattle.proof_choice.specs.proof_giving.Tie.{AttemptsAs, is_bad_part, is_for, signed}
-use Rattle.proof_choice.specs.proof_giving.Walking.{gives_sign}
-use Rattle.proof_choice.proofs.proof_giving_Along.{signed_series}
-use Rattle.proof_choice.proofs.Asking.{over_as}
-use Rattle.proof_choice.proofs.Holding.{clock_now}
-use Rattle.proof_choice.proofs.Opening.{OpenLast, open_last}
-use Rattle.proof_choice.proofs.Prompt.{node_free}
-use Rattle.proof_choice.proofs.Told.{each_is, node_is}
-use Rattle.proof_choice.proofs.ReadyTie.{ground_of}
+use Rattle.proof_hearing.specs.proof_choice.proof_giving.Told.{attempts_so_far}
+use Rattle.proof_hearing.specs.proof_choice.proof_giving.Tie.{AttemptsAs, is_bad_part, is_for, signed}
+use Rattle.proof_hearing.specs.proof_choice.proof_giving.Walking.{gives_sign}
+use Rattle.proof_hearing.proofs.proof_giving_Along.{signed_series}
+use Rattle.proof_hearing.proofs.Asking.{over_as}
+use Rattle.proof_hearing.proofs.Holding.{clock_now}
+use Rattle.proof_hearing.proofs.Opening.{OpenLast, open_last}
+use Rattle.proof_hearing.proofs.Prompt.{node_free}
+use Rattle.proof_hearing.proofs.Told.{each_is, node_is}
+use Rattle.proof_hearing.proofs.ReadyTie.{ground_of}
 use Rattle.proof_hearing.specs.proof_queue.proof_attempts.Attempts.{begun_of, has_ended_badly}
 use Rattle.proof_hearing.specs.proof_queue.proof_attempts.proof_work.Doing.{IsTold}
 use Rattle.proof_hearing.specs.proof_queue.proof_attempts.proof_requests.law_host.Ends.{given_up_notes, to_give_up_by_end}
@@ -60,9 +60,9 @@ use Rattle.proof_hearing.specs.proof_queue.proof_attempts.proof_requests.law_hos
 use Rattle.proof_hearing.specs.proof_queue.proof_attempts.proof_requests.proof_alone.Phases.{Behind, May, Phase}
 use Rattle.proof_hearing.specs.proof_queue.proof_attempts.proof_requests.proof_alone.State.{HostMachine, done}
 use Rattle.proof_hearing.specs.proof_queue.proof_attempts.proof_requests.proof_alone.Steps.{Does}
-use Rattle.proof_choice.specs.proof_following.Ended.{AreGone, EndingOf, answer_entries, errand_entries, failed_entries, outcome_entries, sent_by, sleep_entries}
-use Rattle.proof_choice.proofs.Ending.{entries_are}
-use Rattle.proof_choice.proofs.Hearing.{noted_are}
+use Rattle.proof_hearing.specs.proof_choice.proof_following.Ended.{AreGone, EndingOf, answer_entries, errand_entries, failed_entries, outcome_entries, sent_by, sleep_entries}
+use Rattle.proof_hearing.proofs.Ending.{entries_are}
+use Rattle.proof_hearing.proofs.Hearing.{noted_are}
 use Rattle.proof_noting.specs.Ground.{GroundAlong, NotingGround}
 use Rattle.proof_noting.specs.Steps.{first_of}
 use Rattle.proof_noting.specs.Sure.{SureRun}
@@ -82,6 +82,11 @@ may_told h event told = absurd told
 -- all that an end notes but an outcome
 abbrev pub most : HostState → Purpose → How → List Entry
 most g p how = (errand_entries p how ++ (sleep_entries g p ++ answer_entries p how)) ++ failed_entries p
+
+-- where nothing was sent no outcome is noted
+pub none_noted : (heeds : Heeds) (past : List Entry) (now : ℕ) (purpose : Purpose) (id : ℕ) (outcome : List Entry) → AreGone heeds past now purpose id outcome → sent_by purpose id ≡ [] → outcome ≡ []
+none_noted heeds past now purpose id outcome (inl (nothing, is)) none = is
+none_noted heeds past now purpose id outcome (inr (one, is, some)) none = absurd (let no : one ∷ [] ≡ [] = sym is ∙ none in cc)
 
 -- an attempt that ends so was the third
 third_runs : (s : NodeState) (fell : Bool) → attempt_end s ≡ Unanswered fell → (s.series ≡ Running) × (nat_lt (s.book.attempts + 1) 3 ≡ false) × (fell ≡ falls_asleep s)

@@ -5,13 +5,13 @@ use Rattle.host_heard.specs.declared.told.Told.{Told}
 use Rattle.law_transcript.specs.Units.{Carried}
 use Rattle.law_time.specs.Heeds.{Heeds}
 use Rattle.law_time.specs.Unanswered.{to_give_up}
-use Rattle.proof_choice.specs.Turning.{AllAlong, KnowsAll}
-use Rattle.proof_choice.specs.Waits.{AskingGround}
-use Rattle.proof_choice.proofs.Along.{known_last}
-use Rattle.proof_choice.proofs.ReadyTie.{asked_of, facts_of, ground_of}
-use Rattle.proof_choice.specs.proof_giving.Walking.{Grounds, KnowsAttempts}
-use Rattle.proof_choice.proofs.AtRest.{none_is_over}
-use Rattle.proof_choice.proofs.Rested.{before_number}
+use Rattle.proof_hearing.specs.proof_choice.Turning.{AllAlong, KnowsAll}
+use Rattle.proof_hearing.specs.proof_choice.Waits.{AskingGround}
+use Rattle.proof_hearing.proofs.Along.{known_last}
+use Rattle.proof_hearing.proofs.ReadyTie.{asked_of, facts_of, ground_of}
+use Rattle.proof_hearing.specs.proof_choice.proof_giving.Walking.{Grounds, KnowsAttempts}
+use Rattle.proof_hearing.proofs.AtRest.{none_is_over}
+use Rattle.proof_hearing.proofs.Rested.{before_number}
 use Rattle.proof_hearing.specs.proof_queue.Heeding.{AllSteps, HeedsAs, HeedsSo}
 use Rattle.proof_hearing.specs.proof_queue.proof_attempts.proof_requests.law_host.Heard.{heeds_alone}
 use Rattle.proof_hearing.specs.proof_queue.proof_attempts.proof_requests.proof_alone.Careful.{Careful}

@@ -40,16 +40,16 @@ use Rattle.host_model.specs.Outs.{answer_to}
 use Rattle.host_model.specs.State.{HostState}
 use Rattle.host_model.specs.Taking.{FrameEvents, InterviewEvents, NoticeEvents, ResponseEvents, told_if, told_requests}
 use Rattle.host_model.specs.declared.out.HostOut.TheVariants.{Write}
-use Rattle.proof_choice.specs.proof_giving.proof_queue.proof_attempts.Since.{AlongRuns, KnowsSince}
-use Rattle.proof_choice.proofs.Framed.{notices_in, notices_of}
+use Rattle.proof_hearing.specs.proof_nonces.proof_attempts.Since.{AlongRuns, KnowsSince}
+use Rattle.proof_hearing.proofs.Framed.{notices_in, notices_of}
 use Rattle.proof_hearing.specs.proof_queue.proof_attempts.proof_requests.Ends.{next_at}
 use Rattle.proof_hearing.specs.proof_queue.proof_attempts.proof_requests.Saying.{frame_next as host_next, kind_next, notice_next, response_next}
 use Rattle.proof_hearing.specs.proof_queue.proof_attempts.proof_requests.proof_alone.State.{HostMachine, done}
 use Rattle.proof_hearing.specs.proof_queue.proof_attempts.proof_requests.proof_alone.Steps.{AreTold, IsFramed, IsOfUnit, Judges, happens}
 use Rattle.proof_hearing.specs.proof_queue.proof_attempts.proof_requests.proof_alone.Phases.{IsJudgedNow, Open, Phase}
-use Rattle.proof_choice.specs.proof_following.Ended.{IsFrameEvent}
-use Rattle.proof_choice.specs.proof_following.Quiet.{acknowledges}
-use Rattle.proof_choice.proofs.proof_ends_Walking.{ShowsOpen, TellsWalk}
+use Rattle.proof_hearing.specs.proof_choice.proof_following.Ended.{IsFrameEvent}
+use Rattle.proof_hearing.specs.proof_choice.proof_following.Quiet.{acknowledges}
+use Rattle.proof_hearing.proofs.proof_ends_Walking.{ShowsOpen, TellsWalk}
 use Rattle.proof_noting.specs.Following.{Outset}
 use Rattle.proof_noting.specs.Behind.{AtOpen, BehindSo, OneLeft}
 use Rattle.proof_noting.specs.Behind.BehindSo.{None_left, One_left}

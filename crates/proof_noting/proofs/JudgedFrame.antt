@@ -21,9 +21,9 @@ use Rattle.law_time.specs.Ends.{is_ending_here}
 use Rattle.law_time.specs.Heeds.{Heeds}
 use Rattle.law_time.specs.Moments.{clock}
 use Rattle.law_time.specs.Requests.{Asked, asked}
-use Rattle.proof_choice.proofs.Stepping.{not_awaiting, time_told}
-use Rattle.proof_choice.proofs.proof_requests_EndsHere.{frame_ends_so}
-use Rattle.proof_choice.proofs.ReadyTie.{asked_of, ground_of}
+use Rattle.proof_hearing.proofs.proof_queue_Stepping.{not_awaiting, time_told}
+use Rattle.proof_hearing.proofs.proof_requests_EndsHere.{frame_ends_so}
+use Rattle.proof_hearing.proofs.ReadyTie.{asked_of, ground_of}
 use Rattle.proof_hearing.specs.Books.{BooksSo}
 use Rattle.proof_hearing.specs.proof_queue.proof_attempts.proof_requests.Asking.{TieAsked, doing_of}
 use Rattle.proof_hearing.specs.proof_queue.proof_attempts.proof_requests.Ends.{EndsBy, EndsFrom}
@@ -40,8 +40,8 @@ use Rattle.proof_hearing.specs.proof_queue.proof_attempts.proof_requests.proof_w
 use Rattle.proof_hearing.proofs.Alike.{same_alike}
 use Rattle.proof_hearing.proofs.BooksGo.{books_on}
 use Rattle.proof_hearing.proofs.proof_requests_Growing.{asked_on}
-use Rattle.proof_choice.specs.proof_following.Quiet.{acknowledges}
-use Rattle.proof_choice.proofs.proof_ends_Walking.{ShowsOpen}
+use Rattle.proof_hearing.specs.proof_choice.proof_following.Quiet.{acknowledges}
+use Rattle.proof_hearing.proofs.proof_ends_Walking.{ShowsOpen}
 use Rattle.proof_noting.specs.Following.{Outset}
 use Rattle.proof_noting.specs.Behind.{AtOpen}
 use Rattle.proof_noting.specs.Ground.{GroundAlong, NotingGround}

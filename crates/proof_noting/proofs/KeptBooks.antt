@@ -7,7 +7,7 @@ use Rattle.law_time.specs.Heeds.{Heeds}
 use Rattle.host_keep.specs.Kept.{Kept, kept_of, node_of as kept_of_node}
 use Rattle.host_keep.specs.Legal.{Give}
 use Rattle.host_model.specs.State.{HostState, node_of}
-use Rattle.proof_choice.proofs.ReadyStarts.{GiveOne}
+use Rattle.proof_hearing.proofs.ReadyStarts.{GiveOne}
 use Rattle.proof_messages.proofs.SealedTexts.{IsBare, bare_texts}
 use Rattle.proof_hearing.specs.Books.{BooksOf, GiverSo, IsLowOffer, IsReady, SealerSo, nonces_to}
 use Rattle.proof_hearing.specs.proof_nonces.Counted.{LiveSo}

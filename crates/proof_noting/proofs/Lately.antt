@@ -4,14 +4,12 @@ use Rattle.std.specs.Prelude.{nat_le, is_some}
 use Rattle.std.specs.List.{list_any}
 use Rattle.std.proofs.lemmas.Bool.{and_left, both_ways, cases_lt, le-leb, le-ltb, leb-true, lt-leb, lt-ltb, or_left, or_right}
 use Rattle.zw_words.specs.declared.side.Side.TheVariants.{Host, Chip}
-use Rattle.zw_text.specs.declared.entry.Refusal.{Refusal}
 use Rattle.zw_text.specs.declared.entry.Entry.{Entry}
 use Rattle.zw_text.specs.declared.entry.Entry.TheVariants as entry
-use Rattle.zw_text.specs.Transcript.{last_number, line_of, tick_at, ticks, time_of}
+use Rattle.zw_text.specs.Transcript.{last_number, tick_at, ticks}
 use Rattle.zw_text.proofs.Views.{folded-append, shown-append}
 use Rattle.host_heard.specs.declared.told.Told.{Told}
 use Rattle.law_transcript.specs.Lists.{EachAfter}
-use Rattle.law_transcript.specs.Restarts.{is_restart}
 use Rattle.law_transcript.specs.Units.{Carried}
 use Rattle.law_time.specs.Attempts.{Attempts, anew, attempt_is_over, attempts_by_request, goes_to, is_last_nonce, is_late as late_at, is_next_nonce, is_of_attempt, is_sign, waits_for_nonce, with_nonce, with_nonces, with_nonces_here, with_sign}
 use Rattle.law_time.specs.Heeds.{Heeds}
@@ -26,14 +24,14 @@ use Rattle.host_node.specs.Facts.{SeriesFacts}
 use Rattle.host_node.specs.declared.series.Series.{Series}
 use Rattle.host_node.specs.declared.series.Series.TheVariants.{Due, Running, Idle}
 use Rattle.host_model.specs.State.{node_of}
-use Rattle.proof_choice.specs.proof_giving.Tie.{NodeSo, has_text, signed}
-use Rattle.proof_choice.specs.proof_giving.Told.{LeavesAttempts, attempts_so_far}
-use Rattle.proof_choice.specs.proof_giving.Walking.{KnowsAttempts, gives_sign}
-use Rattle.proof_choice.proofs.Told.{attempts_again, attempts_asked, attempts_in_vain, attempts_left, attempts_one, attempts_said, each_is, node_is}
-use Rattle.proof_choice.proofs.Books.{last_is}
-use Rattle.proof_choice.proofs.Stepping.{time_told}
-use Rattle.proof_choice.proofs.proof_requests_Telling.{clock_same}
-use Rattle.proof_choice.proofs.ReadyTie.{facts_of, ground_of}
+use Rattle.proof_hearing.specs.proof_choice.proof_giving.Tie.{NodeSo, has_text, signed}
+use Rattle.proof_hearing.specs.proof_choice.proof_giving.Told.{LeavesAttempts, attempts_so_far}
+use Rattle.proof_hearing.specs.proof_choice.proof_giving.Walking.{KnowsAttempts, gives_sign}
+use Rattle.proof_hearing.proofs.Told.{attempts_again, attempts_asked, attempts_left, attempts_one, each_is, node_is}
+use Rattle.proof_hearing.proofs.Books.{last_is}
+use Rattle.proof_hearing.proofs.proof_queue_Stepping.{time_told}
+use Rattle.proof_hearing.proofs.proof_requests_Telling.{clock_same}
+use Rattle.proof_hearing.proofs.ReadyTie.{facts_of, ground_of}
 use Rattle.proof_hearing.specs.proof_queue.proof_attempts.Attempts.{AreAttempts, GoesOn, IsSign, LastIs}
 use Rattle.proof_hearing.specs.proof_queue.proof_attempts.proof_requests.law_host.Heard.{heeds_alone}
 use Rattle.proof_hearing.specs.proof_queue.proof_attempts.proof_requests.law_host.Nonces.{is_late}
@@ -52,12 +50,6 @@ high b t = elim (cases_lt b t) [
   | inr more ↦ subst (λ (v : Bool). t ≤ (if v then t else b)) (sym (le-ltb b t more)) (omega (arith, more))
 ]
 
-low : (b t : ℕ) → b ≤ later_of b t
-low b t = elim (cases_lt b t) [
-  | inl less ↦ subst (λ (v : Bool). b ≤ (if v then t else b)) (sym (lt-ltb b t less)) (omega (arith, less))
-  | inr more ↦ subst (λ (v : Bool). b ≤ (if v then t else b)) (sym (le-ltb b t more)) (omega arith)
-]
-
 within : (b t c : ℕ) → b ≤ c → t ≤ c → later_of b t ≤ c
 within b t c first second = elim (cases_lt b t) [
   | inl less ↦ subst (λ (v : Bool). (if v then t else b) ≤ c) (sym (lt-ltb b t less)) second
@@ -74,21 +66,6 @@ clock_timed past tick =
     ap₂ (λ (b t : ℕ). later_of b t)
     (ap (λ p. p.before) (folded-append passing_step (record { before = 0; asked = 0 }) past (entry.Time tick ∷ [])))
     (ap (last_number 0) (shown-append tick_at past (entry.Time tick ∷ [])) ∙ last_more 0 (ticks past) tick)
-
--- with words, which a refusal may follow
-said_before : (past : List Entry) (words : List ℕ) → (passing (past ++ entry.Said words ∷ [])).before ≡ (passing past).before + (passing past).asked
-said_before past words = ap (λ p. p.before) (folded-append passing_step (record { before = 0; asked = 0 }) past (entry.Said words ∷ []))
-
-time_said : (past : List Entry) (words : List ℕ) → time_of (past ++ entry.Said words ∷ []) ≡ time_of past
-time_said past words = ap (last_number 0) (shown-append tick_at past (entry.Said words ∷ []) ∙ append-nil (ticks past))
-
-clock_said : (past : List Entry) (words : List ℕ) → clock past ≤ clock (past ++ entry.Said words ∷ [])
-clock_said past words =
-    let before = said_before past words in
-    let time = time_said past words in
-    within (passing past).before (time_of past) (clock (past ++ entry.Said words ∷ []))
-    (let is = low (passing (past ++ entry.Said words ∷ [])).before (time_of (past ++ entry.Said words ∷ [])) in omega (arith, is, before))
-    (let is = high (passing (past ++ entry.Said words ∷ [])).before (time_of (past ++ entry.Said words ∷ [])) in omega (arith, is, time))
 
 -- ---- late
 
@@ -264,50 +241,6 @@ module _ (taken : List Entry → Carried → List Told) where
   late_on n past (e ∷ told) keeps late =
       ap (λ (l : List Entry). is_late heeds l n) (sym (append_assoc past (e ∷ []) told)) ∙ late_on n (past ++ e ∷ []) told keeps.1 (one_late n past late e keeps.0)
 
-  -- ---- lines, and numbers of ticks
-
-  pub late_said : (n : ℕ) (past : List Entry) (words : List ℕ) → is_restart (line_of (entry.Said words)) ≡ false → is_late heeds past n ≡ true
-      → is_late heeds (past ++ entry.Said words ∷ []) n ≡ true
-  late_said n past words goes_on late = same_late n past (past ++ entry.Said words ∷ []) (clock_said past words) (attempts_said taken n past words goes_on) late
-
-  in_vain_clock : (past : List Entry) (words : List ℕ) (refusal : Refusal) → clock past ≤ clock (past ++ entry.Said words ∷ (entry.Refused refusal ∷ []))
-  in_vain_clock past words refusal =
-      let same : clock (past ++ entry.Said words ∷ (entry.Refused refusal ∷ [])) ≡ clock (past ++ entry.Said words ∷ [])
-      = ap clock (sym (append_assoc past (entry.Said words ∷ []) (entry.Refused refusal ∷ []))) ∙ clock_same (past ++ entry.Said words ∷ []) (entry.Refused refusal ∷ []) (tt, tt) in
-      let later = clock_said past words in omega (arith, same, later)
-
-  pub late_in_vain : (n : ℕ) (past : List Entry) (words : List ℕ) (refusal : Refusal) → is_late heeds past n ≡ true
-      → is_late heeds (past ++ entry.Said words ∷ (entry.Refused refusal ∷ [])) n ≡ true
-  late_in_vain n past words refusal late =
-      same_late n past (past ++ entry.Said words ∷ (entry.Refused refusal ∷ [])) (in_vain_clock past words refusal) (attempts_in_vain taken n past words refusal) late
-
-  timed_same : (n : ℕ) (past : List Entry) (tick : ℕ) → so_far n (past ++ entry.Time tick ∷ []) ≡ so_far n past
-  timed_same n past tick = attempts_left taken n past (entry.Time tick ∷ []) (tt, tt)
-
-  -- from a number that was not entered to a later one
-  pub late_numbered : (n : ℕ) (past : List Entry) (tick later : ℕ) → tick ≤ later → is_late heeds (past ++ entry.Time tick ∷ []) n ≡ true → is_late heeds (past ++ entry.Time later ∷ []) n ≡ true
-  late_numbered n past tick later less late =
-      same_late n (past ++ entry.Time tick ∷ []) (past ++ entry.Time later ∷ [])
-      (let one = clock_timed past tick in let other = clock_timed past later in
-      let under = within (passing past).before tick (later_of (passing past).before later) (low (passing past).before later)
-      (let up = high (passing past).before later in omega (arith, up, less)) in omega (arith, one, other, under))
-      (timed_same n past later ∙ sym (timed_same n past tick)) late
-
-  -- or to words
-  pub late_words : (n : ℕ) (past : List Entry) (tick : ℕ) (words : List ℕ) → is_restart (line_of (entry.Said words)) ≡ false → tick ≤ clock (past ++ entry.Said words ∷ [])
-      → is_late heeds (past ++ entry.Time tick ∷ []) n ≡ true → is_late heeds (past ++ entry.Said words ∷ []) n ≡ true
-  late_words n past tick words goes_on less late =
-      same_late n (past ++ entry.Time tick ∷ []) (past ++ entry.Said words ∷ [])
-      (let one = clock_timed past tick in
-      let before = said_before past words in
-      let up = low (passing (past ++ entry.Said words ∷ [])).before (time_of (past ++ entry.Said words ∷ [])) in
-      let under = within (passing past).before tick (clock (past ++ entry.Said words ∷ [])) (omega (arith, up, before)) less in omega (arith, one, under))
-      (attempts_said taken n past words goes_on ∙ sym (timed_same n past tick)) late
-
-  -- and from before the number of the tick
-  pub late_risen : (n : ℕ) (past : List Entry) (tick : ℕ) → clock past ≤ tick → is_late heeds past n ≡ true → is_late heeds (past ++ entry.Time tick ∷ []) n ≡ true
-  late_risen n past tick less late = late_on n past (entry.Time tick ∷ []) (less, tt) late
-
   -- ---- a text that the host has still to give or to seal
 
   signs_early : (sign : List ℕ) (now wait : ℕ) → IsSign sign now wait → list_any (λ tick. nat_le (tick + 100) now) sign ≡ false
@@ -357,6 +290,9 @@ module _ (taken : List Entry → Carried → List Told) where
           let up = high (passing past).before m.clock in
           let begun = ground.0.0.0.1.begun in
           let under = within (passing past).before m.clock m.clock begun (omega arith) in omega (arith, one, up, under)
+
+  timed_same : (n : ℕ) (past : List Entry) (tick : ℕ) → so_far n (past ++ entry.Time tick ∷ []) ≡ so_far n past
+  timed_same n past tick = attempts_left taken n past (entry.Time tick ∷ []) (tt, tt)
 
   pub timed_attempts : (n : ℕ) (past : List Entry) (m : HostMachine) → so_far n (timed m past) ≡ so_far n past
   timed_attempts n past m = by m.awaits

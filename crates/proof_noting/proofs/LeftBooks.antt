@@ -22,7 +22,7 @@ use Rattle.proof_hearing.specs.proof_queue.proof_attempts.proof_requests.law_hos
 use Rattle.proof_hearing.proofs.Alike.{Alike}
 use Rattle.proof_hearing.proofs.BooksGo.{books_end, books_late, books_on}
 use Rattle.proof_hearing.proofs.Sent.{begins_else, begins_not}
-use Rattle.proof_choice.specs.proof_following.Ended.{GaveUp, sent_by}
+use Rattle.proof_hearing.specs.proof_choice.proof_following.Ended.{GaveUp, sent_by}
 use Rattle.proof_noting.proofs.EndLeaves.{CutOff, EndLeaves}
 
 -- ---- which payloads are of what is sealed

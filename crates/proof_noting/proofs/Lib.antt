@@ -40,8 +40,8 @@ mod Rested
 mod NewlyAsked
 mod NewRequests
 mod StartsAgain
-pub use Rattle.proof_choice.proofs.HostNotes
-pub use Rattle.proof_choice.proofs.Times
+pub use Rattle.proof_hearing.proofs.HostNotes
+pub use Rattle.proof_hearing.proofs.Times
 mod Followers
 mod Unopened
 mod Acknowledged

@@ -24,13 +24,13 @@ use Rattle.host_model.specs.Events.{HostEvent, Accepts, Cancels}
 use Rattle.host_model.specs.Outs.{answers}
 use Rattle.host_model.specs.State.{HostState}
 use Rattle.proof_hearing.specs.proof_queue.proof_attempts.proof_requests.proof_waking.world_model.Events.{shown_values}
-use Rattle.proof_choice.specs.proof_giving.Told.{attempts_so_far}
-use Rattle.proof_choice.proofs.Asked.{answers_leave, answers_quiet}
-use Rattle.proof_choice.proofs.InOrder.{is_asked}
-use Rattle.proof_choice.proofs.Stepping.{asked_on}
-use Rattle.proof_choice.proofs.Told.{attempts_in_vain, attempts_left, attempts_said}
-use Rattle.proof_choice.proofs.proof_requests_Telling.{IsQuiet as IsQuietEntry, clock_same}
-use Rattle.proof_choice.proofs.ReadyTie.{ground_of}
+use Rattle.proof_hearing.specs.proof_choice.proof_giving.Told.{attempts_so_far}
+use Rattle.proof_hearing.proofs.Asked.{answers_leave, answers_quiet}
+use Rattle.proof_hearing.proofs.InOrder.{is_asked}
+use Rattle.proof_hearing.proofs.proof_queue_Stepping.{asked_on}
+use Rattle.proof_hearing.proofs.Told.{attempts_in_vain, attempts_left, attempts_said}
+use Rattle.proof_hearing.proofs.proof_requests_Telling.{IsQuiet as IsQuietEntry, clock_same}
+use Rattle.proof_hearing.proofs.ReadyTie.{ground_of}
 use Rattle.proof_hearing.specs.Books.{BooksSo}
 use Rattle.proof_hearing.specs.Hearing.{choosing}
 use Rattle.proof_hearing.specs.proof_queue.proof_attempts.proof_requests.law_host.Course.{Course, restarted}
@@ -42,9 +42,9 @@ use Rattle.proof_hearing.specs.proof_queue.proof_attempts.proof_requests.proof_a
 use Rattle.proof_hearing.specs.proof_queue.proof_attempts.proof_requests.proof_alone.State.{HostMachine, done}
 use Rattle.proof_hearing.specs.proof_queue.proof_attempts.proof_requests.proof_alone.Steps.{AreFrames, IsAskedBy, Says, Says_nothing, Asks, Refuses, Shows, happens}
 use Rattle.proof_hearing.proofs.proof_requests_Growing.{asked_in_vain, asked_said}
-use Rattle.proof_choice.specs.proof_following.Quiet.{IsWithin}
-use Rattle.proof_choice.proofs.Entering.{comes_within, plain_after, plainly_within}
-use Rattle.proof_choice.proofs.proof_ends_Walking.{ShowsOpen}
+use Rattle.proof_hearing.specs.proof_choice.proof_following.Quiet.{IsWithin}
+use Rattle.proof_hearing.proofs.Entering.{comes_within, plain_after, plainly_within}
+use Rattle.proof_hearing.proofs.proof_ends_Walking.{ShowsOpen}
 use Rattle.proof_noting.specs.Behind.{AtOpen}
 use Rattle.proof_noting.specs.Following.{Follows, Goes, IsLevel, Outset, timed}
 use Rattle.proof_noting.specs.Ground.{GroundAlong, NotingGround}
@@ -75,9 +75,6 @@ module _ (heeds : Heeds) where
       (λ keepings texts. done_comes past e (choosing keepings texts c) (plainly_within e plain.plainly) none (le-ltb c.ticked (clock past) (omega (arith, at))) plain.not_host)
 
 -- ---- what it is answered
-
-refused_plain : (refusal : Refusal) → PlainSo (entry.Refused refusal)
-refused_plain refusal = record { plainly = tt; unmarked = refl; not_host = refl; stands = λ past. refl }
 
 shown_plain : (text : List ℕ) → PlainSo (entry.Json text)
 shown_plain text = record { plainly = tt; unmarked = refl; not_host = refl; stands = λ past. refl }

@@ -11,7 +11,7 @@ use Rattle.law_transcript.specs.Restarts.{begins_refused}
 use Rattle.law_transcript.specs.Units.{Carried}
 use Rattle.law_time.specs.Heeds.{Heeds}
 use Rattle.law_time.specs.Judged.{is_mark}
-use Rattle.proof_choice.proofs.proof_requests_Telling.{IsQuiet}
+use Rattle.proof_hearing.proofs.proof_requests_Telling.{IsQuiet}
 use Rattle.proof_hearing.specs.proof_queue.proof_attempts.proof_requests.law_host.Course.{Course}
 use Rattle.proof_hearing.specs.proof_queue.proof_attempts.proof_requests.law_host.Following.{is_note}
 use Rattle.proof_hearing.specs.proof_queue.proof_attempts.proof_requests.proof_alone.Steps.{IsOfUnit}

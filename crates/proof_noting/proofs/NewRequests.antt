@@ -40,13 +40,13 @@ use Rattle.host_model.specs.May.{IsFree}
 use Rattle.host_model.specs.Outs.{outs}
 use Rattle.host_model.specs.Pumping.{IsNext}
 use Rattle.host_model.specs.declared.out.HostOut.TheVariants.{Write}
-use Rattle.proof_choice.specs.proof_giving.Tie.{AttemptsSo, IsRequest, WantsFit, has_text, is_for}
-use Rattle.proof_choice.proofs.Asking.{of_attempt}
-use Rattle.proof_choice.proofs.Begun.{segments_go}
-use Rattle.proof_choice.proofs.Queued.{PayloadsBring, served_is_node}
-use Rattle.proof_choice.proofs.Stepping.{event_is_read, not_awaiting, time_told}
-use Rattle.proof_choice.proofs.Wrote.{front_now}
-use Rattle.proof_choice.proofs.proof_attempts_Walking.{IsWritten, is_fresh, written_told}
+use Rattle.proof_hearing.specs.proof_choice.proof_giving.Tie.{AttemptsSo, IsRequest, WantsFit, has_text, is_for}
+use Rattle.proof_hearing.proofs.Asking.{of_attempt}
+use Rattle.proof_hearing.proofs.Begun.{segments_go}
+use Rattle.proof_hearing.proofs.Queued.{PayloadsBring, served_is_node}
+use Rattle.proof_hearing.proofs.proof_queue_Stepping.{event_is_read, not_awaiting, time_told}
+use Rattle.proof_hearing.proofs.Wrote.{front_now}
+use Rattle.proof_hearing.proofs.proof_attempts_Walking.{IsWritten, is_fresh, written_told}
 use Rattle.proof_hearing.specs.Books.{BooksSo}
 use Rattle.proof_hearing.specs.Hearing.{Point, choosing}
 use Rattle.proof_hearing.specs.proof_nonces.Known.{AreOther, AsksOther}
@@ -64,8 +64,8 @@ use Rattle.proof_hearing.specs.proof_queue.proof_attempts.proof_requests.proof_a
 use Rattle.proof_hearing.proofs.Around.{sends_chosen, sends_else, unsent}
 use Rattle.proof_hearing.proofs.Sent.{OffersNode, Sent, abort_sent, front_sent, segment_sent, start_sent, text_sent}
 use Rattle.proof_hearing.proofs.proof_nonces_Payloads.{open_other}
-use Rattle.proof_choice.proofs.Entering.{plain_after}
-use Rattle.proof_choice.proofs.proof_ends_Walking.{ShowsOpen}
+use Rattle.proof_hearing.proofs.Entering.{plain_after}
+use Rattle.proof_hearing.proofs.proof_ends_Walking.{ShowsOpen}
 use Rattle.proof_noting.specs.Following.{Goes, Outset}
 use Rattle.proof_noting.specs.Ground.{NotingGround}
 use Rattle.proof_noting.specs.Noting.{AtRest}

@@ -14,10 +14,10 @@ use Rattle.law_time.specs.Moments.{clock}
 use Rattle.law_time.specs.Queue.{requests}
 use Rattle.law_time.specs.Requests.{Asked, asked, is_new}
 use Rattle.law_time.specs.Sessions.{last_command}
-use Rattle.proof_choice.specs.proof_giving.Told.{attempts_so_far}
-use Rattle.proof_choice.proofs.Books.{last_is}
-use Rattle.proof_choice.proofs.Told.{attempts_asked}
-use Rattle.proof_choice.proofs.proof_requests_Telling.{clock_same}
+use Rattle.proof_hearing.specs.proof_choice.proof_giving.Told.{attempts_so_far}
+use Rattle.proof_hearing.proofs.Books.{last_is}
+use Rattle.proof_hearing.proofs.Told.{attempts_asked}
+use Rattle.proof_hearing.proofs.proof_requests_Telling.{clock_same}
 use Rattle.proof_hearing.specs.proof_queue.proof_attempts.proof_requests.law_host.Heard.{heeds_alone}
 use Rattle.proof_hearing.specs.proof_queue.proof_attempts.proof_requests.law_host.Nonces.{is_late}
 use Rattle.proof_hearing.specs.proof_queue.proof_attempts.proof_requests.proof_alone.Steps.{IsOfUnit}

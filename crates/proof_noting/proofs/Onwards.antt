@@ -15,10 +15,10 @@ use Rattle.law_time.specs.Moments.{clock}
 use Rattle.law_time.specs.Requests.{are_none, asked}
 use Rattle.host_requests.specs.Frames.{request_of}
 use Rattle.host_requests.specs.declared.task.Purpose.{Purpose}
-use Rattle.proof_choice.specs.proof_giving.Told.{LeavesAttempts}
-use Rattle.proof_choice.proofs.Stepping.{time_told}
-use Rattle.proof_choice.proofs.Told.{attempts_left}
-use Rattle.proof_choice.proofs.ReadyTie.{ground_of}
+use Rattle.proof_hearing.specs.proof_choice.proof_giving.Told.{LeavesAttempts}
+use Rattle.proof_hearing.proofs.proof_queue_Stepping.{time_told}
+use Rattle.proof_hearing.proofs.Told.{attempts_left}
+use Rattle.proof_hearing.proofs.ReadyTie.{ground_of}
 use Rattle.proof_hearing.specs.Hearing.{choosing}
 use Rattle.proof_hearing.specs.proof_queue.proof_attempts.proof_requests.law_host.Course.{Course}
 use Rattle.proof_hearing.specs.proof_queue.proof_attempts.proof_requests.law_host.Following.{comes_to, has_heard, has_ticked, is_before_host, is_of_host, may_stand}
@@ -28,9 +28,9 @@ use Rattle.proof_hearing.specs.proof_queue.proof_attempts.proof_requests.proof_a
 use Rattle.proof_hearing.specs.proof_queue.proof_attempts.proof_requests.proof_alone.Phases.{Phase}
 use Rattle.proof_hearing.specs.proof_queue.proof_attempts.proof_requests.proof_alone.State.{HostMachine}
 use Rattle.proof_hearing.specs.proof_queue.proof_attempts.proof_requests.proof_alone.Steps.{AreFrames, DidNotCome, IsOfOthers}
-use Rattle.proof_choice.specs.proof_following.Quiet.{IsPlainly, IsWithin}
-use Rattle.proof_choice.proofs.Entering.{comes_within, plainly_within}
-use Rattle.proof_choice.proofs.proof_ends_Walking.{ShowsOpen}
+use Rattle.proof_hearing.specs.proof_choice.proof_following.Quiet.{IsPlainly, IsWithin}
+use Rattle.proof_hearing.proofs.Entering.{comes_within, plainly_within}
+use Rattle.proof_hearing.proofs.proof_ends_Walking.{ShowsOpen}
 use Rattle.proof_noting.specs.Behind.{Answered, AtOpen}
 use Rattle.proof_noting.specs.Following.{Follows, Goes, IsQuiet, Lags, Level, Outset, timed}
 use Rattle.proof_noting.specs.Ground.{NotingGround}

@@ -14,10 +14,10 @@ use Rattle.law_time.specs.Judged.{is_data}
 use Rattle.law_time.specs.Requests.{asked}
 use Rattle.host_requests.specs.Frames.{request_of}
 use Rattle.host_model.specs.Events.{HostEvent}
-use Rattle.proof_choice.proofs.Stays.{missed_lost}
-use Rattle.proof_choice.proofs.Told.{attempts_left}
-use Rattle.proof_choice.proofs.proof_attempts_Walking.{others_quiet}
-use Rattle.proof_choice.proofs.ReadyTie.{ground_of}
+use Rattle.proof_hearing.proofs.Stays.{missed_lost}
+use Rattle.proof_hearing.proofs.Told.{attempts_left}
+use Rattle.proof_hearing.proofs.proof_attempts_Walking.{others_quiet}
+use Rattle.proof_hearing.proofs.ReadyTie.{ground_of}
 use Rattle.proof_hearing.specs.Books.{BooksSo}
 use Rattle.proof_hearing.specs.Hearing.{choosing}
 use Rattle.proof_hearing.specs.proof_queue.proof_attempts.Since.{IsElse}
@@ -29,8 +29,8 @@ use Rattle.proof_hearing.specs.proof_queue.proof_attempts.proof_requests.proof_a
 use Rattle.proof_hearing.specs.proof_queue.proof_attempts.proof_requests.proof_alone.Phases.{Phase, Resting, Asked, Risen, Ticking, Open, Behind, Sleeping, Submitting, IsBetween, MayCome}
 use Rattle.proof_hearing.specs.proof_queue.proof_attempts.proof_requests.proof_alone.State.{HostMachine}
 use Rattle.proof_hearing.specs.proof_queue.proof_attempts.proof_requests.proof_alone.Steps.{AreFrames, ChangesFrame, DidNotCome, IsFramed, IsOfOthers, Tells, Comes, Misses, Begins_tick, Numbers, happens}
-use Rattle.proof_choice.proofs.Entering.{plain_after}
-use Rattle.proof_choice.proofs.proof_ends_Walking.{ShowsOpen}
+use Rattle.proof_hearing.proofs.Entering.{plain_after}
+use Rattle.proof_hearing.proofs.proof_ends_Walking.{ShowsOpen}
 use Rattle.proof_noting.specs.Behind.{AtOpen, BehindSo}
 use Rattle.proof_noting.specs.Behind.BehindSo.{None_left, One_left, Payload_left}
 use Rattle.proof_noting.specs.Following.{Follows, Goes, Outset, timed}

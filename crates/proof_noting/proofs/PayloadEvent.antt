@@ -12,10 +12,10 @@ use Rattle.host_model.specs.Events.{HostEvent}
 use Rattle.host_model.specs.Taking.{PayloadEvents}
 use Rattle.law_transcript.specs.Units.{Carried}
 use Rattle.law_time.specs.Heeds.{Heeds}
-use Rattle.proof_choice.specs.proof_giving.Told.{attempts_so_far}
-use Rattle.proof_choice.proofs.Heeded.{all_follow}
-use Rattle.proof_choice.proofs.Kept.{IsFollower}
-use Rattle.proof_choice.proofs.ReadyTie.{facts_of}
+use Rattle.proof_hearing.specs.proof_choice.proof_giving.Told.{attempts_so_far}
+use Rattle.proof_hearing.proofs.Heeded.{all_follow}
+use Rattle.proof_hearing.proofs.Kept.{IsFollower}
+use Rattle.proof_hearing.proofs.ReadyTie.{facts_of}
 use Rattle.proof_hearing.specs.Hearing.{HeardOne, HearsSo, StaysLate, Whole, choosing, finishes, hearing_at}
 use Rattle.proof_hearing.specs.proof_queue.proof_attempts.proof_requests.law_host.Following.{is_note}
 use Rattle.proof_hearing.specs.proof_queue.proof_attempts.proof_requests.law_host.Heard.{heeds_alone}
@@ -23,7 +23,7 @@ use Rattle.proof_hearing.specs.proof_queue.proof_attempts.proof_requests.proof_a
 use Rattle.proof_hearing.specs.proof_queue.proof_attempts.proof_requests.proof_alone.Steps.{Does}
 use Rattle.proof_hearing.specs.proof_queue.proof_attempts.proof_requests.proof_alone.Phases.{Behind, May}
 use Rattle.proof_hearing.proofs.OnePayload.{hears_one}
-use Rattle.proof_choice.specs.proof_following.Quiet.{acknowledges}
+use Rattle.proof_hearing.specs.proof_choice.proof_following.Quiet.{acknowledges}
 use Rattle.proof_noting.specs.Following.{Outset}
 use Rattle.proof_noting.specs.Behind.{InPayload}
 use Rattle.proof_noting.specs.Ground.{GroundAlong, NotingGround}

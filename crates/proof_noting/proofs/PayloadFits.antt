@@ -16,8 +16,8 @@ use Rattle.proof_hearing.specs.proof_queue.proof_attempts.proof_requests.law_hos
 use Rattle.proof_hearing.specs.proof_queue.proof_attempts.proof_requests.proof_alone.State.{HostMachine}
 use Rattle.proof_hearing.proofs.Beginning.{uses_nonces}
 use Rattle.proof_hearing.proofs.Grows.{Adds, finishes_adds}
-use Rattle.proof_choice.specs.proof_following.Quiet.{acknowledges}
-use Rattle.proof_choice.proofs.Entering.{marks_after, notes_after}
+use Rattle.proof_hearing.specs.proof_choice.proof_following.Quiet.{acknowledges}
+use Rattle.proof_hearing.proofs.Entering.{marks_after, notes_after}
 use Rattle.proof_noting.specs.Following.{Outset, course_since}
 use Rattle.proof_noting.specs.Behind.{InPayload}
 use Rattle.proof_noting.specs.Steps.{Fitting, first_of}

@@ -14,7 +14,7 @@ use Rattle.host_model.specs.Events.{HostEvent, Hears}
 use Rattle.host_model.specs.declared.out.HostOut.TheVariants.{Write}
 use Rattle.law_transcript.specs.Units.{Carried}
 use Rattle.law_time.specs.Queue.{queue_before}
-use Rattle.proof_choice.proofs.Stepping.{not_awaiting}
+use Rattle.proof_hearing.proofs.proof_queue_Stepping.{not_awaiting}
 use Rattle.proof_hearing.specs.proof_queue.Heeding.{AllSteps, HeedsSo}
 use Rattle.proof_hearing.specs.proof_queue.Waiting.{Waits}
 use Rattle.proof_hearing.specs.proof_queue.proof_attempts.proof_requests.law_host.Heard.{heeds_alone}
@@ -23,8 +23,8 @@ use Rattle.proof_hearing.specs.proof_queue.proof_attempts.proof_requests.proof_a
 use Rattle.proof_hearing.specs.proof_queue.proof_attempts.proof_requests.proof_alone.Runs.{Run}
 use Rattle.proof_hearing.specs.proof_queue.proof_attempts.proof_requests.proof_alone.State.{HostMachine, done}
 use Rattle.proof_hearing.specs.proof_queue.proof_attempts.proof_requests.proof_alone.Steps.{AreTold, Judges, happens}
-use Rattle.proof_choice.specs.proof_following.Quiet.{acknowledges}
-use Rattle.proof_choice.proofs.proof_ends_Walking.{ShowsOpen}
+use Rattle.proof_hearing.specs.proof_choice.proof_following.Quiet.{acknowledges}
+use Rattle.proof_hearing.proofs.proof_ends_Walking.{ShowsOpen}
 use Rattle.proof_noting.specs.Following.{Outset}
 use Rattle.proof_noting.specs.Behind.{AtOpen, InPayload}
 use Rattle.proof_noting.specs.Behind.BehindSo.{Payload_left}

@@ -10,20 +10,19 @@ use Rattle.host_model.specs.Events.{HostEvent}
 use Rattle.law_transcript.specs.Units.{Carried}
 use Rattle.law_time.specs.Heeds.{Heeds}
 use Rattle.law_time.specs.Moments.{clock}
-use Rattle.proof_choice.specs.proof_giving.Tie.{has_text}
-use Rattle.proof_choice.proofs.Stepping.{time_told}
-use Rattle.proof_choice.proofs.ReadyTie.{ground_of}
+use Rattle.proof_hearing.specs.proof_choice.proof_giving.Tie.{has_text}
+use Rattle.proof_hearing.proofs.proof_queue_Stepping.{time_told}
+use Rattle.proof_hearing.proofs.ReadyTie.{ground_of}
 use Rattle.proof_hearing.specs.Books.{BooksSo}
-use Rattle.proof_hearing.specs.Hearing.{NotAsked, Point, hearing_at}
+use Rattle.proof_hearing.specs.Hearing.{NotAsked, Point}
 use Rattle.proof_hearing.specs.proof_queue.proof_attempts.proof_requests.law_host.Heard.{heeds_alone}
-use Rattle.proof_hearing.specs.proof_queue.proof_attempts.proof_requests.law_host.Messages.{Hearing}
 use Rattle.proof_hearing.specs.proof_queue.proof_attempts.proof_requests.law_host.Nonces.{is_late}
 use Rattle.proof_hearing.specs.proof_queue.proof_attempts.proof_requests.proof_alone.State.{HostMachine}
 use Rattle.proof_hearing.specs.proof_queue.proof_attempts.proof_requests.proof_alone.Phases.{Behind, Phase}
 use Rattle.proof_hearing.specs.proof_queue.proof_attempts.proof_requests.proof_alone.Runs.{Run}
 use Rattle.proof_hearing.proofs.Alike.{same_alike}
 use Rattle.proof_hearing.proofs.BooksGo.{books_on}
-use Rattle.proof_choice.specs.proof_following.Quiet.{acknowledges}
+use Rattle.proof_hearing.specs.proof_choice.proof_following.Quiet.{acknowledges}
 use Rattle.proof_noting.specs.Behind.{InPayload}
 use Rattle.proof_noting.specs.Following.{Outset, timed}
 use Rattle.proof_noting.specs.Ground.{GroundAlong, NotingGround}
@@ -52,9 +51,6 @@ module _ (key : List ℕ) (taken : List Entry → Carried → List Told) (from :
 
     abbrev here : List Entry
     here = upto ++ it.course.due
-
-    abbrev hearing : Hearing
-    hearing = hearing_at taken it.before upto it.node it.payload
 
     noting : NotingGround taken (Behind left) here m
     noting = ground (Behind left) here m it.sure

@@ -8,7 +8,7 @@ use Rattle.host_model.specs.Events.{HostEvent}
 use Rattle.law_transcript.specs.Units.{Carried, request_in}
 use Rattle.law_time.specs.Heeds.{Heeds}
 use Rattle.law_time.specs.Requests.{Asked, asked}
-use Rattle.proof_choice.proofs.proof_requests_Telling.{IsQuiet, mark_quiet, quiet_on}
+use Rattle.proof_hearing.proofs.proof_requests_Telling.{IsQuiet, mark_quiet, quiet_on}
 use Rattle.proof_hearing.specs.Books.{BooksSo}
 use Rattle.proof_hearing.specs.Hearing.{choosing, finishes, hearing_at, heeded_rest}
 use Rattle.proof_hearing.specs.proof_queue.proof_attempts.proof_requests.law_host.Course.{Course, Heeding, with_heeded}
@@ -20,7 +20,7 @@ use Rattle.proof_hearing.specs.proof_queue.proof_attempts.proof_requests.proof_a
 use Rattle.proof_hearing.specs.proof_queue.proof_attempts.proof_requests.proof_alone.Steps.{IsOfUnit}
 use Rattle.proof_hearing.specs.proof_queue.proof_attempts.proof_requests.proof_alone.Phases.{Behind}
 use Rattle.proof_hearing.proofs.OnePayload.{hears_over}
-use Rattle.proof_choice.specs.proof_following.Quiet.{acknowledges}
+use Rattle.proof_hearing.specs.proof_choice.proof_following.Quiet.{acknowledges}
 use Rattle.proof_noting.specs.Behind.{AtOpen, InPayload}
 use Rattle.proof_noting.specs.Following.{CourseOf, Outset, course_since}
 use Rattle.proof_noting.specs.Ground.{GroundAlong}

@@ -18,12 +18,12 @@ use Rattle.law_time.specs.Unanswered.{to_give_up}
 use Rattle.host_requests.specs.declared.under_way.UnderWay.{UnderWay}
 use Rattle.host_model.specs.Events.{HostEvent}
 use Rattle.proof_hearing.proofs.Ordered.{has_in_order}
-use Rattle.proof_choice.specs.proof_giving.Tie.{AttemptsSo}
-use Rattle.proof_choice.specs.proof_giving.Walking.{KnowsAttempts}
-use Rattle.proof_choice.proofs.AtRest.{none_is_over, none_over_at}
-use Rattle.proof_choice.proofs.Late.{unended_at}
-use Rattle.proof_choice.proofs.Rested.{joined_nodes}
-use Rattle.proof_choice.proofs.ReadyTie.{asked_of, facts_of}
+use Rattle.proof_hearing.specs.proof_choice.proof_giving.Tie.{AttemptsSo}
+use Rattle.proof_hearing.specs.proof_choice.proof_giving.Walking.{KnowsAttempts}
+use Rattle.proof_hearing.proofs.AtRest.{none_is_over, none_over_at}
+use Rattle.proof_hearing.proofs.Late.{unended_at}
+use Rattle.proof_hearing.proofs.Rested.{joined_nodes}
+use Rattle.proof_hearing.proofs.ReadyTie.{asked_of, facts_of}
 use Rattle.proof_hearing.specs.proof_queue.proof_attempts.Since.{is_to_tick, node_clock}
 use Rattle.proof_hearing.specs.proof_queue.proof_attempts.proof_requests.Asking.{TieAsked, doing_of}
 use Rattle.proof_hearing.specs.proof_queue.proof_attempts.proof_requests.Walking.{IsTied, KnowsAsked}
@@ -33,7 +33,7 @@ use Rattle.proof_hearing.specs.proof_queue.proof_attempts.proof_requests.law_hos
 use Rattle.proof_hearing.specs.proof_queue.proof_attempts.proof_requests.proof_alone.State.{HostMachine}
 use Rattle.proof_hearing.specs.proof_queue.proof_attempts.proof_requests.proof_alone.Steps.{AreFrames}
 use Rattle.proof_hearing.specs.proof_queue.proof_attempts.proof_requests.proof_alone.Phases.{Phase, Resting, Ticking, Open, Behind, Sleeping, Submitting}
-use Rattle.proof_choice.specs.proof_following.Quiet.{NoneGone, Waits}
+use Rattle.proof_hearing.specs.proof_choice.proof_following.Quiet.{NoneGone, Waits}
 use Rattle.proof_noting.specs.Ground.{NotingGround}
 
 -- ---- the nodes that joined
@@ -58,10 +58,6 @@ pub in_order_nodes : (past : List Entry) (n : ℕ) → Has (nodes_in_order past)
 in_order_nodes past n has = has_of IsInRange (joined past) n (joined_nodes past) (in_order_joined past n has)
 
 -- ---- a request that has not ended
-
-not_so : (b : Bool) → not b ≡ false → b ≡ true
-not_so true is = refl
-not_so false is = absurd (let bad : true ≡ false = is in cc)
 
 pub unended_waits : (past : List Entry) (now : ℕ) → has_ended (asked past) now ≡ false → Waits past now
 unended_waits past now none =

@@ -33,10 +33,10 @@ use Rattle.proof_hearing.specs.proof_queue.proof_attempts.proof_requests.Effects
 use Rattle.proof_hearing.specs.proof_queue.proof_attempts.proof_requests.Standing.{IsAside, Standing, counted, failing_in, first_ending, giving_up_in, responses_in, sent_in, silence_in, standing_of, ticks_sent, with_answer, with_entries}
 use Rattle.proof_hearing.specs.proof_queue.proof_attempts.proof_requests.law_host.Ticks.{is_denied}
 use Rattle.proof_hearing.specs.proof_queue.proof_attempts.proof_requests.proof_alone.Steps.{AreFrames, ChangesFrame, DidNotCome}
-use Rattle.proof_choice.proofs.Line.{AreOf, are_to_come, counted_copied, counted_four, counted_more, failing_few, failing_four, failing_sent, few_is, first_or_none, first_stays, in_time, same_counted}
-use Rattle.proof_choice.proofs.Stays.{missed_lost}
-use Rattle.proof_choice.proofs.proof_requests_Telling.{IsQuiet, acknowledged_more, quiet_asides, quiet_on, quiet_uncounted, quiet_wordless}
-use Rattle.proof_choice.proofs.proof_waking_Apart.{IsWordless}
+use Rattle.proof_hearing.proofs.Line.{AreOf, are_to_come, counted_copied, counted_four, counted_more, failing_few, failing_four, failing_sent, few_is, first_or_none, first_stays, in_time, same_counted}
+use Rattle.proof_hearing.proofs.Stays.{missed_lost}
+use Rattle.proof_hearing.proofs.proof_requests_Telling.{IsQuiet, acknowledged_more, quiet_asides, quiet_on, quiet_uncounted, quiet_wordless}
+use Rattle.proof_hearing.proofs.proof_waking_Apart.{IsWordless}
 use Rattle.proof_hearing.proofs.proof_attempts_Ending.{line_gives, silence_is}
 use Rattle.proof_hearing.proofs.proof_requests_Ended.{gave_up}
 use Rattle.proof_hearing.proofs.proof_requests_Growing.{asked_on}

@@ -12,8 +12,8 @@ use Rattle.law_transcript.specs.Units.{Carried}
 use Rattle.host_requests.specs.State.{RequestsState}
 use Rattle.host_requests.specs.declared.under_way.UnderWay.{UnderWay}
 use Rattle.host_model.specs.State.{HostState, node_of}
-use Rattle.proof_choice.proofs.Counting.{each_starts}
-use Rattle.proof_choice.proofs.ReadyStarts.{GiveOne}
+use Rattle.proof_hearing.proofs.Counting.{each_starts}
+use Rattle.proof_hearing.proofs.ReadyStarts.{GiveOne}
 use Rattle.proof_hearing.proofs.Beginning.{books_first}
 use Rattle.proof_hearing.proofs.Queueing.{opened_asks}
 use Rattle.proof_hearing.specs.Books.{BooksOf}

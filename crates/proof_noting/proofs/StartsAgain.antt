@@ -21,8 +21,8 @@ use Rattle.proof_hearing.proofs.Accounts.{SameAccount, restart_same}
 use Rattle.proof_hearing.proofs.Alike.{Cleared}
 use Rattle.proof_hearing.proofs.Around.{books_restarted}
 use Rattle.proof_hearing.proofs.Queueing.{opened_asks}
-use Rattle.proof_choice.proofs.Counting.{each_starts}
-use Rattle.proof_choice.proofs.ReadyStarts.{GiveOne, seen_starts}
+use Rattle.proof_hearing.proofs.Counting.{each_starts}
+use Rattle.proof_hearing.proofs.ReadyStarts.{GiveOne, seen_starts}
 use Rattle.proof_noting.specs.Behind.{AtOpen}
 use Rattle.proof_noting.specs.Following.{CourseOf, Outset, timed}
 use Rattle.proof_noting.specs.Ground.{GroundAlong, NotingGround}

@@ -1,10 +1,10 @@
 -- What is given up, and the end of a request without a frame, leave what is still to be chosen in the course of notes; and notes that are due in a tick stand one after another.
 use Rattle.law_time.specs.Heeds.{Heeds}
 use Rattle.law_time.specs.Moments.{clock}
-use Rattle.proof_choice.proofs.Entering.{notes_after}
-use Rattle.proof_choice.proofs.TickNotes.{tick_first}
-use Rattle.proof_choice.proofs.Ticking.{nodes_grow, nodes_rest}
-use Rattle.proof_choice.specs.proof_following.Ended.{rest_of}
+use Rattle.proof_hearing.proofs.Entering.{notes_after}
+use Rattle.proof_hearing.proofs.TickNotes.{tick_first}
+use Rattle.proof_hearing.proofs.Ticking.{nodes_grow, nodes_rest}
+use Rattle.proof_hearing.specs.proof_choice.proof_following.Ended.{rest_of}
 use Rattle.proof_hearing.specs.Hearing.{choosing}
 use Rattle.proof_hearing.specs.proof_queue.proof_attempts.proof_requests.law_host.Course.{Course, each_in_turn}
 use Rattle.proof_hearing.specs.proof_queue.proof_attempts.proof_requests.law_host.Ends.{ends_without, gives_up_late}
@@ -13,7 +13,7 @@ use Rattle.proof_hearing.specs.proof_queue.proof_attempts.proof_requests.law_hos
 use Rattle.proof_noting.proofs.Marks.{notes_unrefused}
 use Rattle.proof_noting.specs.Following.{CourseOf, Outset, course_since}
 use Rattle.proof_noting.proofs.Choosing.{cancel, course_on}
-use Rattle.proof_noting.proofs.InFront.{nodes_pass, without_passes}
+use Rattle.proof_noting.proofs.InFront.{without_passes}
 use Rattle.std.proofs.Common.{Bool, List, Option, [], ap, append_assoc, ap₂, refl, sym, true, ℕ, ◌++◌, ◌∙◌, ◌∷◌, ◌≡◌}
 use Rattle.std.specs.List.{AllByRecursion}
 use Rattle.std.specs.Prelude.{nat_lt}
@@ -23,10 +23,6 @@ use Rattle.zw_text.specs.declared.entry.Entry.{Entry}
 -- ---- what is still to be chosen
 
 module _ (keepings : List Bool) (texts : List (Option (List ℕ))) where
-  pub nodes_chosen : (heeds : Heeds) (past : List Entry) (now : ℕ) (nodes : List ℕ) (c : Course)
-      → each_in_turn (gives_up_late heeds past now) nodes (choosing keepings texts c) ≡ choosing keepings texts (each_in_turn (gives_up_late heeds past now) nodes c)
-  nodes_chosen heeds past now nodes c = nodes_pass (λ before. keepings) (λ before. texts) [] heeds past now nodes c
-
   pub without_chosen : (heeds : Heeds) (past : List Entry) (now : ℕ) (how : HowDone) (c : Course)
       → ends_without heeds past now how (choosing keepings texts c) ≡ choosing keepings texts (ends_without heeds past now how c)
   without_chosen heeds past now how c = without_passes (λ before. keepings) (λ before. texts) [] heeds past now how c

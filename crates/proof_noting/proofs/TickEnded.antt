@@ -21,18 +21,18 @@ use Rattle.law_time.specs.Moments.{KeepsAfter, clock}
 use Rattle.law_time.specs.Requests.{asked}
 use Rattle.law_transcript.specs.Payloads.{nonce_get}
 use Rattle.law_transcript.specs.Units.{Carried, sending_in, sending_of}
-use Rattle.proof_choice.proofs.Ending.{badly_one, entries_are, late_is}
-use Rattle.proof_choice.proofs.Framing.{noted_so}
-use Rattle.proof_choice.proofs.proof_ends_Noting.{NodesSo}
-use Rattle.proof_choice.specs.proof_following.Ended.{EndingOf, EndsAs, GoneOf, IsLate, NotedSo, answer_entries, errand_entries, failed_entries, noted_by, outcome_entries, sent_by, sleep_entries}
-use Rattle.proof_choice.specs.proof_following.Ended.EndsAs.{Ends_well}
-use Rattle.proof_choice.specs.proof_following.Quiet.{ended_silently}
-use Rattle.proof_choice.proofs.Doings.{does_at, one_does, part_does, purpose_does}
-use Rattle.proof_choice.proofs.Told.{attempts_left}
-use Rattle.proof_choice.specs.proof_giving.Stays.{ShowsSessions}
-use Rattle.proof_choice.specs.proof_giving.Tie.{AttemptsSo, is_for}
-use Rattle.proof_choice.specs.proof_giving.Told.{LeavesAttempts}
-use Rattle.proof_choice.specs.proof_giving.Walking.{gives_up_well}
+use Rattle.proof_hearing.proofs.Ending.{badly_one, entries_are, late_is}
+use Rattle.proof_hearing.proofs.Framing.{noted_so}
+use Rattle.proof_hearing.proofs.proof_ends_Noting.{NodesSo}
+use Rattle.proof_hearing.specs.proof_choice.proof_following.Ended.{EndingOf, EndsAs, GoneOf, IsLate, NotedSo, answer_entries, errand_entries, failed_entries, noted_by, outcome_entries, sent_by, sleep_entries}
+use Rattle.proof_hearing.specs.proof_choice.proof_following.Ended.EndsAs.{Ends_well}
+use Rattle.proof_hearing.specs.proof_choice.proof_following.Quiet.{ended_silently}
+use Rattle.proof_hearing.proofs.Doings.{does_at, one_does, part_does, purpose_does}
+use Rattle.proof_hearing.proofs.Told.{attempts_left}
+use Rattle.proof_hearing.specs.proof_choice.proof_giving.Stays.{ShowsSessions}
+use Rattle.proof_hearing.specs.proof_choice.proof_giving.Tie.{AttemptsSo, is_for}
+use Rattle.proof_hearing.specs.proof_choice.proof_giving.Told.{LeavesAttempts}
+use Rattle.proof_hearing.specs.proof_choice.proof_giving.Walking.{gives_up_well}
 use Rattle.proof_hearing.proofs.Alike.{Alike}
 use Rattle.proof_hearing.specs.Books.{BooksSo}
 use Rattle.proof_hearing.specs.proof_queue.proof_attempts.proof_requests.Carrying.{CarriesSo}

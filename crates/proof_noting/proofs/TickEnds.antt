@@ -44,22 +44,22 @@ use Rattle.host_model.specs.Facts.{IsCommandOf}
 use Rattle.host_model.specs.Sessions.{open_command}
 use Rattle.proof_host.specs.Facts.{Facts}
 use Rattle.proof_host.specs.Tables.{nodes_by}
-use Rattle.proof_choice.specs.proof_giving.Stays.{ShowsSessions}
-use Rattle.proof_choice.specs.proof_giving.Tie.{AttemptsSo, is_for}
-use Rattle.proof_choice.specs.proof_giving.Told.{LeavesAttempts, attempts_so_far}
-use Rattle.proof_choice.specs.proof_giving.Walking.{gives_up_well}
-use Rattle.proof_choice.proofs.Opening.{OpenLast, open_last}
-use Rattle.proof_choice.proofs.Told.{each_is}
+use Rattle.proof_hearing.specs.proof_choice.proof_giving.Stays.{ShowsSessions}
+use Rattle.proof_hearing.specs.proof_choice.proof_giving.Tie.{AttemptsSo, is_for}
+use Rattle.proof_hearing.specs.proof_choice.proof_giving.Told.{LeavesAttempts, attempts_so_far}
+use Rattle.proof_hearing.specs.proof_choice.proof_giving.Walking.{gives_up_well}
+use Rattle.proof_hearing.proofs.Opening.{OpenLast, open_last}
+use Rattle.proof_hearing.proofs.Told.{each_is}
 use Rattle.proof_hearing.specs.proof_queue.proof_attempts.Attempts.{IsSign, begun_of}
 use Rattle.proof_hearing.specs.proof_queue.proof_attempts.proof_requests.law_host.Course.{Course, each_in_turn, with_notes, without_texts}
 use Rattle.proof_hearing.specs.proof_queue.proof_attempts.proof_requests.law_host.Ends.{done_notes, ends_badly, ends_sealing, ends_without, failed_notes, given_up_notes, gives_up, sleep_notes, to_give_up_by_end}
 use Rattle.proof_hearing.specs.proof_queue.proof_attempts.proof_requests.law_host.Following.{is_note}
 use Rattle.proof_hearing.specs.proof_queue.proof_attempts.proof_requests.law_host.Heard.{heeds_alone}
-use Rattle.proof_choice.specs.proof_following.proof_ends.Ends.{GivesUp}
-use Rattle.proof_choice.specs.proof_following.Ended.{GaveUp, GoneOf}
-use Rattle.proof_choice.specs.proof_following.Quiet.{ended_silently}
-use Rattle.proof_choice.proofs.Ending.{sealing_due}
-use Rattle.proof_choice.proofs.proof_ends_Noting.{NodesSo, gives_up_so}
+use Rattle.proof_hearing.specs.proof_choice.proof_ends.Ends.{GivesUp}
+use Rattle.proof_hearing.specs.proof_choice.proof_following.Ended.{GaveUp, GoneOf}
+use Rattle.proof_hearing.specs.proof_choice.proof_following.Quiet.{ended_silently}
+use Rattle.proof_hearing.proofs.Ending.{sealing_due}
+use Rattle.proof_hearing.proofs.proof_ends_Noting.{NodesSo, gives_up_so}
 use Rattle.proof_noting.proofs.Quietly.{none_by_end}
 
 -- ---- notes

@@ -12,15 +12,15 @@ use Rattle.law_time.specs.Moments.{KeepsAfter, clock}
 use Rattle.law_time.specs.Requests.{Asked, request_last}
 use Rattle.law_transcript.specs.Lists.{EachAfter}
 use Rattle.law_transcript.specs.Units.{Carried, request_in}
-use Rattle.proof_choice.proofs.Owners.{OwnLaw}
-use Rattle.proof_choice.proofs.ReadyTie.{ground_of}
-use Rattle.proof_choice.proofs.proof_ends_Noting.{NodesSo}
-use Rattle.proof_choice.proofs.proof_ends_Walking.{ShowsOpen, nodes_so}
-use Rattle.proof_choice.specs.proof_following.Ended.{sleep_entries}
-use Rattle.proof_choice.proofs.Stepping.{time_told}
-use Rattle.proof_choice.proofs.proof_requests_Telling.{IsQuiet as QuietEntry, quiet_on}
-use Rattle.proof_choice.specs.proof_giving.Walking.{gives_up_well}
-use Rattle.proof_choice.specs.proof_giving.proof_queue.proof_attempts.Since.{KnowsSince}
+use Rattle.proof_hearing.proofs.Owners.{OwnLaw}
+use Rattle.proof_hearing.proofs.ReadyTie.{ground_of}
+use Rattle.proof_hearing.proofs.proof_ends_Noting.{NodesSo}
+use Rattle.proof_hearing.proofs.proof_ends_Walking.{ShowsOpen, nodes_so}
+use Rattle.proof_hearing.specs.proof_choice.proof_following.Ended.{sleep_entries}
+use Rattle.proof_hearing.proofs.proof_queue_Stepping.{time_told}
+use Rattle.proof_hearing.proofs.proof_requests_Telling.{IsQuiet as QuietEntry, quiet_on}
+use Rattle.proof_hearing.specs.proof_choice.proof_giving.Walking.{gives_up_well}
+use Rattle.proof_hearing.specs.proof_nonces.proof_attempts.Since.{KnowsSince}
 use Rattle.proof_hearing.specs.proof_queue.proof_attempts.proof_requests.Walking.{IsNodeTick}
 use Rattle.proof_hearing.specs.proof_queue.proof_attempts.proof_requests.law_host.Following.{is_note}
 use Rattle.proof_hearing.specs.proof_queue.proof_attempts.proof_requests.law_host.Heard.{heeds_alone}

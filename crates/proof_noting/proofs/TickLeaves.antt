@@ -10,7 +10,7 @@ use Rattle.host_node.specs.Steps.{after_again, after_again_tick, after_hold_tick
 use Rattle.host_node.specs.declared.attempt.AttemptEnd.{AttemptEnd}
 use Rattle.host_node.specs.declared.attempt.AttemptEnd.TheVariants.{Again, NoneRan, Unanswered}
 use Rattle.host_node.specs.declared.attempt.Moment.TheVariants.{BetweenTicks}
-use Rattle.proof_choice.proofs.Doings.{node_after}
+use Rattle.proof_hearing.proofs.Doings.{node_after}
 use Rattle.proof_hearing.proofs.Alike.{Alike}
 use Rattle.proof_noting.proofs.EndLeaves.{CutOff, EndLeaves, attempt_leaves, attempts_cut, itself, one_other}
 use Rattle.std.proofs.Common.{Bool, None, Option, Some, false, if◌then◌else◌, inl, inr, length, refl, subst, sym, true, ℕ, ◌&&◌, ◌+◌, ◌-◌, ◌<◌, ◌==◌, ◌∙◌, ◌≡◌, ◌⊎◌}

@@ -13,10 +13,10 @@ use Rattle.law_time.specs.Judged.{is_acknowledgement, is_data}
 use Rattle.law_time.specs.Moments.{clock}
 use Rattle.law_time.specs.Requests.{Asked, are_none, asked, copies as copies_of, is_copy, is_new, judged_since, sent_at}
 use Rattle.law_transcript.specs.Units.{Carried, request_in, sending_in}
-use Rattle.proof_choice.proofs.Entering.{comes_within, plain_after}
-use Rattle.proof_choice.proofs.Ticking.{undenied}
-use Rattle.proof_choice.specs.proof_following.Quiet.{ended_silently}
-use Rattle.proof_choice.proofs.proof_attempts_Walking.{marks_quiet}
+use Rattle.proof_hearing.proofs.Entering.{comes_within, plain_after}
+use Rattle.proof_hearing.proofs.Ticking.{undenied}
+use Rattle.proof_hearing.specs.proof_choice.proof_following.Quiet.{ended_silently}
+use Rattle.proof_hearing.proofs.proof_attempts_Walking.{marks_quiet}
 use Rattle.proof_hearing.proofs.BooksGo.{books_on}
 use Rattle.proof_hearing.proofs.proof_requests_Growing.{asked_copy}
 use Rattle.proof_hearing.proofs.proof_requests_Standing.{stands_copied}
@@ -40,7 +40,7 @@ use Rattle.proof_noting.proofs.LeftBooks.{kept_books}
 use Rattle.proof_noting.proofs.TickGround.{falls_quiet}
 use Rattle.proof_noting.proofs.TickNoted.{nothing_told, still_none}
 use Rattle.proof_noting.specs.Following.{Goes, IsQuiet, Lags, Level, Outset, timed}
-use Rattle.proof_choice.specs.proof_following.proof_ends.Ascending.{Ascends}
+use Rattle.proof_hearing.specs.proof_choice.proof_ends.Ascending.{Ascends}
 use Rattle.proof_noting.specs.Ticking.{NoneNoted, TickSo}
 use Rattle.proof_noting.specs.Ticking.TickSo.{Nothing}
 use Rattle.serial_frame.specs.Frame.{FrameParts}

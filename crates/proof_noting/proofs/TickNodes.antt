@@ -29,19 +29,19 @@ use Rattle.law_time.specs.Requests.{asked, request_last}
 use Rattle.law_time.specs.Unanswered.{to_give_up}
 use Rattle.law_transcript.specs.Lists.{EachAfter, Has}
 use Rattle.law_transcript.specs.Units.{Carried, sending_in}
-use Rattle.proof_choice.proofs.proof_ends_Walking.{ascends_from}
-use Rattle.proof_choice.proofs.Owners.{accepted_joined}
-use Rattle.proof_choice.proofs.ReadyTie.{ground_of}
-use Rattle.proof_choice.proofs.Ticking.{given_ticks, goes_on, silent_ticks}
-use Rattle.proof_choice.proofs.proof_ends_Noting.{asked_by, node_noted, purpose_asks, purpose_interviews}
-use Rattle.proof_choice.specs.proof_following.Ended.{GoneSo, rest_of}
-use Rattle.proof_choice.specs.proof_following.Quiet.{Waits, ended_silently}
-use Rattle.proof_choice.specs.proof_following.proof_ends.Ends.{GivesUp}
-use Rattle.proof_choice.proofs.proof_giving_Along.{texts_run}
-use Rattle.proof_choice.proofs.Doings.{node_after, nodes_are}
-use Rattle.proof_choice.proofs.Late.{unended_at}
-use Rattle.proof_choice.specs.proof_giving.Tie.{AttemptsSo, IsSealing, has_text, is_badly_over}
-use Rattle.proof_choice.specs.proof_giving.Told.{attempts_so_far}
+use Rattle.proof_hearing.proofs.proof_ends_Walking.{ascends_from}
+use Rattle.proof_hearing.proofs.Owners.{accepted_joined}
+use Rattle.proof_hearing.proofs.ReadyTie.{ground_of}
+use Rattle.proof_hearing.proofs.Ticking.{given_ticks, goes_on, silent_ticks}
+use Rattle.proof_hearing.proofs.proof_ends_Noting.{asked_by, node_noted, purpose_asks, purpose_interviews}
+use Rattle.proof_hearing.specs.proof_choice.proof_following.Ended.{GoneSo, rest_of}
+use Rattle.proof_hearing.specs.proof_choice.proof_following.Quiet.{Waits, ended_silently}
+use Rattle.proof_hearing.specs.proof_choice.proof_ends.Ends.{GivesUp}
+use Rattle.proof_hearing.proofs.proof_giving_Along.{texts_run}
+use Rattle.proof_hearing.proofs.Doings.{node_after, nodes_are}
+use Rattle.proof_hearing.proofs.Late.{unended_at}
+use Rattle.proof_hearing.specs.proof_choice.proof_giving.Tie.{AttemptsSo, IsSealing, has_text, is_badly_over}
+use Rattle.proof_hearing.specs.proof_choice.proof_giving.Told.{attempts_so_far}
 use Rattle.proof_hearing.proofs.Alike.{Alike, other_node}
 use Rattle.proof_hearing.proofs.KeptAwake.{noted_told}
 use Rattle.proof_hearing.specs.Books.{BooksSo, SealedOpen}
@@ -80,7 +80,7 @@ use Rattle.proof_noting.proofs.EndLeaves.{slept_not}
 use Rattle.proof_noting.proofs.TickGround.{TickGround, falls_quiet, nodes_idle, same_request, tick_facts, tick_frames, tick_nodes, tick_numbered, tick_time}
 use Rattle.proof_noting.proofs.TickNoted.{Midway, gives_first, gives_more, nothing_told, still_none, still_some}
 use Rattle.proof_noting.specs.Following.{Lags, Level, Outset, timed}
-use Rattle.proof_choice.specs.proof_following.proof_ends.Ascending.{Ascends}
+use Rattle.proof_hearing.specs.proof_choice.proof_ends.Ascending.{Ascends}
 use Rattle.proof_noting.specs.Ticking.{NoneNoted, OverSo, SomeNoted, TickSo}
 use Rattle.proof_noting.specs.Ticking.TickSo.{Nothing, Something}
 use Rattle.std.proofs.Common.{Bool, List, None, Option, Some, [], ap, ap₂, arith, false, if◌then◌else◌, inl, inr, length, refl, subst, sym, true, ℕ, ◌&&◌, ◌++◌, ◌+◌, ◌-◌, ◌<◌, ◌==◌, ◌||◌, ◌∙◌, ◌∷◌, ◌≡◌, ◌≤◌, ◌⊎◌}

@@ -13,10 +13,10 @@ use Rattle.law_time.specs.Unanswered.{to_give_up}
 use Rattle.law_transcript.specs.Lists.{Has}
 use Rattle.law_transcript.specs.Table.{in_order}
 use Rattle.law_transcript.specs.Units.{Carried}
-use Rattle.proof_choice.proofs.Ending.{gives_late}
-use Rattle.proof_choice.proofs.Ticking.{up_to_node}
-use Rattle.proof_choice.specs.proof_following.Ended.{GaveUp, GoneSo, rest_of}
-use Rattle.proof_choice.specs.proof_following.Quiet.{NoneGone, ended_silently}
+use Rattle.proof_hearing.proofs.Ending.{gives_late}
+use Rattle.proof_hearing.proofs.Ticking.{up_to_node}
+use Rattle.proof_hearing.specs.proof_choice.proof_following.Ended.{GaveUp, GoneSo, rest_of}
+use Rattle.proof_hearing.specs.proof_choice.proof_following.Quiet.{NoneGone, ended_silently}
 use Rattle.proof_hearing.specs.Books.{BooksSo}
 use Rattle.proof_hearing.specs.Hearing.{choosing}
 use Rattle.proof_hearing.specs.proof_queue.proof_attempts.Carried.{CarriesWell}
@@ -34,7 +34,7 @@ use Rattle.proof_noting.proofs.Quietly.{in_order_nodes}
 use Rattle.proof_noting.proofs.TickChosen.{InTick, first_noted, more_noted, ticking}
 use Rattle.proof_noting.proofs.TickEnds.{notes_joined}
 use Rattle.proof_noting.specs.Following.{CourseOf, Follows, IsQuiet, Lags, Level, Outset, timed}
-use Rattle.proof_choice.specs.proof_following.proof_ends.Ascending.{Ascends}
+use Rattle.proof_hearing.specs.proof_choice.proof_ends.Ascending.{Ascends}
 use Rattle.proof_noting.specs.Ticking.{IsIdleAt, NoneNoted, OverSo, SomeNoted}
 use Rattle.proof_noting.proofs.Choosing.{split_on}
 use Rattle.std.proofs.Common.{Bool, List, None, Option, Some, [], ap, append-nil, append_assoc, arith, false, inl, inr, refl, subst, sym, true, ℕ, ◌++◌, ◌<◌, ◌∙◌, ◌∷◌, ◌≡◌, ◌≤◌, ◌⊎◌}
@@ -119,10 +119,6 @@ module _ (key : List ℕ) (taken : List Entry → Carried → List Told) (from :
       by (inr same) = same
 
   -- those up to the node have passed then
-  below_it : (n : ℕ) (front : List ℕ) → AllByRecursion (λ k. k < n) front → AllByRecursion (λ k. k ≤ n) front
-  below_it n [] all = tt
-  below_it n (k ∷ front) all = (let less = all.0 in omega (arith, less), below_it n front all.1)
-
   passed_on : (last n : ℕ) (first front : List ℕ) → last < n → AllByRecursion (λ k. k ≤ last) first → AllByRecursion (λ k. k < n) front → AllByRecursion (λ k. k ≤ n) (first ++ (front ++ n ∷ []))
   passed_on last n [] [] less all below = (omega arith, tt)
   passed_on last n [] (k ∷ front) less all below = (let under = below.0 in omega (arith, under), passed_on last n [] front less tt below.1)

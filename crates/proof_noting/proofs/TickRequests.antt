@@ -26,13 +26,13 @@ use Rattle.law_time.specs.Moments.{KeepsAfter, clock}
 use Rattle.law_time.specs.Requests.{asked}
 use Rattle.law_transcript.specs.Lists.{EachAfter}
 use Rattle.law_transcript.specs.Units.{Carried}
-use Rattle.proof_choice.proofs.HostEnds.{ending_of}
-use Rattle.proof_choice.proofs.LateEnds.{any_by, silent_ungiven}
-use Rattle.proof_choice.proofs.Ticking.{given_ticks, silent_ticks}
-use Rattle.proof_choice.specs.proof_following.Ended.{EndingOf, IsLate}
-use Rattle.proof_choice.proofs.Doings.{Doing, did, does_at, end_does, node_after, purpose_does}
-use Rattle.proof_choice.proofs.Requesting.{requests_are}
-use Rattle.proof_choice.specs.proof_giving.Walking.{gives_up_well, request_clock}
+use Rattle.proof_hearing.proofs.HostEnds.{ending_of}
+use Rattle.proof_hearing.proofs.LateEnds.{any_by, silent_ungiven}
+use Rattle.proof_hearing.proofs.Ticking.{given_ticks, silent_ticks}
+use Rattle.proof_hearing.specs.proof_choice.proof_following.Ended.{EndingOf, IsLate}
+use Rattle.proof_hearing.proofs.Doings.{Doing, did, does_at, end_does, node_after, purpose_does}
+use Rattle.proof_hearing.proofs.Requesting.{requests_are}
+use Rattle.proof_hearing.specs.proof_choice.proof_giving.Walking.{gives_up_well, request_clock}
 use Rattle.proof_hearing.specs.Books.{BooksSo}
 use Rattle.proof_hearing.specs.Hearing.{choosing}
 use Rattle.proof_hearing.specs.proof_queue.proof_attempts.Asleep.{KnowsSleep}
@@ -58,7 +58,7 @@ use Rattle.proof_noting.proofs.TickEnded.{EndedSo, LateBy, LateEnd, bad_part, en
 use Rattle.proof_noting.proofs.TickGround.{TickGround, tick_facts, tick_nodes, tick_numbered, tick_time}
 use Rattle.proof_noting.proofs.TickNoted.{ends_quietly, first_some, nothing_told}
 use Rattle.proof_noting.specs.Following.{IsQuiet, Lags, Level, Outset, timed}
-use Rattle.proof_choice.specs.proof_following.proof_ends.Ascending.{Ascends}
+use Rattle.proof_hearing.specs.proof_choice.proof_ends.Ascending.{Ascends}
 use Rattle.proof_noting.specs.Ticking.{IsIdleAt, NoneNoted, TickSo}
 use Rattle.proof_noting.specs.Ticking.TickSo.{Nothing, Something}
 use Rattle.serial_link.specs.State.{Side}

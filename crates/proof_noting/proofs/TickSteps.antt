@@ -24,19 +24,19 @@ use Rattle.law_time.specs.Requests.{Failing, are_none, asked, is_new}
 use Rattle.law_time.specs.Unanswered.{to_give_up}
 use Rattle.law_transcript.specs.Lists.{Has}
 use Rattle.law_transcript.specs.Units.{Carried}
-use Rattle.proof_choice.proofs.EndsTold.{given_up_at, silent_at}
-use Rattle.proof_choice.proofs.ReadyTie.{asked_of, ground_of}
-use Rattle.proof_choice.proofs.Ticking.{nodes_rest, none_gone}
-use Rattle.proof_choice.proofs.proof_ends_Walking.{carries_by, ticks_ascend}
-use Rattle.proof_choice.specs.proof_following.Ended.{IsLate, rest_of}
-use Rattle.proof_choice.specs.proof_following.Quiet.{NoneGone}
-use Rattle.proof_choice.proofs.Line.{failing_few, few_is}
-use Rattle.proof_choice.proofs.Requesting.{requests_are}
-use Rattle.proof_choice.proofs.Stepping.{first_same, left_same}
-use Rattle.proof_choice.proofs.Ticked.{unended}
-use Rattle.proof_choice.proofs.Wrote.{paused_old}
-use Rattle.proof_choice.proofs.proof_attempts_Walking.{IsWritten, copy_line, line_outs}
-use Rattle.proof_choice.proofs.proof_requests_EndsHere.{cannot_end}
+use Rattle.proof_hearing.proofs.EndsTold.{given_up_at, silent_at}
+use Rattle.proof_hearing.proofs.ReadyTie.{asked_of, ground_of}
+use Rattle.proof_hearing.proofs.Ticking.{nodes_rest, none_gone}
+use Rattle.proof_hearing.proofs.proof_ends_Walking.{carries_by, ticks_ascend}
+use Rattle.proof_hearing.specs.proof_choice.proof_following.Ended.{IsLate, rest_of}
+use Rattle.proof_hearing.specs.proof_choice.proof_following.Quiet.{NoneGone}
+use Rattle.proof_hearing.proofs.Line.{failing_few, few_is}
+use Rattle.proof_hearing.proofs.Requesting.{requests_are}
+use Rattle.proof_hearing.proofs.proof_queue_Stepping.{first_same, left_same}
+use Rattle.proof_hearing.proofs.Ticked.{unended}
+use Rattle.proof_hearing.proofs.Wrote.{paused_old}
+use Rattle.proof_hearing.proofs.proof_attempts_Walking.{IsWritten, copy_line, line_outs}
+use Rattle.proof_hearing.proofs.proof_requests_EndsHere.{cannot_end}
 use Rattle.proof_hearing.proofs.Beginning.{uses_nonces}
 use Rattle.proof_hearing.proofs.KeptAwake.{noted_told}
 use Rattle.proof_hearing.specs.Hearing.{choosing}
@@ -66,7 +66,7 @@ use Rattle.proof_noting.specs.Behind.{AtOpen}
 use Rattle.proof_noting.specs.Ground.{NotingGround}
 use Rattle.proof_noting.specs.Noting.{KnowsCourse}
 use Rattle.proof_noting.specs.Steps.{Fitting, StepFollows, TurnFollows, first_of}
-use Rattle.proof_choice.specs.proof_following.proof_ends.Ascending.{Ascends}
+use Rattle.proof_hearing.specs.proof_choice.proof_ends.Ascending.{Ascends}
 use Rattle.proof_noting.specs.Ticking.{IsIdleAt, NoneNoted, SomeNoted, TickSo}
 use Rattle.proof_noting.specs.Ticking.TickSo.{Nothing, Something}
 use Rattle.serial_frame.specs.Frame.{FrameParts}

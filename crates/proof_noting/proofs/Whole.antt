@@ -17,7 +17,7 @@ use Rattle.host_heard.specs.declared.told.Told.{Told}
 use Rattle.law_transcript.specs.Units.{Carried}
 use Rattle.host_model.specs.Events.{HostEvent}
 use Rattle.host_model.proofs.Submitted.{SleepersAre, SubmittedAre, next_is, no_more_is}
-use Rattle.proof_choice.specs.proof_giving.Tie.{IsRequest}
+use Rattle.proof_hearing.specs.proof_choice.proof_giving.Tie.{IsRequest}
 use Rattle.proof_hearing.specs.proof_queue.Heeding.{AllSteps, HeedsAs, HeedsSo}
 use Rattle.proof_hearing.specs.proof_queue.proof_attempts.proof_requests.law_host.Heard.{heeds_alone}
 use Rattle.proof_hearing.specs.proof_queue.proof_attempts.proof_requests.proof_alone.Careful.{Careful}

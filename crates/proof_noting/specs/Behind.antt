@@ -11,7 +11,7 @@ use Rattle.host_model.specs.Events.{HostEvent}
 use Rattle.host_model.specs.Outs.{noted, outs}
 use Rattle.host_model.specs.State.{HostState}
 use Rattle.host_model.specs.Taking.{PayloadEvents}
-use Rattle.proof_choice.specs.proof_giving.Told.{attempts_so_far}
+use Rattle.proof_hearing.specs.proof_choice.proof_giving.Told.{attempts_so_far}
 use Rattle.proof_hearing.specs.Hearing.{Remaining, RemainsSo, Whole, HearsSo, choosing, else_of, finishes, hearing_at, heeded_rest}
 use Rattle.proof_hearing.specs.proof_queue.proof_attempts.proof_requests.law_host.Course.{Course, with_heeded}
 use Rattle.proof_hearing.specs.proof_queue.proof_attempts.proof_requests.law_host.Following.{is_note}
@@ -20,7 +20,7 @@ use Rattle.proof_hearing.specs.proof_queue.proof_attempts.proof_requests.law_hos
 use Rattle.proof_hearing.specs.proof_queue.proof_attempts.proof_requests.proof_alone.State.{HostMachine, done}
 use Rattle.proof_hearing.specs.proof_queue.proof_attempts.proof_requests.proof_alone.Steps.{AreFrames, IsOfUnit}
 use Rattle.proof_hearing.specs.proof_queue.proof_attempts.proof_requests.proof_alone.Phases.{Behind}
-use Rattle.proof_choice.specs.proof_following.Quiet.{acknowledges}
+use Rattle.proof_hearing.specs.proof_choice.proof_following.Quiet.{acknowledges}
 use Rattle.proof_noting.specs.Following.{CourseOf, Follows, Goes, Outset, course_since}
 use Rattle.proof_noting.specs.Sure.{SureRun}
 use Rattle.proof_noting.specs.Ticking.{OverSo}

@@ -24,9 +24,9 @@ use Rattle.proof_hearing.specs.proof_queue.proof_attempts.proof_requests.law_hos
 use Rattle.proof_hearing.specs.proof_queue.proof_attempts.proof_requests.law_host.Notes.{Start}
 use Rattle.proof_hearing.specs.proof_queue.proof_attempts.proof_requests.law_host.Ticks.{is_denied}
 use Rattle.proof_hearing.specs.proof_queue.proof_attempts.proof_requests.proof_alone.State.{HostMachine}
-use Rattle.proof_choice.specs.proof_following.Ended.{sleep_entries}
-use Rattle.proof_choice.specs.proof_following.Quiet.{ended_silently}
-use Rattle.proof_choice.specs.proof_following.proof_ends.Ends.{errands_of, seconds_of}
+use Rattle.proof_hearing.specs.proof_choice.proof_following.Ended.{sleep_entries}
+use Rattle.proof_hearing.specs.proof_choice.proof_following.Quiet.{ended_silently}
+use Rattle.proof_hearing.specs.proof_choice.proof_ends.Ends.{errands_of, seconds_of}
 
 -- ---- where it begins
 

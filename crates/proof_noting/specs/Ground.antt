@@ -7,14 +7,14 @@ use Rattle.host_heard.specs.declared.told.Told.{Told}
 use Rattle.law_transcript.specs.Units.{Carried}
 use Rattle.law_time.specs.Errands.{errand}
 use Rattle.law_time.specs.Unanswered.{to_give_up}
-use Rattle.proof_choice.specs.Turning.{KnowsAll}
-use Rattle.proof_choice.specs.Waits.{AskingGround}
-use Rattle.proof_choice.specs.proof_giving.Walking.{Grounds, KnowsAttempts}
+use Rattle.proof_hearing.specs.proof_choice.Turning.{KnowsAll}
+use Rattle.proof_hearing.specs.proof_choice.Waits.{AskingGround}
+use Rattle.proof_hearing.specs.proof_choice.proof_giving.Walking.{Grounds, KnowsAttempts}
 use Rattle.proof_hearing.specs.proof_queue.proof_attempts.proof_requests.law_host.Heard.{heeds_alone, listing_heard}
 use Rattle.proof_hearing.specs.proof_queue.proof_attempts.proof_requests.proof_alone.State.{HostMachine, first_alone}
 use Rattle.proof_hearing.specs.proof_queue.proof_attempts.proof_requests.proof_alone.Phases.{Phase}
 use Rattle.proof_hearing.specs.proof_queue.proof_attempts.proof_requests.proof_alone.Runs.{Told as ToldAlone}
-use Rattle.proof_choice.specs.proof_following.proof_ends.Ends.{nodes_asked}
+use Rattle.proof_hearing.specs.proof_choice.proof_ends.Ends.{nodes_asked}
 use Rattle.proof_noting.specs.Sure.{SureRun}
 
 -- `grounds` has what is known of its sleep, its requests and its ends (KnowsSleep), and how sessions are shown.

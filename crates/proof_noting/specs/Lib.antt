@@ -7,6 +7,5 @@ pub mod Ground
 pub mod Steps
 pub mod Parts
 pub mod Starts
-pub use Rattle.proof_choice.specs as proof_choice
+pub use Rattle.proof_hearing.specs.proof_choice as proof_choice
 pub use Rattle.proof_hearing.specs as proof_hearing
-pub use Rattle.proof_choice.specs.proof_following as proof_following

@@ -9,7 +9,7 @@ use Rattle.host_heard.specs.declared.told.Told.{Told}
 use Rattle.law_transcript.specs.Units.{Carried}
 use Rattle.host_model.specs.Events.{HostEvent}
 use Rattle.host_model.specs.State.{HostState}
-use Rattle.proof_choice.specs.proof_giving.Tie.{IsRequest}
+use Rattle.proof_hearing.specs.proof_choice.proof_giving.Tie.{IsRequest}
 use Rattle.proof_hearing.specs.proof_queue.proof_attempts.proof_requests.proof_alone.State.{HostMachine, done}
 use Rattle.proof_hearing.specs.proof_queue.proof_attempts.proof_requests.proof_alone.Steps.{Step, Restarts, Judges, Does}
 use Rattle.proof_hearing.specs.proof_queue.proof_attempts.proof_requests.proof_alone.Phases.{Phase, Resting, Asked, Risen, Ticking, Open, Behind, Sleeping, Submitting, May}

@@ -28,7 +28,7 @@ pub use beside::notes_go_beside;
 pub use items::notes_go_with_items;
 pub use noting::{hosts_note_from_starts, hosts_note_what_happens};
 pub use payloads::notes_go_with_payloads;
-pub use proof_choice::{
+pub use proof_hearing::{
     hosts_are_prompt, hosts_count_nonces, hosts_fall_asleep_as_told, hosts_go_by_messages,
     hosts_hold_as_asked, hosts_note_ends, hosts_note_in_full, hosts_say_what_is_not_kept,
     hosts_seal_once, lines_count_nonces, lines_fall_asleep_as_told, lines_hold_as_asked,

@@ -24,7 +24,7 @@ use crate::payloads::notes_go_with_payloads;
 use crate::requests::notes_go_with_requests;
 use crate::ticks::notes_go_with_ticks;
 use host_keep::texts_give_one_thing;
-use proof_choice::{hosts_count_attempts, hosts_count_nonces, hosts_know_what_they_choose};
+use proof_hearing::{hosts_count_attempts, hosts_count_nonces, hosts_know_what_they_choose};
 
 /// Of a host alone the course of its notes goes on with each kind of step, and where a part is over, from whatever start.
 fn notes_go_on()

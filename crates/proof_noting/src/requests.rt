@@ -6,7 +6,7 @@ ghost use Rattle.host_heard.specs.declared.told.Told.{Told};
 ghost use Rattle.host_model.specs.Events.{HostEvent};
 ghost use Rattle.host_model.specs.State.{HostState};
 ghost use Rattle.law_transcript.specs.Units.{Carried};
-ghost use Rattle.proof_choice.specs.proof_giving.Tie.{IsRequest};
+ghost use Rattle.proof_hearing.specs.proof_choice.proof_giving.Tie.{IsRequest};
 ghost use Rattle.proof_hearing.specs.proof_queue.proof_attempts.proof_requests.proof_alone.Phases.{Asked, Phase, Submitting};
 ghost use Rattle.proof_hearing.specs.proof_queue.proof_attempts.proof_requests.proof_alone.State.{HostMachine};
 ghost use Rattle.proof_hearing.specs.proof_queue.proof_attempts.proof_requests.proof_alone.Steps.{Does, Restarts};

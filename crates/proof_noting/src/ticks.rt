@@ -12,10 +12,9 @@ ghost use Rattle.proof_noting.specs.Following.{Outset};
 ghost use Rattle.proof_noting.specs.Ground.{GroundAlong};
 ghost use Rattle.proof_noting.specs.Steps.{CourseFits, StepFollows, TurnFollows, first_of};
 
-use proof_choice::hosts_give_up_as_told;
 use proof_hearing::{
-    hosts_ask_as_told, hosts_know_their_work, hosts_know_what_was_told, hosts_seal_once,
-    hosts_show_open_sessions,
+    hosts_ask_as_told, hosts_give_up_as_told, hosts_know_their_work, hosts_know_what_was_told,
+    hosts_seal_once, hosts_show_open_sessions,
 };
 
 /// Along such runs the course goes on with each part of the host's own tick: its line, the request under way, and each node.

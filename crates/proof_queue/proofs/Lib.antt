@@ -70,12 +70,15 @@ pub use Rattle.proof_attempts.proofs.OnLine
 pub use Rattle.proof_attempts.proofs.Running
 pub use Rattle.proof_attempts.proofs.proof_waking_Followed
 pub use Rattle.proof_known.proofs.Bodies
+pub use Rattle.proof_known.proofs.Keeping
 pub use Rattle.proof_attempts.proofs.Holding
 pub use Rattle.proof_attempts.proofs.Queueing
-pub use Rattle.proof_attempts.proofs.HostNotes
 pub use Rattle.proof_attempts.proofs.InOrder
 pub use Rattle.proof_sending.proofs.Grounds as proof_sending_Grounds
 pub use Rattle.proof_attempts.proofs.proof_waking_Parts
 pub use Rattle.proof_attempts.proofs.UnderWay
 pub use Rattle.proof_known.proofs.Saying as proof_known_Saying
 pub use Rattle.proof_known.proofs.Ordered
+pub use Rattle.proof_known.proofs.Noting
+pub use Rattle.proof_attempts.proofs.Slept
+pub use Rattle.proof_known.proofs.AnswerFacts

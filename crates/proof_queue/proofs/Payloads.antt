@@ -52,9 +52,6 @@ module _ (past : List Entry) (h : HostState) (n : ℕ) (is_node : IsNode n) (sho
   one_none : (event : HostEvent) (events : List HostEvent) → events ≡ event ∷ [] → AreStill h (event ∷ []) → Puts n [] h events
   one_none event events are still = subst (Puts n [] h) (sym are) (none_put n h (event ∷ []) still)
 
-  quiet_one : (event : HostEvent) → AreStill h (event ∷ []) → (events : List HostEvent) → events ≡ event ∷ [] → Puts n [] h events
-  quiet_one event still events are = one_none event events are still
-
   opened_puts : (nonce payload : List ℕ) (events : List HostEvent) → (is : IsOpened h n nonce payload events) → Puts n (Wants past n (heeded_opened h n nonce payload events is)) h events
   opened_puts nonce payload events (inl is) = one_none (Is_unkept n) events is (all_still n h (Is_unkept n ∷ []) (tt, tt))
   opened_puts nonce payload events (inr (inl vain)) = one_none (Spends_unread n payload) events vain.1 (all_still n h (Spends_unread n payload ∷ []) (tt, tt))

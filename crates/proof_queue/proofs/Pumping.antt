@@ -65,11 +65,6 @@ use Rattle.proof_queue.proofs.Sleeps.{Stands, drops_of, none_wants, same_would, 
 use Rattle.proof_queue.proofs.Stills.{empty_left, first_waits, front_left, front_no_abort, left_by}
 use Rattle.proof_queue.proofs.Ties.{Raw, Stand, Upto, allowed, before_seen, one_more, raw, same_drops, seen}
 
-submission_no_pump : (event : HostEvent) → IsSubmission event → IsNoPump event
-submission_no_pump (Queues_no_more n) sub = absurd sub
-submission_no_pump (Drops_no_more n) sub = absurd sub
-submission_no_pump event sub = tt
-
 module _ (taken : List Entry → Carried → List Told) where
   -- ---- where a pump begins
 

@@ -6,5 +6,3 @@ pub use Rattle.proof_attempts.specs as proof_attempts
 pub use Rattle.proof_sending.specs as proof_sending
 pub use Rattle.proof_sending.specs.proof_world as proof_world
 pub use Rattle.proof_known.specs as proof_known
-pub use Rattle.proof_attempts.specs.proof_requests as proof_requests
-pub use Rattle.proof_known.specs.proof_transcript as proof_transcript

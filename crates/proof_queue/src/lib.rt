@@ -25,9 +25,7 @@ mod sleeping;
 pub use fits::{hosts_fit_their_queue, hosts_go_by_messages};
 pub use going::{rejected_going, worked_going};
 pub use proof_attempts::{hosts_ask_as_told, hosts_show_open_sessions, hosts_tell_of_sleep};
-pub use proof_known::{
-    hosts_keep_what_is_said, hosts_know_what_nodes_list, hosts_know_what_was_told,
-};
+pub use proof_known::{hosts_keep_what_is_said, hosts_know_what_nodes_list};
 pub use proof_sending::orders_are_carried_as_said;
 pub use queued::hosts_queue_as_told;
 pub use sleeping::hosts_let_sleep_as_told;

@@ -1,55 +1,43 @@
--- A node whose first device listens, and a host that knows of it that it lists neither Transport Service nor Security 0.
-use Rattle.std.proofs.Common.{◌≡◌, ℕ, suc, ◌==◌, ◌||◌, Bool, true, false, if◌then◌else◌, List, [], ◌∷◌, refl, sym, ap, subst, ◌∙◌, arith}
-use Rattle.std.proofs.lemmas.Bool.{false≢true}
-use Rattle.std.specs.Prelude.{Option, Some, None, option_map}
-use Rattle.std.specs.List.{list_any}
+-- A node whose first device listens, and a host that knows of it that it lists neither Transport Service nor Security 0; so it is plain by its kind.
+use Rattle.std.proofs.Common.{◌≡◌, ◌<◌, ℕ, ◌==◌, ◌||◌, Bool, true, false, List, [], ◌∷◌, refl, sym, ap, subst, ◌∙◌, arith}
+use Rattle.std.proofs.lemmas.Bool.{false≢true, or_parts}
+use Rattle.std.specs.Prelude.{Option, Some, None}
+use Rattle.std.specs.List.{AllByRecursion, list_any}
+use Rattle.zw_base.proofs.Each.{all-get, all-weaker}
 use Rattle.std.proofs.lemmas.Slice.Eq.{bytes_eq-Decides}
-use Rattle.device_kinds.specs.Kind.{listens as kind_listens}
+use Rattle.device_kinds.specs.Kind.{classes_of, lists as kind_lists, listens as kind_listens}
+use Rattle.device_kinds.specs.declared.kind.Kind.{Kind}
 use Rattle.host_orders.specs.Classes.{lists}
 use Rattle.host_node.specs.declared.series.Series.TheVariants.{Idle}
-use Rattle.mesh_sim.specs.Fates.{place_of}
 use Rattle.zw_text.specs.declared.entry.Entry.{Entry}
-use Rattle.law_wire.specs.law_transcript.Nodes.{always, device_of, known_classes, listing_of}
+use Rattle.law_wire.specs.law_transcript.Headline.{IsAsMade}
+use Rattle.law_wire.specs.law_transcript.Nodes.{always, device_of, known_classes, listed_by, listing_of}
 use Rattle.law_time.specs.Interviews.{listens}
 use Rattle.law_time.specs.Questions.{same_bool}
 use Rattle.law_time.specs.Stretches.{are_listed, knows_device}
-use Rattle.proof_at_ease.specs.proof_alone.device_sim.State.{State}
-use Rattle.proof_at_ease.specs.proof_alone.host_model.State.{node_of}
-use Rattle.proof_at_ease.specs.proof_alone.world_model.State.{Machine}
-use Rattle.proof_at_ease.specs.proof_answered.Listening.{HasListener}
-use Rattle.proof_at_ease.specs.proof_answered.proof_calm.proof_work.proof_walk.Phases.{Between}
-use Rattle.proof_in_time.specs.Coming.{WaitsFor, is_layered}
-use Rattle.proof_ready.specs.Ready.{AreUp, IsKnown}
+use Rattle.proof_rests.specs.proof_attempts.proof_host.device_sim.State.{State, fresh}
+use Rattle.proof_rests.specs.proof_requests.host_model.State.{node_of}
+use Rattle.proof_rests.specs.proof_attempts.world_model.State.{Machine}
+use Rattle.proof_in_time.specs.proof_answered.Listening.{HasListener, IsUp}
+use Rattle.proof_chip.specs.proof_line.proof_traffic.OutsideTraffic.{AreNodes}
+use Rattle.proof_in_time.specs.proof_answered.proof_calm.proof_waking.proof_walk.Phases.{Between}
+use Rattle.proof_in_time.specs.Coming.{ListOpenly, WaitsFor, is_layered}
+use Rattle.proof_in_time.specs.InStep.{IsPlainByKind}
+use Rattle.proof_in_time.proofs.PlainKinds.{stands_at}
+use Rattle.proof_ready.specs.Ready.{AreKnown, AreUp, IsKnown}
 
 -- ---- its device
 
-some_is : (one device : State) → Some one ≡ Some device → one ≡ device
-some_is one device is = cc
-
 pub listener_at : (n : ℕ) (devices : List State) → AreUp devices → (device : State) → device_of n devices ≡ Some device → kind_listens device.kind ≡ true → HasListener n devices
-listener_at n [] up device is is_listening = absurd cc
-listener_at n (one ∷ more) up device is is_listening = by (one.node == n) refl (λ later. listener_at n more up.1 device later is_listening)
-  where
-    by : (b : Bool) → (one.node == n) ≡ b → (device_of n more ≡ Some device → HasListener n more) → HasListener n (one ∷ more)
-    by true same rest =
-        let here : one ≡ device = some_is one device (sym (ap (λ (b : Bool). if b then Some one else device_of n more) same) ∙ is) in
-        let so : kind_listens one.kind ≡ true = ap (λ (d : State). kind_listens d.kind) here ∙ is_listening in
-        record {
-          place = 0;
-          device = one;
-          first = ap (λ (b : Bool). if b then Some 0 else option_map suc (place_of n more)) same;
-          stands = refl;
-          is_up = record { is_listening = so; awake = up.0 so };
-        }
-    by false other rest =
-        let later = rest (sym (ap (λ (b : Bool). if b then Some one else device_of n more) other) ∙ is) in
-        record {
-          place = suc later.place;
-          device = later.device;
-          first = ap (λ (b : Bool). if b then Some 0 else option_map suc (place_of n more)) other ∙ ap (λ (o : Option ℕ). option_map suc o) later.first;
-          stands = later.stands;
-          is_up = later.is_up;
-        }
+listener_at n devices up device is is_listening =
+    let at = stands_at n devices device is in
+    record {
+      place = at.place;
+      device = device;
+      first = at.first;
+      stands = at.stands;
+      is_up = record { is_listening = is_listening; awake = all-get (λ (one : State). kind_listens one.kind ≡ true → one.awake ≡ true) devices at.place device up at.stands is_listening };
+    }
 
 -- the device is there that is known, and listens where the host takes it to
 pub device_known : (devices : List State) (past : List Entry) (n : ℕ) → listens n past ≡ true → knows_device devices n past (device_of n devices) ≡ true
@@ -63,7 +51,7 @@ device_known devices past n is_listening known = by (device_of n devices) refl
 
 -- ---- its classes
 
-not_layered : (classes : List ℕ) → list_any (λ class. (class == 0x55) || (class == 0x98)) classes ≡ false → lists classes 0x98 || lists classes 0x55 ≡ false
+pub not_layered : (classes : List ℕ) → list_any (λ class. (class == 0x55) || (class == 0x98)) classes ≡ false → lists classes 0x98 || lists classes 0x55 ≡ false
 unfolding lists
 not_layered [] none = refl
 not_layered (class ∷ classes) none =
@@ -82,9 +70,52 @@ open_known devices n (Some classes) listed plain =
     subst (λ (l : List ℕ). is_layered (Some l) ≡ false) (sym ((bytes_eq-Decides classes (listing_of devices n)).0 listed)) (not_layered (listing_of devices n) plain)
 
 pub waits_for : (devices : List State) (past : List Entry) (m : Machine) (n : ℕ) → IsKnown devices past n → (node_of m.host.state n).classes ≡ known_classes (always (listing_of devices)) past n
-    → (node_of m.host.state n).series ≡ Idle → WaitsFor n 2 Between m
+    → (node_of m.host.state n).series ≡ Idle → WaitsFor n 6 Between m
 waits_for devices past m n known classes idle = record {
   openly = ap (λ (o : Option (List ℕ)). is_layered o) classes ∙ open_known devices n (known_classes (always (listing_of devices)) past n) known.classes known.plain;
   once = omega arith;
   bounded = λ runs. absurd (let bad = sym idle ∙ runs in cc);
 }
+
+-- what the host knows is what the device lists
+pub known_list : (devices : List State) (past : List Entry) (n : ℕ) → IsKnown devices past n → known_classes (always (listing_of devices)) past n ≡ Some (listing_of devices n)
+known_list devices past n known = by (known_classes (always (listing_of devices)) past n) known.classes
+  where
+    by : (o : Option (List ℕ)) → are_listed devices n o ≡ true → o ≡ Some (listing_of devices n)
+    by None listed = absurd (false≢true listed)
+    by (Some classes) listed = ap (λ (l : List ℕ). Some l) ((bytes_eq-Decides classes (listing_of devices n)).0 listed)
+
+-- ---- its kind
+
+same_lists : (kind : Kind) (class : ℕ) → kind_lists kind class ≡ lists (classes_of kind) class
+unfolding lists
+same_lists kind class = refl
+
+-- it takes commands in sessions, not sealed, whole
+pub plain_by_kind : (devices : List State) (past : List Entry) (n : ℕ) → IsKnown devices past n → listens n past ≡ true → lists (listing_of devices n) 0x6C ≡ true
+    → IsPlainByKind devices n
+plain_by_kind devices past n known is_listening supervised =
+    let has = device_known devices past n is_listening known.device in
+    let kind : Kind = has.0.kind in
+    let listing : listing_of devices n ≡ classes_of kind = ap (λ (o : Option State). listed_by o) has.1.0 in
+    let none = or_parts (lists (listing_of devices n) 0x98) (lists (listing_of devices n) 0x55) (not_layered (listing_of devices n) known.plain) in
+    record {
+      device = has.0;
+      first = has.1.0;
+      supervised = same_lists kind 0x6C ∙ (ap (λ (l : List ℕ). lists l 0x6C) (sym listing) ∙ supervised);
+      unsealed = same_lists kind 0x98 ∙ (ap (λ (l : List ℕ). lists l 0x98) (sym listing) ∙ none.0);
+      whole = same_lists kind 0x55 ∙ (ap (λ (l : List ℕ). lists l 0x55) (sym listing) ∙ none.1);
+    }
+
+pub lists_openly : (these : List Bool) (devices : List State) (past : List Entry) → AreKnown these devices past → ListOpenly these devices
+lists_openly these devices past known n marked = not_layered (listing_of devices n) (known n marked).plain
+
+-- ---- as their makers left them
+
+pub made_up : ((node : ℕ) (kind : Kind) (key : List ℕ) → kind_listens kind ≡ true → IsUp (fresh node kind key)) → (key : List ℕ) (devices : List State) → AllByRecursion (IsAsMade key) devices → AreUp devices
+made_up up key devices made =
+    all-weaker (IsAsMade key) (λ (device : State). kind_listens device.kind ≡ true → device.awake ≡ true)
+    (λ one is is_listening. subst (λ (s : State). s.awake ≡ true) (sym is.made) (up one.node one.kind key is_listening).awake) devices made
+
+pub made_nodes : (key : List ℕ) (devices : List State) → AllByRecursion (IsAsMade key) devices → AreNodes devices
+made_nodes key devices made = all-weaker (IsAsMade key) (λ (device : State). device.node < 233) (λ one is. let most = is.to_max in omega (arith, most)) devices made

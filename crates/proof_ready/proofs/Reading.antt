@@ -7,7 +7,8 @@ use Rattle.chip_sim.specs.Nodes.{is_marked}
 use Rattle.device_kinds.specs.Kind.{classes_of, listens as kind_listens}
 use Rattle.zw_text.specs.declared.entry.Entry.{Entry}
 use Rattle.zw_text.specs.Transcript.{joined, lines_run, shown}
-use Rattle.law_wire.specs.law_transcript.Commands.{waiting}
+use Rattle.law_wire.specs.law_transcript.Commands.{classes_for, waiting}
+use Rattle.law_wire.specs.law_transcript.Lists.{Has}
 use Rattle.law_wire.specs.law_transcript.Nodes.{always, controller, device_of, first_node, is_interviewed, is_joined, known_at_first, known_classes, listed_by, listing_of}
 use Rattle.law_wire.specs.Networks.{air_links, air_network, chip_links, chip_network, is_listener, listens_at, network_of, repeaters}
 use Rattle.law_wire.specs.Reach.{CanBeReached}
@@ -19,11 +20,11 @@ use Rattle.law_time.specs.Interviews.{listens}
 use Rattle.law_time.specs.Judged.{acknowledged, frames_come}
 use Rattle.law_time.specs.Questions.{same_bool}
 use Rattle.law_time.specs.Requests.{are_none}
-use Rattle.law_time.specs.Stretches.{accepted_for, are_listed, are_plain_listeners, commands_in, has_key, is_plain_listener, is_quiet, is_quiet_line, is_woken_so, knows_classes, knows_device, knows_node, woken_by, workers}
-use Rattle.proof_at_ease.specs.proof_alone.device_sim.State.{State}
-use Rattle.proof_at_ease.specs.proof_alone.proof_device.GoingOn.{AreSame, IsSame}
-use Rattle.proof_at_ease.specs.proof_answered.Workers.{IsAway}
-use Rattle.proof_at_ease.specs.Ease.{clock_of}
+use Rattle.law_time.specs.Stretches.{accepted_for, are_listed, are_plain_listeners, commands_in, has_key, is_plain_listener, is_quiet, is_quiet_line, is_woken_so, knows_classes, knows_device, knows_node, open_commands, woken_by, workers}
+use Rattle.proof_rests.specs.proof_attempts.proof_host.device_sim.State.{State}
+use Rattle.proof_rests.specs.proof_attempts.proof_walk.proof_device.GoingOn.{AreSame, IsSame}
+use Rattle.proof_in_time.specs.proof_answered.Workers.{IsAway}
+use Rattle.proof_ready.specs.Ease.{clock_of}
 use Rattle.proof_ready.specs.Ready.{AreKnown, AreWorkers, HostIsStill, marks_of}
 use Rattle.proof_ready.proofs.Marks.{marked_is, unmarked_beyond}
 
@@ -39,7 +40,7 @@ of_one so (one ∷ more) n all has = by (one == n) refl has (of_one so more n (a
     by false other has later = later has
 
 -- those of a list of which something is so
-in_filter : (so : ℕ → Bool) (l : List ℕ) (n : ℕ) → list_any (λ one. one == n) (filter so l) ≡ true → (list_any (λ one. one == n) l ≡ true) × (so n ≡ true)
+pub in_filter : (so : ℕ → Bool) (l : List ℕ) (n : ℕ) → list_any (λ one. one == n) (filter so l) ≡ true → (list_any (λ one. one == n) l ≡ true) × (so n ≡ true)
 in_filter so [] n has = absurd (false≢true has)
 in_filter so (one ∷ more) n has = pick (so one) (one == n) refl refl has (in_filter so more n)
   where
@@ -52,7 +53,7 @@ in_filter so (one ∷ more) n has = pick (so one) (one == n) refl refl has (in_f
     pick false true is same has rest = (ap (λ (b : Bool). b || list_any (λ k. k == n) more) same, (rest has).1)
     pick false false is other has rest = let later = rest has in (ap (λ (b : Bool). b || list_any (λ k. k == n) more) other ∙ later.0, later.1)
 
-out_filter : (so : ℕ → Bool) (l : List ℕ) (n : ℕ) → list_any (λ one. one == n) (filter so l) ≡ false → list_any (λ one. one == n) l ≡ true → so n ≡ false
+pub out_filter : (so : ℕ → Bool) (l : List ℕ) (n : ℕ) → list_any (λ one. one == n) (filter so l) ≡ false → list_any (λ one. one == n) l ≡ true → so n ≡ false
 out_filter so [] n none has = absurd (false≢true has)
 out_filter so (one ∷ more) n none has = pick (so one) (one == n) refl refl none has (out_filter so more n)
   where
@@ -63,6 +64,10 @@ out_filter so (one ∷ more) n none has = pick (so one) (one == n) refl refl non
         rest (sym (ap (λ (b : Bool). b || list_any (λ k. k == n) (filter so more)) other) ∙ none) (sym (ap (λ (b : Bool). b || list_any (λ k. k == n) more) other) ∙ has)
     pick false true is same none has rest = subst (λ (k : ℕ). so k ≡ false) (eqb-true one n same) is
     pick false false is other none has rest = rest none (sym (ap (λ (b : Bool). b || list_any (λ k. k == n) more) other) ∙ has)
+
+pub some_of : (l : List ℕ) → not (are_none l) ≡ true → (command : ℕ) × Has l command
+some_of [] some = absurd (false≢true some)
+some_of (command ∷ more) some = (command, inl refl)
 
 none_before : (waits more : List ℕ) → not (are_none (waits ++ more)) ≡ false → waits ≡ []
 none_before [] more none = refl
@@ -80,7 +85,11 @@ fourth_of true true false d all = absurd (let bad : false ≡ true = all in cc)
 fourth_of true false c d all = absurd (let bad : false ≡ true = all in cc)
 fourth_of false b c d all = absurd (let bad : false ≡ true = all in cc)
 
-not_so : (b : Bool) → not b ≡ true → b ≡ false
+first_of : (a b c d : Bool) → a && b && c && d ≡ true → a ≡ true
+first_of true b c d all = refl
+first_of false b c d all = absurd (let bad : false ≡ true = all in cc)
+
+pub not_so : (b : Bool) → not b ≡ true → b ≡ false
 not_so true none = absurd (false≢true none)
 not_so false none = refl
 
@@ -125,7 +134,7 @@ same_device of kind n (old ∷ olds) (new ∷ news) same =
     by true rest = kind old new same.0
     by false rest = rest
 
-same_listing : (n : ℕ) (olds news : List State) → AreSame olds news → listing_of news n ≡ listing_of olds n
+pub same_listing : (n : ℕ) (olds news : List State) → AreSame olds news → listing_of news n ≡ listing_of olds n
 same_listing n olds news same = same_device listed_by (λ old new is. ap classes_of is.kind) n olds news same
 
 listed_so : (past : List Entry) (n : ℕ) (olds news : List State) → listing_of news n ≡ listing_of olds n
@@ -191,12 +200,22 @@ module _ (key : List ℕ) (devices : List State) (past stretch : List Entry) (qu
   abbrev these : List Bool
   these = marks_of (workers past stretch)
 
-  at_work : (n : ℕ) → is_marked these n ≡ true → list_any (λ one. one == n) (workers past stretch) ≡ true
+  pub at_work : (n : ℕ) → is_marked these n ≡ true → list_any (λ one. one == n) (workers past stretch) ≡ true
   at_work n marked = by (cases_lt n 233)
     where
       by : (n < 233) ⊎ (233 ≤ n) → list_any (λ one. one == n) (workers past stretch) ≡ true
       by (inl near) = sym (marked_is (workers past stretch) n (omega (arith, near))) ∙ marked
       by (inr far) = absurd (false≢true (sym (unmarked_beyond (workers past stretch) n far) ∙ marked))
+
+  pub quiet_so : list_all is_quiet_line (lines_run stretch) ≡ true
+  quiet_so =
+      first_of (list_all is_quiet_line (lines_run stretch)) (nat_le (length (workers past stretch)) 16) (list_all (λ node. knows_node key devices past node) (workers past stretch))
+      (list_all (is_woken_so past stretch) (joined past ++ flat_map woken_by (lines_run stretch))) quiet
+
+  pub woken_so : list_all (is_woken_so past stretch) (joined past ++ flat_map woken_by (lines_run stretch)) ≡ true
+  woken_so =
+      fourth_of (list_all is_quiet_line (lines_run stretch)) (nat_le (length (workers past stretch)) 16) (list_all (λ node. knows_node key devices past node) (workers past stretch))
+      (list_all (is_woken_so past stretch) (joined past ++ flat_map woken_by (lines_run stretch))) quiet
 
   knows : (n : ℕ) → is_marked these n ≡ true → knows_node key devices past n ≡ true
   knows n marked =
@@ -221,15 +240,27 @@ module _ (key : List ℕ) (devices : List State) (past stretch : List Entry) (qu
         (out_filter (λ node. not (are_none (commands_in past stretch node))) (joined past) n (sym (marked_is (workers past stretch) n (within n is)) ∙ apart) is);
   }
 
+  lists_known : (n : ℕ) → is_marked these n ≡ true
+      → (are_listed devices n (known_classes (always (listing_of devices)) past n) ≡ true)
+      × (list_all (λ number. are_listed devices n (Some (classes_for (always (listing_of devices)) past n number))) (open_commands n past) ≡ true)
+  lists_known n marked =
+      and_parts (are_listed devices n (known_classes (always (listing_of devices)) past n)) _
+      (fourth_of (is_joined past n) (has_key key (device_of n devices)) (knows_device devices n past (device_of n devices)) (knows_classes devices past n) (knows n marked))
+
+  pub opened_are : (n : ℕ) → is_marked these n ≡ true → list_all (λ number. are_listed devices n (Some (classes_for (always (listing_of devices)) past n number))) (open_commands n past) ≡ true
+  opened_are n marked = (lists_known n marked).1
+
   pub known_are : AreKnown these devices past
   known_are n marked =
-      let known = knows n marked in
       record {
-        device = third_of (is_joined past n) (has_key key (device_of n devices)) (knows_device devices n past (device_of n devices)) (knows_classes devices past n) known;
-        classes = (and_parts (are_listed devices n (known_classes (always (listing_of devices)) past n)) _
-            (fourth_of (is_joined past n) (has_key key (device_of n devices)) (knows_device devices n past (device_of n devices)) (knows_classes devices past n) known)).0;
+        device = third_of (is_joined past n) (has_key key (device_of n devices)) (knows_device devices n past (device_of n devices)) (knows_classes devices past n) (knows n marked);
+        classes = (lists_known n marked).0;
         plain = not_so _ (plain n marked).1;
       }
 
   pub reached_are : AllByRecursion (CanBeReached devices past) (workers past stretch) → (n : ℕ) → is_marked these n ≡ true → CanBeReached devices past n
   reached_are all n marked = all_of_one (CanBeReached devices past) (workers past stretch) n all (at_work n marked)
+
+  -- one has a command that waits or is accepted
+  pub command_of : (n : ℕ) → is_marked these n ≡ true → (command : ℕ) × Has (commands_in past stretch n) command
+  command_of n marked = some_of (commands_in past stretch n) (in_filter (λ node. not (are_none (commands_in past stretch node))) (joined past) n (at_work n marked)).1

@@ -10,24 +10,24 @@ use Rattle.law_time.specs.Calm.{is_asleep_if_known}
 use Rattle.law_time.specs.Interviews.{listens}
 use Rattle.law_time.specs.Waking.{counts_awake}
 use Rattle.host_keep.specs.Kept.{Interview, Session, classes_said}
-use Rattle.proof_at_ease.specs.proof_line.host_model.Holding.{commands_of}
-use Rattle.proof_at_ease.specs.proof_rests.proof_nonces.proof_known.proof_transcript.proof_spoken.Restarts.{AreHeld, IsHeld}
+use Rattle.proof_chip.specs.proof_world.host_model.Holding.{commands_of}
+use Rattle.proof_rests.specs.proof_nonces.proof_known.proof_transcript.proof_spoken.Restarts.{AreHeld, IsHeld}
 use Rattle.host_node.specs.Facts.{SeriesFacts}
 use Rattle.host_node.specs.State.{NodeState, is_false}
 use Rattle.host_node.specs.declared.series.Series.{Series}
 use Rattle.host_node.specs.declared.series.Series.TheVariants.{Idle, Due, Running}
-use Rattle.proof_at_ease.specs.proof_alone.host_model.State.{HostState, node_of}
-use Rattle.proof_at_ease.specs.proof_alone.Phases.{Resting}
-use Rattle.proof_at_ease.specs.proof_alone.State.{HostMachine}
-use Rattle.proof_at_ease.specs.proof_alone.Tables.{TieTables}
-use Rattle.proof_at_ease.specs.proof_rests.proof_nonces.proof_known.Known.{KnowsWhole}
-use Rattle.proof_at_ease.specs.proof_rests.proof_nonces.proof_known.proof_transcript.law_host.Heard.{listing_heard}
-use Rattle.proof_at_ease.specs.proof_rests.proof_nonces.proof_known.proof_transcript.proof_once.ByTable.{IsTable}
-use Rattle.proof_at_ease.specs.proof_rests.proof_nonces.proof_known.proof_transcript.proof_host.Facts.{Facts}
-use Rattle.proof_at_ease.specs.proof_rests.proof_nonces.proof_known.proof_transcript.proof_host.Laws.{numbers_for}
-use Rattle.proof_at_ease.specs.proof_answered.Workers.{IsStill}
-use Rattle.proof_at_ease.specs.proof_answered.proof_calm.Known.{IsBlank}
-use Rattle.proof_at_ease.specs.Ease.{NodeIsAsTold}
+use Rattle.proof_rests.specs.proof_requests.host_model.State.{HostState, node_of}
+use Rattle.proof_rests.specs.proof_requests.proof_alone.Phases.{Resting}
+use Rattle.proof_rests.specs.proof_requests.proof_alone.State.{HostMachine}
+use Rattle.proof_rests.specs.proof_requests.proof_alone.Tables.{TieTables}
+use Rattle.proof_rests.specs.proof_nonces.proof_known.Known.{KnowsWhole}
+use Rattle.proof_rests.specs.proof_nonces.proof_known.proof_transcript.law_host.Heard.{listing_heard}
+use Rattle.proof_rests.specs.proof_nonces.proof_known.proof_transcript.proof_once.ByTable.{IsTable}
+use Rattle.proof_rests.specs.proof_nonces.proof_known.proof_transcript.proof_host.Facts.{Facts}
+use Rattle.proof_rests.specs.proof_nonces.proof_known.proof_transcript.proof_host.Laws.{numbers_for}
+use Rattle.proof_in_time.specs.proof_answered.Workers.{IsStill}
+use Rattle.proof_in_time.specs.proof_answered.proof_calm.Known.{IsBlank}
+use Rattle.proof_ready.specs.Ease.{NodeIsAsTold}
 use Rattle.proof_ready.proofs.Untold.{none_kept}
 
 -- ---- one node
@@ -106,6 +106,9 @@ module _ (past : List Entry) (h : HostMachine) (knows : KnowsWhole Resting past 
         idle = idle_closed node.series node closed (tables.facts.host.nodes.facts n).series;
         none_waits = has.waiting ∙ none.none_waits;
       }
+
+  pub unasked : (n : ℕ) → is_joined past n ≡ false → waiting n past ≡ []
+  unasked n apart = waits n ∙ (blank n apart).none_waits
 
   pub still_outside : (n : ℕ) → is_joined past n ≡ false → IsStill (node_of h.state n)
   still_outside n apart =

@@ -7,12 +7,12 @@ use Rattle.zw_text.specs.declared.entry.Entry.{Entry}
 use Rattle.law_wire.specs.law_transcript.Nodes.{is_joined}
 use Rattle.host_node.specs.State.{NodeState, unknown}
 use Rattle.host_node.specs.declared.series.Series.TheVariants.{Idle}
-use Rattle.proof_at_ease.specs.proof_alone.host_model.State.{HostState, node_of}
-use Rattle.proof_at_ease.specs.proof_answered.FirstAttempts.{IsFirst}
-use Rattle.proof_at_ease.specs.proof_answered.Workers.{IsStill, KnowsWorkers}
-use Rattle.proof_at_ease.specs.proof_answered.proof_calm.Known.{IsRequestFor, IsTaskFor}
-use Rattle.proof_at_ease.specs.Ease.{HostIsDone}
-use Rattle.proof_at_ease.specs.proof_alone.world_model.State.{Machine}
+use Rattle.proof_rests.specs.proof_requests.host_model.State.{HostState, node_of}
+use Rattle.proof_in_time.specs.proof_answered.FirstAttempts.{IsFirst}
+use Rattle.proof_in_time.specs.proof_answered.Workers.{IsStill, KnowsWorkers}
+use Rattle.proof_in_time.specs.proof_answered.proof_calm.Known.{IsRequestFor, IsTaskFor}
+use Rattle.proof_ready.specs.Ease.{HostIsDone}
+use Rattle.proof_rests.specs.proof_attempts.world_model.State.{Machine}
 use Rattle.proof_ready.specs.Ready.{AreWorkers, HostIsReady, IsThere}
 
 each_node : (So : NodeState → Type 0) (nodes : List NodeState) → ((n : ℕ) → So (slice_index_or nodes n (unknown 0))) → AllByRecursion So nodes

@@ -1,2 +1,4 @@
+pub mod Ease
 pub mod Ready
+pub mod LetIn
 pub mod Stretch

@@ -11,15 +11,15 @@ use Rattle.law_time.specs.Interviews.{listens}
 use Rattle.law_time.specs.Calm.{is_asleep_if_known, is_idle}
 use Rattle.law_time.specs.Rests.{is_rest}
 use Rattle.law_time.specs.Stretches.{are_listed, knows_device}
-use Rattle.proof_at_ease.specs.proof_alone.device_sim.State.{State}
-use Rattle.proof_at_ease.specs.proof_alone.host_model.State.{HostState, node_of}
-use Rattle.proof_at_ease.specs.proof_alone.world_model.State.{Machine}
-use Rattle.proof_at_ease.specs.proof_answered.FirstAttempts.{AllFirst}
-use Rattle.proof_at_ease.specs.proof_answered.Outward.{AllListen}
-use Rattle.proof_at_ease.specs.proof_answered.Workers.{IsAway, KnowsWorkers}
-use Rattle.proof_at_ease.specs.proof_answered.proof_calm.proof_work.proof_walk.Phases.{Between}
+use Rattle.proof_rests.specs.proof_attempts.proof_host.device_sim.State.{State}
+use Rattle.proof_rests.specs.proof_requests.host_model.State.{HostState, node_of}
+use Rattle.proof_rests.specs.proof_attempts.world_model.State.{Machine}
+use Rattle.proof_in_time.specs.proof_answered.FirstAttempts.{AllFirst}
+use Rattle.proof_in_time.specs.proof_answered.Outward.{AllListen}
+use Rattle.proof_in_time.specs.proof_answered.Workers.{IsAway, KnowsWorkers}
+use Rattle.proof_in_time.specs.proof_answered.proof_calm.proof_waking.proof_walk.Phases.{Between}
 use Rattle.proof_in_time.specs.Coming.{AllWaitFor, AreInAir}
-use Rattle.proof_at_ease.specs.Ease.{clock_of}
+use Rattle.proof_ready.specs.Ease.{clock_of}
 
 -- ---- by the transcript
 

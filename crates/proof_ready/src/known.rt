@@ -1,16 +1,20 @@
 //! What the host knows of nodes, and their devices.
 
-ghost use Rattle.std.specs.Prelude.{◌≡◌, true, Some, ℕ};
+ghost use Rattle.std.specs.Prelude.{◌≡◌, true, List, Some, ℕ};
 ghost use Rattle.device_kinds.specs.Kind.{listens};
+ghost use Rattle.zw_text.specs.declared.entry.Entry.{Entry};
 ghost use Rattle.law_wire.specs.law_transcript.Nodes.{always, device_of, known_classes, listing_of};
-ghost use Rattle.proof_at_ease.specs.proof_alone.device_sim.State.{State};
-ghost use Rattle.proof_at_ease.specs.proof_alone.host_model.State.{node_of};
-ghost use Rattle.proof_at_ease.specs.proof_answered.Listening.{HasListener};
-ghost use Rattle.proof_at_ease.specs.Ease.{AfterLines};
-ghost use Rattle.proof_ready.specs.Ready.{AreUp};
+ghost use Rattle.law_time.specs.Stretches.{are_plain_listeners, is_quiet, workers};
+ghost use Rattle.proof_rests.specs.proof_attempts.proof_host.device_sim.State.{State};
+ghost use Rattle.proof_rests.specs.proof_requests.host_model.State.{node_of};
+ghost use Rattle.proof_rests.specs.proof_attempts.proof_walk.proof_device.GoingOn.{AreSame};
+ghost use Rattle.proof_in_time.specs.proof_answered.Listening.{HasListener};
+ghost use Rattle.proof_ready.specs.Ease.{AfterLines};
+ghost use Rattle.proof_ready.specs.Ready.{AreKnown, AreUp, AreWorkers, marks_of};
 
-use proof_at_ease::listeners_hear;
-use proof_spoken::{interviews_give_what_is_known, lines_tell_what_nodes_list};
+use crate::nodes::joined_nodes_are_there;
+use proof_in_time::{devices_go_on, devices_stay_the_same, listeners_hear};
+use proof_rests::{interviews_give_what_is_known, lines_tell_what_nodes_list};
 
 /// The host knows of each node the classes that its device lists, where an interview of it has succeeded by the transcript.
 pub fn hosts_know_what_devices_list()
@@ -26,4 +30,23 @@ pub fn listeners_are_there()
         HasListener n m.outside.devices) }
 {
     listeners_hear();
+}
+
+/// The devices are of the kinds and nodes that they were of at first.
+pub fn devices_are_the_same()
+    ensures { AfterLines (λ devices past m. AreSame devices m.outside.devices) }
+{
+    devices_go_on();
+    devices_stay_the_same();
+}
+
+/// The nodes at work in a quiet stretch with plain listeners alone, with the devices as they are then, are joined and listen, and no command waits for others;
+/// and the host knows what they list, and whether they listen.
+pub fn workers_are_known()
+    ensures { AfterLines (λ devices past m. (key : List ℕ) (stretch : List Entry) → is_quiet key m.outside.devices past stretch ≡ true →
+        are_plain_listeners m.outside.devices past stretch ≡ true →
+        AreWorkers (marks_of (workers past stretch)) past × AreKnown (marks_of (workers past stretch)) devices past) }
+{
+    devices_are_the_same();
+    joined_nodes_are_there();
 }

@@ -1,34 +1,40 @@
 //! A machine in which a stretch may begin, by its transcript.
 
-ghost use Rattle.std.specs.Prelude.{◌≡◌, true, List, ℕ};
+ghost use Rattle.std.specs.Prelude.{◌≡◌, ◌++◌, true, List, ℕ};
 ghost use Rattle.s0_crypto.specs.declared.key_pair.Keys.{Keys};
 ghost use Rattle.zw_text.specs.declared.entry.Entry.{Entry};
 ghost use Rattle.law_wire.specs.law_transcript.Nodes.{always, listing_of};
 ghost use Rattle.law_time.specs.Calm.{IsStill};
 ghost use Rattle.law_time.specs.Stretches.{are_plain_listeners, is_quiet, workers};
-ghost use Rattle.proof_at_ease.specs.Ease.{
+ghost use Rattle.proof_ready.specs.Ease.{
   AfterLines,
   AreToReach,
-  ChipRests,
   clock_of,
 };
-ghost use Rattle.proof_at_ease.specs.proof_line.proof_traffic.OutsideTraffic.{AreNodes};
-ghost use Rattle.proof_in_time.specs.Coming.{GoWhole, IsReadyFor};
+ghost use Rattle.proof_chip.specs.proof_line.proof_traffic.OutsideTraffic.{AreNodes};
+ghost use Rattle.proof_in_time.specs.proof_answered.Workers.{IsWorkedFor};
+ghost use Rattle.proof_in_time.specs.Coming.{IsReadyFor};
+ghost use Rattle.proof_in_time.specs.InStep.{ArePlainOver};
 ghost use Rattle.proof_in_time.specs.Plainly.{SpeakPlainly};
-ghost use Rattle.proof_at_ease.specs.proof_alone.device_sim.State.{State};
-ghost use Rattle.proof_at_ease.specs.proof_alone.world_lines.Spoken.{Spoken};
+ghost use Rattle.proof_rests.specs.proof_attempts.proof_host.device_sim.State.{State};
+ghost use Rattle.proof_rests.specs.world_lines.Spoken.{Spoken};
+ghost use Rattle.proof_rests.specs.world_lines.Done.{events_of};
 ghost use Rattle.proof_in_time.specs.Stretch.{IsStretchFor};
-ghost use Rattle.proof_ready.specs.Stretch.{IsLeftToShow, IsStretchByText, at_work, moment};
+ghost use Rattle.proof_ready.specs.Stretch.{IsStretchByText, at_work, told_in};
 ghost use Rattle.proof_ready.specs.Ready.{AreKnown, AreUp, AreWorkers, MachineIsReady, marks_of};
 
-use crate::known::{hosts_know_what_devices_list, listeners_are_there};
-use crate::nodes::{hosts_know_their_members, joined_nodes_are_there};
-use crate::ready::hosts_are_ready;
-use proof_at_ease::{
-    calm_air_is_empty, calm_hosts_are_done, calm_hosts_have_heard_all,
-    calm_machines_have_few_frames, calm_requests_are_tied, lines_join_the_same_nodes,
+use crate::accepting::orders_are_let_in;
+use crate::air::{calm_air_is_empty, calm_machines_have_few_frames};
+use crate::chip::calm_chips_rest;
+use crate::host::calm_hosts_are_done;
+use crate::known::{
+    devices_are_the_same, hosts_know_what_devices_list, listeners_are_there, workers_are_known,
 };
-use proof_spoken::{devices_go_on, devices_stay_the_same};
+use crate::nodes::{hosts_know_their_members, joined_nodes_are_there, nodes_are_still};
+use crate::pipes::calm_hosts_have_heard_all;
+use crate::ready::hosts_are_ready;
+use crate::tied::calm_requests_are_tied;
+use proof_in_time::{listeners_hear, nodes_are_plain_by_kind, orders_go_whole};
 
 /// Where all is still by the transcript, these are the nodes for which a command waits, and each of these is known, listens and is plain, the machine is ready
 /// for these.
@@ -51,39 +57,63 @@ pub fn still_machines_are_ready()
         are_plain_listeners m.outside.devices past stretch ≡ true → MachineIsReady (marks_of (workers past stretch)) m) }
 {
     machines_are_ready();
-    joined_nodes_are_there();
-    devices_go_on();
-    devices_stay_the_same();
+    workers_are_known();
 }
 
-/// So a stretch may begin there for these nodes, where they can be reached by the transcript: if the chip rests, and each command that the host ever accepted
-/// for these goes whole. Neither of these two is shown of the transcript here.
+/// So a stretch may begin there for these nodes, where they can be reached by the transcript.
 pub fn stretches_may_begin()
     ensures { AfterLines (λ devices past m. AreNodes devices → AreUp devices →
         IsStill (always (listing_of m.outside.devices)) m.outside.devices past (clock_of past) → (key : List ℕ) (stretch : List Entry) →
         is_quiet key m.outside.devices past stretch ≡ true → are_plain_listeners m.outside.devices past stretch ≡ true →
-        AreToReach (marks_of (workers past stretch)) devices past → ChipRests m.outside.outer →
-        GoWhole (marks_of (workers past stretch)) m.host.state.commands →
+        AreToReach (marks_of (workers past stretch)) devices past →
         IsReadyFor (marks_of (workers past stretch)) m × SpeakPlainly (marks_of (workers past stretch)) m) }
 {
     still_machines_are_ready();
+    workers_are_known();
     hosts_know_their_members();
     calm_air_is_empty();
+    calm_chips_rest();
     calm_hosts_have_heard_all();
     calm_machines_have_few_frames();
     calm_requests_are_tied();
+    orders_go_whole();
 }
 
-/// So such lines are a stretch for the nodes at work in them (`IsStretchFor`), as that is assumed where each command has its outcome in time: but for what is
-/// left to be shown of the machine as it begins.
+/// The lines of such a stretch are for the nodes at work in it: no line wakes a node, and each order that is accepted is for one of these.
+pub fn stretches_are_for_their_workers()
+    ensures { (key : List ℕ) (keys : Keys) (devices : List State) (before lines : List Spoken) → IsStretchByText key keys devices before lines →
+        IsWorkedFor (at_work keys devices before lines) (told_in keys devices before lines) }
+{
+    joined_nodes_are_there();
+    nodes_are_still();
+    orders_are_let_in();
+    workers_are_known();
+}
+
+/// And their devices take commands in sessions, not sealed, whole, and at once, as they were at first; and so do the orders for them go, in all these lines.
+pub fn workers_are_plain()
+    ensures { (key : List ℕ) (keys : Keys) (devices : List State) (before lines : List Spoken) → IsStretchByText key keys devices before lines →
+        ArePlainOver (at_work keys devices before lines) devices (events_of (before ++ lines)) }
+{
+    devices_are_the_same();
+    joined_nodes_are_there();
+    nodes_are_plain_by_kind();
+    orders_are_let_in();
+    workers_are_known();
+}
+
+/// So such lines are a stretch for the nodes at work in them (`IsStretchFor`), as that is assumed where each command has its outcome in time.
 pub fn still_stretches_begin()
     ensures { (key : List ℕ) (keys : Keys) (devices : List State) (before lines : List Spoken) → IsStretchByText key keys devices before lines →
-        IsLeftToShow (at_work keys devices before lines) (moment keys devices before) →
         IsStretchFor (at_work keys devices before lines) keys devices before lines }
 {
-    still_machines_are_ready();
-    stretches_may_begin();
+    devices_are_the_same();
     joined_nodes_are_there();
-    devices_go_on();
-    devices_stay_the_same();
+    listeners_hear();
+    nodes_are_plain_by_kind();
+    still_machines_are_ready();
+    stretches_are_for_their_workers();
+    stretches_may_begin();
+    workers_are_known();
+    workers_are_plain();
 }

@@ -2,7 +2,6 @@ pub mod Heard
 pub mod Linked
 pub mod Laws
 pub mod HostSteps
-pub use Rattle.proof_asking.specs.proof_requests as proof_requests
 pub use Rattle.proof_asking.specs.proof_sending as proof_sending
 pub use Rattle.proof_noting.specs.proof_choice.proof_ends.proof_notes.Full as proof_notes_Full
 pub use Rattle.proof_noting.specs.proof_choice.proof_ends.proof_notes.Unkept as proof_notes_Unkept

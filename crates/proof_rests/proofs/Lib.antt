@@ -31,3 +31,11 @@ pub use Rattle.proof_nonces.proofs.proof_waking_Parts
 pub use Rattle.proof_nonces.proofs.proof_device_HostOuts
 pub use Rattle.proof_nonces.proofs.Times
 pub use Rattle.proof_nonces.proofs.HostNotes
+pub use Rattle.proof_nonces.proofs.ByMessage
+pub use Rattle.proof_nonces.proofs.Accounts
+pub use Rattle.proof_nonces.proofs.Payloads
+pub use Rattle.proof_nonces.proofs.Walking as proof_nonces_Walking
+pub use Rattle.proof_nonces.proofs.proof_notes_Along
+pub use Rattle.proof_nonces.proofs.proof_notes_Walking
+pub use Rattle.proof_nonces.proofs.Running
+pub use Rattle.proof_nonces.proofs.proof_transcript_Answering

@@ -49,7 +49,7 @@ Keeps old new = SameClasses old.nodes new.nodes
 module _ (law : LeavesRecords) where
   keeping : Keeping Keeps
   keeping = record {
-    still = λ old new nodes commands store keys m. ap (λ (l : List NodeState). classes_of l m) nodes;
+    still = λ old new nodes commands store keys served m. ap (λ (l : List NodeState). classes_of l m) nodes;
     both = λ a b c first later m. later m ∙ first m;
     node = λ h n event of. part_set (λ (s : NodeState). s.classes) h.nodes n (after_node (node_of h.nodes n) event) (node_same law (node_of h.nodes n) event of).classes;
     outcome = λ h command how m. refl;
@@ -62,4 +62,4 @@ module _ (law : LeavesRecords) where
       keeping.both h put (accepting h order carriage) (keeping.node h order.node (node_puts (length h.commands + 1)) tt) (keeping.node put order.node node_accepts tt)
   event_kept h (Joins n) none = part_set (λ (s : NodeState). s.classes) h.nodes n (after_node (node_of h.nodes n) node_joins) refl
   event_kept h (Hears_value n setting) none = λ m. refl
-  event_kept h event none = each_kept Keeps keeping (λ h n settings m. refl) h event tt
+  event_kept h event none = each_kept Keeps keeping (λ h n m. refl) (λ h n settings m. refl) h event tt

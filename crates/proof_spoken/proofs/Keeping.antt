@@ -1,5 +1,5 @@
 -- What a change of one node and of the outcome of a command keeps, that each event of a host keeps, unless it accepts an order, joins a node, interviews one, hears a
--- value or ends a command; and one that ends a command, where confirmed values keep it too.
+-- value, gives a part of an attempt or ends a command: of the last two, where it is kept of the node served last and of confirmed values.
 use Rattle.std.proofs.Common.{◌≡◌, ℕ, ◌<◌, Bool, true, false, if◌then◌else◌, List, length, Option, Some, None, inl, inr, refl, sym, ap, ◌∙◌}
 use Rattle.std.proofs.lemmas.Bool.{cases_eq, cases_lt}
 use Rattle.std.proofs.lemmas.List.{get_or-set_same, get_or-set_other, set_past}
@@ -109,10 +109,14 @@ module _ (law : LeavesRecords) where
 
 -- what stays so where nothing of it changes, from one change to the next, and at each of the two
 pub record Keeping (Keeps : HostState → HostState → Type 0) : Type 0 where
-  pub still : (old new : HostState) → new.nodes ≡ old.nodes → new.commands ≡ old.commands → new.store ≡ old.store → new.keys ≡ old.keys → Keeps old new
+  pub still : (old new : HostState) → new.nodes ≡ old.nodes → new.commands ≡ old.commands → new.store ≡ old.store → new.keys ≡ old.keys → new.served ≡ old.served → Keeps old new
   pub both : (a b c : HostState) → Keeps a b → Keeps b c → Keeps a c
   pub node : (h : HostState) (n : ℕ) (event : NodeEvent) → IsOfNode event → Keeps h (node_does h n event)
   pub outcome : (h : HostState) (command : ℕ) (how : Outcome) → Keeps h (record h { commands = with_outcome h.commands command how })
+
+-- and where another node is served last
+abbrev pub Serves : (HostState → HostState → Type 0) → Type 0
+Serves Keeps = (h : HostState) (n : ℕ) → Keeps h (record h { served = n })
 
 -- and where values are confirmed
 abbrev pub Confirms : (HostState → HostState → Type 0) → Type 0
@@ -131,14 +135,22 @@ abbrev pub IsStill : HostEvent → Type 0
 IsStill (Finishes n session id command status wake_request) = ⊥
 IsStill event = IsCommon event
 
+-- nor is a part of an attempt given
+abbrev pub IsPlain : HostEvent → Type 0
+IsPlain (Starts n plan more payload) = ⊥
+IsPlain (Gives_text n payload) = ⊥
+IsPlain (Gives_segment n more payload) = ⊥
+IsPlain event = IsStill event
+
 module _ (Keeps : HostState → HostState → Type 0) (rules : Keeping Keeps) where
   same : (h : HostState) → Keeps h h
-  same h = rules.still h h refl refl refl refl
+  same h = rules.still h h refl refl refl refl refl
 
   -- something happens to a node, and to what is kept nothing else
-  does : (h new : HostState) (n : ℕ) (event : NodeEvent) → IsOfNode event → new.nodes ≡ (node_does h n event).nodes → new.commands ≡ h.commands → new.store ≡ h.store → new.keys ≡ h.keys → Keeps h new
-  does h new n event of nodes commands store keys =
-      rules.both h (node_does h n event) new (rules.node h n event of) (rules.still (node_does h n event) new nodes commands store keys)
+  does : (h new : HostState) (n : ℕ) (event : NodeEvent) → IsOfNode event → new.nodes ≡ (node_does h n event).nodes → new.commands ≡ h.commands → new.store ≡ h.store → new.keys ≡ h.keys
+      → new.served ≡ h.served → Keeps h new
+  does h new n event of nodes commands store keys served =
+      rules.both h (node_does h n event) new (rules.node h n event of) (rules.still (node_does h n event) new nodes commands store keys served)
 
   attempt_kept : (h : HostState) (end : AttemptEnd) (command : Option ℕ) → Keeps h (attempt_ended h end command)
   attempt_kept h NoneRan command = same h
@@ -168,7 +180,7 @@ module _ (Keeps : HostState → HostState → Type 0) (rules : Keeping Keeps) wh
 
   request_kept : (h : HostState) (event : RequestsEvent) (moment : Moment) → Keeps h (after_end_if (requests_do h event) (end_at h.requests event) moment)
   request_kept h event moment =
-      rules.both h (requests_do h event) (after_end_if (requests_do h event) (end_at h.requests event) moment) (rules.still h (requests_do h event) refl refl refl refl)
+      rules.both h (requests_do h event) (after_end_if (requests_do h event) (end_at h.requests event) moment) (rules.still h (requests_do h event) refl refl refl refl refl)
       (end_if_kept (requests_do h event) (end_at h.requests event) moment)
 
   failing_kept : (gives : Bool) (h : HostState) → Keeps h (failing_if gives h)
@@ -180,7 +192,7 @@ module _ (Keeps : HostState → HostState → Type 0) (rules : Keeping Keeps) wh
     where
       by : (full : Bool) → Keeps h (if full then h else requests_do h (request_pushes task))
       by true = same h
-      by false = rules.still h (requests_do h (request_pushes task)) refl refl refl refl
+      by false = rules.still h (requests_do h (request_pushes task)) refl refl refl refl refl
 
   offering_kept : (h : HostState) (n : ℕ) (live : Option (List ℕ)) → Keeps h (offering h n live)
   offering_kept h n None = same h
@@ -190,39 +202,52 @@ module _ (Keeps : HostState → HostState → Type 0) (rules : Keeping Keeps) wh
   holding_kept h n true = rules.node h n node_holds tt
   holding_kept h n false = same h
 
-  pub each_still : (h : HostState) (event : HostEvent) → IsStill event → Keeps h (after h event)
-  each_still h (Accepts order carriage) still = absurd still
-  each_still h (Joins n) still = absurd still
-  each_still h (Interviews n listens classes update) still = absurd still
-  each_still h (Hears_value n setting) still = absurd still
-  each_still h (Cancels command) still =
+  pub each_plain : (h : HostState) (event : HostEvent) → IsPlain event → Keeps h (after h event)
+  each_plain h (Accepts order carriage) plain = absurd plain
+  each_plain h (Joins n) plain = absurd plain
+  each_plain h (Interviews n listens classes update) plain = absurd plain
+  each_plain h (Hears_value n setting) plain = absurd plain
+  each_plain h (Cancels command) plain =
       let n = node_for h command in
       rules.both h (node_does h n (node_cancels command)) (after h (Cancels command)) (rules.node h n (node_cancels command) tt)
       (rules.outcome (node_does h n (node_cancels command)) command Cancelled)
-  each_still h (Begins n session command) still =
+  each_plain h (Begins n session command) plain =
       rules.both h (node_does h n node_begins) (after h (Begins n session command)) (rules.node h n node_begins tt) (rules.outcome (node_does h n node_begins) command Begun)
-  each_still h (Requests_do event moment) still = request_kept h event moment
-  each_still h (Works n id) still = rules.node h n (node_reports id 1) tt
-  each_still h (Finishes n session id command status wake_request) still = absurd still
-  each_still h (Offers n) still = offering_kept h n (live_of h.nonces n)
-  each_still h (Gives n drawn) still =
+  each_plain h (Requests_do event moment) plain = request_kept h event moment
+  each_plain h (Works n id) plain = rules.node h n (node_reports id 1) tt
+  each_plain h (Finishes n session id command status wake_request) plain = absurd plain
+  each_plain h (Offers n) plain = offering_kept h n (live_of h.nonces n)
+  each_plain h (Gives n drawn) plain =
       let given = giving h n drawn in
-      rules.both h given (after h (Gives n drawn)) (rules.still h given refl refl refl refl) (offering_kept given n (live_of given.nonces n))
-  each_still h (Takes_nonce n seen text) still = rules.node h n (node_takes_nonce seen text) tt
-  each_still h (Notifies n) still = rules.node h n node_notifies tt
-  each_still h (Resends n payload) still = task_queued h (Segment n payload)
-  each_still h Line_ticks still =
-      rules.both h (line_ticked h) (after h Line_ticks) (rules.still h (line_ticked h) refl refl refl refl) (failing_kept (gives_up h.side.turn (tick_side h.side).turn) (line_ticked h))
-  each_still h (Node_ticks n) still =
+      rules.both h given (after h (Gives n drawn)) (rules.still h given refl refl refl refl refl) (offering_kept given n (live_of given.nonces n))
+  each_plain h (Takes_nonce n seen text) plain = rules.node h n (node_takes_nonce seen text) tt
+  each_plain h (Notifies n) plain = rules.node h n node_notifies tt
+  each_plain h (Resends n payload) plain = task_queued h (Segment n payload)
+  each_plain h Line_ticks plain =
+      rules.both h (line_ticked h) (after h Line_ticks) (rules.still h (line_ticked h) refl refl refl refl refl) (failing_kept (gives_up h.side.turn (tick_side h.side).turn) (line_ticked h))
+  each_plain h (Node_ticks n) plain =
       let ticked = node_does h n node_ticks in
       rules.both h ticked (after h (Node_ticks n)) (rules.node h n node_ticks tt) (attempt_kept ticked (tick_end (node_of h n)) (open_command (node_of h n)))
-  each_still h (Queues_no_more n) still = does h (after h (Queues_no_more n)) n node_queues_no_more tt refl refl refl refl
-  each_still h (Drops_no_more n) still = rules.node h n node_drops_no_more tt
-  each_still h (Starts n plan more payload) still = does h (after h (Starts n plan more payload)) n (node_starts plan) tt refl refl refl refl
-  each_still h (Gives_text n payload) still = does h (after h (Gives_text n payload)) n node_gives_text tt refl refl refl refl
-  each_still h (Gives_segment n more payload) still = does h (after h (Gives_segment n more payload)) n node_gives_segment tt refl refl refl refl
-  each_still h (Begin_unkept n) still = rules.node h n node_blocks tt
-  each_still h event still = rules.still h (after h event) refl refl refl refl
+  each_plain h (Queues_no_more n) plain = does h (after h (Queues_no_more n)) n node_queues_no_more tt refl refl refl refl refl
+  each_plain h (Drops_no_more n) plain = rules.node h n node_drops_no_more tt
+  each_plain h (Starts n plan more payload) plain = absurd plain
+  each_plain h (Gives_text n payload) plain = absurd plain
+  each_plain h (Gives_segment n more payload) plain = absurd plain
+  each_plain h (Begin_unkept n) plain = rules.node h n node_blocks tt
+  each_plain h event plain = rules.still h (after h event) refl refl refl refl refl
+
+  -- a part is given to a node, and it is served last
+  gives_kept : Serves Keeps → (h new : HostState) (n : ℕ) (event : NodeEvent) → IsOfNode event → new.nodes ≡ (node_does h n event).nodes → new.commands ≡ h.commands → new.store ≡ h.store
+      → new.keys ≡ h.keys → new.served ≡ n → Keeps h new
+  gives_kept serves h new n event of nodes commands store keys served =
+      let last : HostState = record h { served = n } in
+      rules.both h last new (serves h n) (does last new n event of nodes commands store keys served)
+
+  pub each_still : Serves Keeps → (h : HostState) (event : HostEvent) → IsStill event → Keeps h (after h event)
+  each_still serves h (Starts n plan more payload) still = gives_kept serves h (after h (Starts n plan more payload)) n (node_starts plan) tt refl refl refl refl refl
+  each_still serves h (Gives_text n payload) still = gives_kept serves h (after h (Gives_text n payload)) n node_gives_text tt refl refl refl refl refl
+  each_still serves h (Gives_segment n more payload) still = gives_kept serves h (after h (Gives_segment n more payload)) n node_gives_segment tt refl refl refl refl refl
+  each_still serves h event still = each_plain h event still
 
   finishing_kept : Confirms Keeps → (h : HostState) (n id command : ℕ) (status : FinalStatus) → Keeps h (finishing h n id command status)
   finishing_kept confirms h n id command status =
@@ -231,8 +256,43 @@ module _ (Keeps : HostState → HostState → Type 0) (rules : Keeping Keeps) wh
       rules.both h told (finishing h n id command status) (rules.node h n (node_reports id (status_byte status)) tt)
       (rules.both told ended (finishing h n id command status) (rules.outcome told command (outcome_of status)) (confirms ended n (settings_with status (command_at h.commands command))))
 
-  pub each_kept : Confirms Keeps → (h : HostState) (event : HostEvent) → IsCommon event → Keeps h (after h event)
-  each_kept confirms h (Finishes n session id command status wake_request) common =
+  pub ends_kept : Confirms Keeps → (h : HostState) (n session id command : ℕ) (status : FinalStatus) (wake_request : Bool) → Keeps h (after h (Finishes n session id command status wake_request))
+  ends_kept confirms h n session id command status wake_request =
       let done = finishing h n id command status in
       rules.both h done (after h (Finishes n session id command status wake_request)) (finishing_kept confirms h n id command status) (holding_kept done n (is_held h n wake_request))
-  each_kept confirms h event common = each_still h event common
+
+  pub each_kept : Serves Keeps → Confirms Keeps → (h : HostState) (event : HostEvent) → IsCommon event → Keeps h (after h event)
+  each_kept serves confirms h (Finishes n session id command status wake_request) common = ends_kept confirms h n session id command status wake_request
+  each_kept serves confirms h event common = each_still serves h event common
+
+-- ---- the node served last
+
+-- no part of an attempt is given
+abbrev pub GivesNoPart : HostEvent → Type 0
+GivesNoPart (Starts n plan more payload) = ⊥
+GivesNoPart (Gives_text n payload) = ⊥
+GivesNoPart (Gives_segment n more payload) = ⊥
+GivesNoPart event = Unit {0}
+
+abbrev SameServed : HostState → HostState → Type 0
+SameServed old new = new.served ≡ old.served
+
+served_keeping : Keeping SameServed
+served_keeping = record {
+  still = λ old new nodes commands store keys served. served;
+  both = λ a b c first later. later ∙ first;
+  node = λ h n event of. refl;
+  outcome = λ h command how. refl;
+}
+
+pub served_same : (h : HostState) (event : HostEvent) → GivesNoPart event → (after h event).served ≡ h.served
+served_same h (Accepts order carriage) none = refl
+served_same h (Joins n) none = refl
+served_same h (Interviews n listens classes update) none = refl
+served_same h (Hears_value n setting) none = refl
+served_same h (Finishes n session id command status wake_request) none =
+    ends_kept SameServed served_keeping (λ h n settings. refl) h n session id command status wake_request
+served_same h (Starts n plan more payload) none = absurd none
+served_same h (Gives_text n payload) none = absurd none
+served_same h (Gives_segment n more payload) none = absurd none
+served_same h event none = each_plain SameServed served_keeping h event tt

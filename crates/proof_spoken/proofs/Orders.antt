@@ -48,7 +48,7 @@ Keeps old new = SameOrders old.commands new.commands
 
 keeping : Keeping Keeps
 keeping = record {
-  still = λ old new nodes commands store keys. by_table old.commands new.commands commands;
+  still = λ old new nodes commands store keys served. by_table old.commands new.commands commands;
   both = λ a b c. then_same a.commands b.commands c.commands;
   node = λ h n event of. same_orders h.commands;
   outcome = λ h command how. outcome_same h.commands command how;
@@ -59,7 +59,7 @@ event_kept h (Accepts order carriage) none = absurd none
 event_kept h (Joins n) none = same_orders h.commands
 event_kept h (Interviews n listens classes update) none = same_orders h.commands
 event_kept h (Hears_value n setting) none = same_orders h.commands
-event_kept h event none = each_kept Keeps keeping (λ h n settings. same_orders h.commands) h event tt
+event_kept h event none = each_kept Keeps keeping (λ h n. same_orders h.commands) (λ h n settings. same_orders h.commands) h event tt
 
 -- ---- a host that starts again
 

@@ -352,9 +352,6 @@ module _ (devices : List State) where
   abbrev Stands : List Entry → Entry → Type 0
   Stands past e = IsAnswerOf devices past e
 
-  abbrev Lines_refused : List Entry → Line → List Entry
-  Lines_refused before line = refusals_to devices before line
-
   -- entries that answer nothing
   all_stand : (past told : List Entry) (m : Machine) → Answered devices past m → AreFree told → EachAfter Stands past told × Answered devices (past ++ told) m
   all_stand past [] m answered free = (tt, subst (λ (l : List Entry). Answered devices l m) (sym (append-nil past)) answered)

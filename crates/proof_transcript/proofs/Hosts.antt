@@ -53,7 +53,7 @@ Keeps old new = SameJoined old.nodes new.nodes × SameHeard old.store new.store
 module _ (law : LeavesRecords) where
   keeping : Keeping Keeps
   keeping = record {
-    still = λ old new nodes commands store keys. (λ m. ap (λ (l : List NodeState). joined_in l m) nodes, λ m p. ap (λ (v : Values). heard_in v m p) store);
+    still = λ old new nodes commands store keys served. (λ m. ap (λ (l : List NodeState). joined_in l m) nodes, λ m p. ap (λ (v : Values). heard_in v m p) store);
     both = λ a b c first later. (λ m. later.0 m ∙ first.0 m, λ m p. later.1 m p ∙ first.1 m p);
     node = λ h n event of. (
       part_set (λ (s : NodeState). s.joined) h.nodes n (after_node (node_of h.nodes n) event) (node_same law (node_of h.nodes n) event of).joined,
@@ -73,4 +73,4 @@ module _ (law : LeavesRecords) where
       (keeping.both stored put (accepting h order carriage) (keeping.node stored order.node (node_puts (length h.commands + 1)) tt) (keeping.node put order.node node_accepts tt))
   event_kept h (Interviews n listens classes update) none hears =
       (part_set (λ (s : NodeState). s.joined) h.nodes n (after_node (node_of h.nodes n) (node_interviews listens classes)) refl, λ m p. refl)
-  event_kept h event none hears = each_kept Keeps keeping (λ h n settings. (λ m. refl, heard-confirming h.store n settings)) h event tt
+  event_kept h event none hears = each_kept Keeps keeping (λ h n. (λ m. refl, λ m p. refl)) (λ h n settings. (λ m. refl, heard-confirming h.store n settings)) h event tt

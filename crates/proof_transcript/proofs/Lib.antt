@@ -70,7 +70,6 @@ pub use Rattle.proof_spoken.proofs.Orders
 pub use Rattle.proof_spoken.proofs.HeldRecords
 pub use Rattle.proof_air.proofs.Bodies
 pub use Rattle.proof_air.proofs.ByLine
-pub use Rattle.proof_air.proofs.HostNotes
 pub use Rattle.proof_spoken.proofs.CommandsOfSessions
 pub use Rattle.proof_air.proofs.Alone
 pub use Rattle.proof_air.proofs.Shown as proof_walk_Shown

@@ -183,7 +183,7 @@ SameStore old new = new.store ≡ old.store
 
 keeping : Keeping SameStore
 keeping = record {
-  still = λ old new nodes commands store keys. store;
+  still = λ old new nodes commands store keys served. store;
   both = λ a b c first later. later ∙ first;
   node = λ h n event of. refl;
   outcome = λ h command how. refl;
@@ -202,7 +202,7 @@ event_store h (Finishes n session id command status wake_request) is = absurd is
 event_store h (Hears_value n setting) is = absurd is
 event_store h (Joins n) is = refl
 event_store h (Interviews n listens classes update) is = refl
-event_store h event is = each_still SameStore keeping h event tt
+event_store h event is = each_still SameStore keeping (λ h n. refl) h event tt
 
 -- ---- any event
 

@@ -10,7 +10,6 @@ pub use Rattle.proof_spoken.specs.Spoken
 pub use Rattle.proof_spoken.specs.Devices
 pub use Rattle.proof_spoken.specs.Restarts
 pub use Rattle.law_host.specs as law_host
-pub use Rattle.proof_spoken.specs.proof_device as proof_device
 pub use Rattle.proof_air.specs.proof_host as proof_host
 pub use Rattle.proof_spoken.specs.proof_once as proof_once
 pub use Rattle.proof_spoken.specs as proof_spoken

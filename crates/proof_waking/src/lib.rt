@@ -17,7 +17,7 @@ pub use host_model::{
 pub use judged::hosts_judge_as_told;
 pub use proof_alone::{
     frames_fly_in_order, hosts_answer_what_is_asked, hosts_keep_their_tables, hosts_obey_the_line,
-    hosts_tell_time, lines_are_a_hosts, lines_make_requests, outsides_make_requests,
-    what_is_heard_is_a_hosts,
+    hosts_tell_time, lines_are_a_hosts, lines_make_requests, machines_are_read_as_hosts,
+    outsides_make_requests, what_is_heard_is_a_hosts,
 };
 pub use waking::{hosts_wake_as_told, lines_wake_as_told};

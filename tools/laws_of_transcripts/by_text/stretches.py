@@ -88,11 +88,11 @@ def broken_stretch(names, stretch, key):
     """Whether the stretch has had its time, and whether a command of it then has another outcome."""
     code = lambda name: names.get(STRETCHES + name).code  # noqa: E731
     before, entries = stretch.before, stretch.entries
-    if not code("is_time")(before, entries) or not tuple_of(code("workers")(before, entries)):
+    if not code("is_long_enough")(entries) or not tuple_of(code("workers")(before, entries)):
         return False, False
     if not code("IsStretch")(tuple(key), stretch.devices, before, entries):
         return False, False
-    if not code("is_alone")(before, entries) and not code("are_plain_listeners")(stretch.devices, before, entries):
+    if not code("are_plain_listeners")(stretch.devices, before, entries) and not (code("is_alone")(before, entries) and code("is_time")(before, entries)):
         return False, False
     STOOD.clear()
     STOOD.update({node: devices.Device(node, key) for node in range(2, 233)})

@@ -89,3 +89,7 @@ returns-clause-information c = λ calm. not_true calm.still.called
 pub returns-clause-unsettled : goal.returns-clause-unsettled
 unfolding computing
 returns-clause-unsettled c = λ calm. not_true calm.still.settled
+
+pub returns-clause-cleared : goal.returns-clause-cleared
+unfolding computing
+returns-clause-cleared c = λ calm. not_true calm.still.chip

@@ -175,3 +175,7 @@ returns-clause-unkept c = λ stretch. not_true (sym stretch.kept)
 pub returns-clause-order_unkept : goal.returns-clause-order_unkept
 unfolding computing
 returns-clause-order_unkept c = λ stretch. not_true (sym stretch.kept)
+
+pub returns-clause-not_long_enough : goal.returns-clause-not_long_enough
+unfolding computing
+returns-clause-not_long_enough c = refl

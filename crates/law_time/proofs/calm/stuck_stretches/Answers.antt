@@ -26,3 +26,11 @@ returns-clause-in_time c = refl
 pub returns-clause-unanswered : goal.returns-clause-unanswered
 unfolding computing
 returns-clause-unanswered c = refl
+
+pub returns-clause-still_after : goal.returns-clause-still_after
+unfolding computing
+returns-clause-still_after c = record { marks = refl; judged = refl; host = refl; chip = refl; called = refl; settled = refl; air = refl; idle = refl; asleep = refl; working = refl }
+
+pub returns-clause-stuck_after : goal.returns-clause-stuck_after
+unfolding computing
+returns-clause-stuck_after c = refl

@@ -145,3 +145,7 @@ returns-clause-dimmed c = refl
 pub returns-clause-begun : goal.returns-clause-begun
 unfolding computing
 returns-clause-begun c = refl
+
+pub returns-clause-two_long_enough : goal.returns-clause-two_long_enough
+unfolding computing
+returns-clause-two_long_enough c = refl

@@ -57,6 +57,8 @@ returns-clause-makes c = payload_makes (record {
     no_get = c.segments_tell.ensures.no_get;
     acknowledged = c.segments_tell.ensures.acknowledged;
   };
+  opens = c.messages_open.ensures.opened;
+  target = c.messages_open.ensures.target;
 })
 
 pub returns-clause-keeps : goal.returns-clause-keeps

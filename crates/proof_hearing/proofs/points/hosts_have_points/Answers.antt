@@ -2,15 +2,15 @@
 use Rattle.std.specs.Prelude.{List, [], ◌∷◌}
 use Rattle.s0_crypto.specs.Sealing.{keys_of}
 use Rattle.zw_text.specs.declared.entry.Entry.{Entry}
-use Rattle.proof_nonces.specs.proof_known.Known.{KnowsTold, TieTold}
-use Rattle.proof_nonces.specs.proof_known.proof_alone.Phases.{Asked, Phase}
-use Rattle.proof_nonces.specs.proof_known.proof_alone.State.{HostMachine}
-use Rattle.proof_nonces.specs.proof_known.law_host.Heard.{listing_heard}
-use Rattle.proof_nonces.proofs.AnswerFacts.{count_is}
-use Rattle.proof_nonces.proofs.Noting.{Rooms}
-use Rattle.proof_nonces.proofs.proof_notes_Along.{host_along}
-use Rattle.proof_nonces.proofs.proof_notes_Walking.{ties_so}
-use Rattle.proof_queue.proofs.proof_sending_Grounds.{carried_so}
+use Rattle.proof_choice.specs.proof_ends.proof_nonces.proof_known.Known.{KnowsTold, TieTold}
+use Rattle.proof_choice.specs.proof_ends.proof_requests.proof_alone.Phases.{Asked, Phase}
+use Rattle.proof_choice.specs.proof_ends.proof_requests.proof_alone.State.{HostMachine}
+use Rattle.proof_choice.specs.proof_ends.proof_requests.law_host.Heard.{listing_heard}
+use Rattle.proof_choice.proofs.AnswerFacts.{count_is}
+use Rattle.proof_choice.proofs.Noting.{Rooms}
+use Rattle.proof_choice.proofs.proof_notes_Along.{host_along}
+use Rattle.proof_choice.proofs.proof_notes_Walking.{ties_so}
+use Rattle.proof_choice.proofs.proof_sending_Grounds.{carried_so}
 use Rattle.proof_hearing.specs.Hearing.{NotAsked}
 use Rattle.proof_hearing.proofs.points.hosts_have_points.Goals as goal
 

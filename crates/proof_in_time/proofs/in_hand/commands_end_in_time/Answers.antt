@@ -28,7 +28,7 @@ use Rattle.proof_answered.proofs.Walking.{begins_known}
 use Rattle.proof_answered.proofs.Outwards.{marked_within}
 use Rattle.proof_answered.specs.proof_calm.proof_work.proof_walk.Phases.{Between}
 use Rattle.proof_in_time.specs.Coming.{IsKeptFor, IsReadyFor, KnowPlainly}
-use Rattle.proof_in_time.specs.InHand.{HasEnded, IsInHand, RestsBefore, ticks_begun, ticks_of_all}
+use Rattle.proof_in_time.specs.InHand.{HasEnded, IsInHand, RestsBefore, ticks_begun, ticks_blocked, ticks_of_all}
 use Rattle.proof_answered.specs.Few.{AreIdle}
 use Rattle.proof_in_time.specs.InStep.{GoesInStep, IsPlainly, IsPlainOver}
 use Rattle.proof_in_time.specs.Stretch.{IsStretchFor}
@@ -106,13 +106,14 @@ module _ (airs : Airs) (devices_of : Devices) (facts_kept : (h : HostState) (eve
       subst (λ (x : Machine). HasEnded command (node_of x.host.state n).book) (sym last) (soon_past these n command later at_last)
 
   was_in_hand : (n command more : ℕ) → is_marked these n ≡ true → IsInHand command more (node_of (after_all start (before ++ first)).host.state n)
-      → ticks_begun (after_all start (before ++ first)) + ticks_of_all these (suc more) ≤ ticks_begun (after_all start (before ++ (first ++ lines))) → HasEnded command (node_of (after_all start (before ++ (first ++ lines))).host.state n).book
+      → ticks_begun (after_all start (before ++ first)) + (ticks_blocked (node_of (after_all start (before ++ first)).host.state n) + ticks_of_all these (suc more)) ≤ ticks_begun (after_all start (before ++ (first ++ lines))) → HasEnded command (node_of (after_all start (before ++ (first ++ lines))).host.state n).book
   was_in_hand n command more marked hand enough =
-      let most : ℕ = ticks_begun then_at + ticks_of_all these (suc more) in
+      let few : ℕ = ticks_blocked (node_of then_at.host.state n) + ticks_of_all these (suc more) in
+      let most : ℕ = ticks_begun then_at + few in
       let in_hand : IsInHand command more (node_of then_at.host.state n) = subst (λ (x : Machine). IsInHand command more (node_of x.host.state n)) there hand in
       ended n command most marked
-      (λ is. soon_then these n command more (most - ticks_begun then_at) (transcript_of ready_at first) then_at marked (node_within these many none n marked) known.0 in_hand (as_many (ticks_begun then_at) (ticks_of_all these (suc more))) is)
-      (subst (λ (x : Machine). ticks_begun x + ticks_of_all these (suc more) ≤ ticks_begun (after_all start (before ++ (first ++ lines)))) there enough)
+      (λ is. soon_then these n command more (most - ticks_begun then_at) (transcript_of ready_at first) then_at marked (node_within these many none n marked) known.0 in_hand (as_many (ticks_begun then_at) few) is)
+      (subst (λ (x : Machine). ticks_begun x + (ticks_blocked (node_of x.host.state n) + ticks_of_all these (suc more)) ≤ ticks_begun (after_all start (before ++ (first ++ lines)))) there enough)
 
   rested : (n command more : ℕ) → is_marked these n ≡ true → RestsBefore command more (node_of (after_all start (before ++ first)).host.state n)
       → ticks_begun (after_all start (before ++ first)) + ((node_of (after_all start (before ++ first)).host.state n).again_wait + (1 + ticks_of_all these (suc (suc more)))) ≤ ticks_begun (after_all start (before ++ (first ++ lines)))
@@ -125,17 +126,18 @@ module _ (airs : Airs) (devices_of : Devices) (facts_kept : (h : HostState) (eve
       (subst (λ (x : Machine). ticks_begun x + ((node_of x.host.state n).again_wait + (1 + ticks_of_all these (suc (suc more)))) ≤ ticks_begun (after_all start (before ++ (first ++ lines)))) there enough)
 
   was_accepted : (n command : ℕ) (found : Command) → is_marked these n ≡ true → command_at (after_all start (before ++ first)).host.state.commands command ≡ Some found → found.order.node ≡ n → length ready_at.host.state.commands + 1 ≤ command
-      → ticks_begun (after_all start (before ++ first)) + ticks_of_all these 18 ≤ ticks_begun (after_all start (before ++ (first ++ lines)))
+      → ticks_begun (after_all start (before ++ first)) + (ticks_blocked (node_of (after_all start (before ++ first)).host.state n) + ticks_of_all these 18) ≤ ticks_begun (after_all start (before ++ (first ++ lines)))
       → HasEnded command (node_of (after_all start (before ++ (first ++ lines))).host.state n).book
   was_accepted n command found marked is for_node since enough =
-      let most : ℕ = ticks_begun then_at + ticks_of_all these 18 in
+      let few : ℕ = ticks_blocked (node_of then_at.host.state n) + ticks_of_all these 18 in
+      let most : ℕ = ticks_begun then_at + few in
       let taken : taken_at then_at.host.state.commands command ≡ Some (record { order = found.order; carriage = found.carriage }) =
       ap taken_by (subst (λ (x : Machine). command_at x.host.state.commands command ≡ Some found) there is) in
       ended n command most marked
       (λ kept_first.
       soon_of these n command (most - ticks_begun then_at) (record { order = found.order; carriage = found.carriage }) (length ready_at.host.state.commands) (transcript_of ready_at first) then_at marked (node_within these many none n marked) known taken
-      for_node since (as_many (ticks_begun then_at) (ticks_of_all these 18)) kept_first)
-      (subst (λ (x : Machine). ticks_begun x + ticks_of_all these 18 ≤ ticks_begun (after_all start (before ++ (first ++ lines)))) there enough)
+      for_node since (as_many (ticks_begun then_at) few) kept_first)
+      (subst (λ (x : Machine). ticks_begun x + (ticks_blocked (node_of x.host.state n) + ticks_of_all these 18) ≤ ticks_begun (after_all start (before ++ (first ++ lines)))) there enough)
 
 -- what is proved of the machine, of devices and of hosts, for these nodes
 record Proved (these : List Bool) (keys : Keys) (devices : List State) (before lines : List Spoken) : Type 0 where
@@ -157,7 +159,7 @@ module _ (these : List Bool) (keys : Keys) (devices : List State) (before first 
   whole_then = (whole_parts (first_machine keys (Some []) devices) before (first ++ lines) is.done is.whole).2
 
   hand_then : (n command more : ℕ) → is_marked these n ≡ true → IsInHand command more (node_of (after_all (first_machine keys (Some []) devices) (before ++ first)).host.state n)
-      → ticks_begun (after_all (first_machine keys (Some []) devices) (before ++ first)) + ticks_of_all these (suc more) ≤ ticks_begun (after_all (first_machine keys (Some []) devices) (before ++ (first ++ lines)))
+      → ticks_begun (after_all (first_machine keys (Some []) devices) (before ++ first)) + (ticks_blocked (node_of (after_all (first_machine keys (Some []) devices) (before ++ first)).host.state n) + ticks_of_all these (suc more)) ≤ ticks_begun (after_all (first_machine keys (Some []) devices) (before ++ (first ++ lines)))
       → HasEnded command (node_of (after_all (first_machine keys (Some []) devices) (before ++ (first ++ lines))).host.state n).book
   hand_then n command more marked hand enough =
       was_in_hand p.airs p.devices_of p.facts_kept these is.many is.none p.workers p.same p.tells (p.plainly is.many is.none) (first_machine keys (Some []) devices) before first lines is.done whole_then steps is.kept is.ready
@@ -173,7 +175,7 @@ module _ (these : List Bool) (keys : Keys) (devices : List State) (before first 
 
   accepted_then : (n command : ℕ) (found : Command) → is_marked these n ≡ true → command_at (after_all (first_machine keys (Some []) devices) (before ++ first)).host.state.commands command ≡ Some found → found.order.node ≡ n
       → length (after_all (first_machine keys (Some []) devices) before).host.state.commands + 1 ≤ command
-      → ticks_begun (after_all (first_machine keys (Some []) devices) (before ++ first)) + ticks_of_all these 18 ≤ ticks_begun (after_all (first_machine keys (Some []) devices) (before ++ (first ++ lines)))
+      → ticks_begun (after_all (first_machine keys (Some []) devices) (before ++ first)) + (ticks_blocked (node_of (after_all (first_machine keys (Some []) devices) (before ++ first)).host.state n) + ticks_of_all these 18) ≤ ticks_begun (after_all (first_machine keys (Some []) devices) (before ++ (first ++ lines)))
       → HasEnded command (node_of (after_all (first_machine keys (Some []) devices) (before ++ (first ++ lines))).host.state n).book
   accepted_then n command found marked is_found for_node since enough =
       was_accepted p.airs p.devices_of p.facts_kept these is.many is.none p.workers p.same p.tells (p.plainly is.many is.none) (first_machine keys (Some []) devices) before first lines is.done whole_then steps is.kept is.ready
@@ -194,13 +196,13 @@ returns-clause-in_hand c = λ these n command more keys devices before first lin
     proved : (these : List Bool) (keys : Keys) (devices : List State) (before lines : List Spoken) → Proved these keys devices before lines
     proved these keys devices before lines = record {
       airs = airs;
-      devices_of = record { heard = c.messages_are_answered.ensures.heard; at_once = c.messages_are_answered.ensures.at_once };
+      devices_of = record { heard = c.messages_are_answered.ensures.heard; still = c.messages_are_answered.ensures.still; works = c.messages_are_answered.ensures.works };
       facts_kept = c.facts_are_kept.ensures.each;
       workers = c.nodes_are_served_in_turn.ensures.workers these;
       same = c.devices_stay_the_same.ensures.event;
-      tells = c.reports_tell.ensures.plainly;
+      tells = record { heard = c.reports_tell.ensures.plainly; works = c.messages_are_answered.ensures.works };
       plainly = c.waits_never_run_out.ensures.first these;
-      step = λ n within plain idle done. c.nodes_stay_in_step.ensures.along n keys devices (before ++ lines) within plain idle done;
+      step = λ n within plain idle done. c.nodes_stay_in_step.ensures.along n keys devices (before ++ lines) within plain done;
     }
 
 pub returns-clause-rests : goal.returns-clause-rests
@@ -218,13 +220,13 @@ returns-clause-rests c = λ these n command more keys devices before first lines
     proved : (these : List Bool) (keys : Keys) (devices : List State) (before lines : List Spoken) → Proved these keys devices before lines
     proved these keys devices before lines = record {
       airs = airs;
-      devices_of = record { heard = c.messages_are_answered.ensures.heard; at_once = c.messages_are_answered.ensures.at_once };
+      devices_of = record { heard = c.messages_are_answered.ensures.heard; still = c.messages_are_answered.ensures.still; works = c.messages_are_answered.ensures.works };
       facts_kept = c.facts_are_kept.ensures.each;
       workers = c.nodes_are_served_in_turn.ensures.workers these;
       same = c.devices_stay_the_same.ensures.event;
-      tells = c.reports_tell.ensures.plainly;
+      tells = record { heard = c.reports_tell.ensures.plainly; works = c.messages_are_answered.ensures.works };
       plainly = c.waits_never_run_out.ensures.first these;
-      step = λ n within plain idle done. c.nodes_stay_in_step.ensures.along n keys devices (before ++ lines) within plain idle done;
+      step = λ n within plain idle done. c.nodes_stay_in_step.ensures.along n keys devices (before ++ lines) within plain done;
     }
 
 pub returns-clause-accepted : goal.returns-clause-accepted
@@ -242,11 +244,11 @@ returns-clause-accepted c = λ these n command found keys devices before first l
     proved : (these : List Bool) (keys : Keys) (devices : List State) (before lines : List Spoken) → Proved these keys devices before lines
     proved these keys devices before lines = record {
       airs = airs;
-      devices_of = record { heard = c.messages_are_answered.ensures.heard; at_once = c.messages_are_answered.ensures.at_once };
+      devices_of = record { heard = c.messages_are_answered.ensures.heard; still = c.messages_are_answered.ensures.still; works = c.messages_are_answered.ensures.works };
       facts_kept = c.facts_are_kept.ensures.each;
       workers = c.nodes_are_served_in_turn.ensures.workers these;
       same = c.devices_stay_the_same.ensures.event;
-      tells = c.reports_tell.ensures.plainly;
+      tells = record { heard = c.reports_tell.ensures.plainly; works = c.messages_are_answered.ensures.works };
       plainly = c.waits_never_run_out.ensures.first these;
-      step = λ n within plain idle done. c.nodes_stay_in_step.ensures.along n keys devices (before ++ lines) within plain idle done;
+      step = λ n within plain idle done. c.nodes_stay_in_step.ensures.along n keys devices (before ++ lines) within plain done;
     }

@@ -38,7 +38,7 @@ returns-clause-walk c = λ these many none. waits_walk airs these many none devi
     }
 
     devices : Devices
-    devices = record { heard = c.messages_are_answered.ensures.heard; at_once = c.messages_are_answered.ensures.at_once }
+    devices = record { heard = c.messages_are_answered.ensures.heard; still = c.messages_are_answered.ensures.still; works = c.messages_are_answered.ensures.works }
 
 pub returns-clause-in_time : goal.returns-clause-in_time
 returns-clause-in_time c = in_time
@@ -56,14 +56,14 @@ returns-clause-first c = λ these many none. plainly_walk airs these many none d
     }
 
     devices : Devices
-    devices = record { heard = c.messages_are_answered.ensures.heard; at_once = c.messages_are_answered.ensures.at_once }
+    devices = record { heard = c.messages_are_answered.ensures.heard; still = c.messages_are_answered.ensures.still; works = c.messages_are_answered.ensures.works }
 
 pub returns-clause-lines : goal.returns-clause-lines
-returns-clause-lines c = λ these keys devices before lines many none idle plain are whole kept ready.
+returns-clause-lines c = λ these keys devices before lines many none plain are whole kept ready.
     let first : Machine = first_machine keys (Some []) devices in
     let m : Machine = after_all first before in
     let all : AllAlong (IsPlainly these) first (events_of (before ++ lines)) =
-    each_along these first (events_of (before ++ lines)) (λ n marked. c.nodes_stay_in_step.ensures.along n keys devices (before ++ lines) (below these many n marked) (plain n marked) idle are) in
+    each_along these first (events_of (before ++ lines)) (λ n marked. c.nodes_stay_in_step.ensures.along n keys devices (before ++ lines) (below these many n marked) (plain n marked) are) in
     let parts = along_parts (IsPlainly these) first (events_of before) (events_of lines) (subst (λ (es : List Event). AllAlong (IsPlainly these) first es) (events_both before lines) all) in
     let plainly : AllAlong (IsPlainly these) m (events_of lines) = subst (λ (x : Machine). AllAlong (IsPlainly these) x (events_of lines)) (sym (all_after first before)) parts.1 in
     let known = where_whole (IsPlainly these) AsksNothing (KnowPlainly these) (returns-clause-first c these many none) [] m lines (done_later first before lines are) whole plainly

@@ -1,5 +1,5 @@
 -- The facts of the host and its clock go with the lines: so the table says what was accepted, and the entries what has ended.
-use Rattle.std.proofs.Common.{◌≡◌, ◌≤◌, ℕ, suc, ◌+◌, List, [], ◌++◌, Some, append_assoc, append-nil, sym, subst, arith}
+use Rattle.std.proofs.Common.{◌≡◌, ◌≤◌, ℕ, suc, ◌+◌, Bool, true, false, if◌then◌else◌, List, [], ◌++◌, Some, append_assoc, append-nil, sym, subst, arith}
 use Rattle.s0_crypto.specs.declared.key_pair.Keys.{Keys}
 use Rattle.zw_text.specs.declared.entry.Entry.{Entry}
 use Rattle.zw_text.specs.Transcript.{accepted, lines_run}
@@ -7,6 +7,7 @@ use Rattle.law_transcript.specs.Commands.{numbers_of}
 use Rattle.law_transcript.specs.Nodes.{listing_of}
 use Rattle.law_transcript.specs.Restarts.{ticks_asked}
 use Rattle.device_sim.specs.State.{State}
+use Rattle.host_node.specs.State.{NodeState}
 use Rattle.host_model.specs.State.{node_of}
 use Rattle.world_model.specs.State.{Machine, first_machine}
 use Rattle.world_lines.specs.Spoken.{Spoken, after_all, transcript_of}
@@ -18,7 +19,7 @@ use Rattle.proof_walk.specs.Time.{KnowTime, MayCount}
 use Rattle.proof_walk.specs.Phases.{Between}
 use Rattle.proof_walk.specs.Walk.{Walk}
 use Rattle.proof_walk.proofs.Lines.{lines_lead}
-use Rattle.proof_in_time.specs.InHand.{IsInHand, RestsBefore, ticks_begun, ticks_of_all}
+use Rattle.proof_in_time.specs.InHand.{IsInHand, RestsBefore, ticks_begun, ticks_blocked, ticks_of_all}
 use Rattle.proof_in_time.proofs.Accepted.{all_most}
 use Rattle.proof_in_time.proofs.Endings.{ended_final, lines_keep_facts, rests_soon, table_has, waiting_soon}
 use Rattle.proof_in_time.proofs.Spoken.{told_both, whole_parts}
@@ -45,6 +46,13 @@ record Known (keys : Keys) (devices : List State) : Type 0 where
   clock : (lines : List Spoken) → AreDone (first_machine keys (Some []) devices) lines → AreWhole (first_machine keys (Some []) devices) lines
       → ticks_begun (after_all (first_machine keys (Some []) devices) lines) ≡ ticks_asked (lines_run (transcript_of (first_machine keys (Some []) devices) lines))
 
+blocked_most : (x : NodeState) → ticks_blocked x ≤ 1
+blocked_most x = by x.blocked
+  where
+    by : (b : Bool) → (if b then 1 else 0) ≤ 1
+    by true = omega arith
+    by false = omega arith
+
 pub returns-clause-accepted : goal.returns-clause-accepted
 returns-clause-accepted c = λ these n command keys devices before first lines is marked has enough.
     let start : Machine = first_machine keys (Some []) devices in
@@ -55,10 +63,11 @@ returns-clause-accepted c = λ these n command keys devices before first lines i
     (subst (λ (T : List Entry). Facts T (after_all start (before ++ first)).host.state) (told_both start before first) (k.facts (before ++ first) parts.0)) has in
     let counted = (k.facts before began.0).accepted.count in
     let above = table.0 in
+    let one = blocked_most (node_of (after_all start (before ++ first)).host.state n) in
     let then_clock = k.clock (before ++ first) parts.0 parts.1 in
     let last_clock = k.clock (before ++ (first ++ lines)) is.done is.whole in
     ended_final n command (transcript_of start (before ++ (first ++ lines))) (after_all start (before ++ (first ++ lines))).host.state (k.facts (before ++ (first ++ lines)) is.done)
-    (c.commands_end_in_time.ensures.accepted these n command table.1.found keys devices before first lines is marked table.1.is table.1.node (omega (arith, above, counted)) (omega (arith, enough, then_clock, last_clock)))
+    (c.commands_end_in_time.ensures.accepted these n command table.1.found keys devices before first lines is marked table.1.is table.1.node (omega (arith, above, counted)) (omega (arith, one, enough, then_clock, last_clock)))
   where
     known : (keys : Keys) (devices : List State) → Known keys devices
     known keys devices =
@@ -83,10 +92,12 @@ returns-clause-waiting c = λ these n command keys devices before lines is marke
     let then_clock = k.clock before began.0 began.1 in
     let last_clock = k.clock (before ++ lines) is.done is.whole in
     let same : before ≡ before ++ [] = sym (append-nil before) in
-    let in_time : ticks_begun (after_all start before) + ticks_of_all these (suc soon.more) ≤ ticks_begun (after_all start (before ++ lines)) = omega (arith, most, enough, then_clock, last_clock) in
+    let one = blocked_most (node_of (after_all start before).host.state n) in
+    let in_time : ticks_begun (after_all start before) + (ticks_blocked (node_of (after_all start before).host.state n) + ticks_of_all these (suc soon.more)) ≤ ticks_begun (after_all start (before ++ lines)) =
+    omega (arith, one, most, enough, then_clock, last_clock) in
     ended_final n command (transcript_of start (before ++ lines)) (after_all start (before ++ lines)).host.state (k.facts (before ++ lines) is.done)
     (c.commands_end_in_time.ensures.in_hand these n command soon.more keys devices before [] lines is marked (subst (λ (l : List Spoken). IsInHand command soon.more (node_of (after_all start l).host.state n)) same soon.hand)
-    (subst (λ (l : List Spoken). ticks_begun (after_all start l) + ticks_of_all these (suc soon.more) ≤ ticks_begun (after_all start (before ++ lines))) same in_time))
+    (subst (λ (l : List Spoken). ticks_begun (after_all start l) + (ticks_blocked (node_of (after_all start l).host.state n) + ticks_of_all these (suc soon.more)) ≤ ticks_begun (after_all start (before ++ lines))) same in_time))
   where
     known : (keys : Keys) (devices : List State) → Known keys devices
     known keys devices =

@@ -1,7 +1,7 @@
 -- By what a host knows of its work, its requests, what it seals and its ends.
 use Rattle.std.proofs.Common.{ℕ, List}
 use Rattle.s0_crypto.specs.Sealing.{keys_of}
-use Rattle.proof_choice.specs.proof_giving.proof_queue.proof_attempts.Since.{AlongRuns, KnowsSince}
+use Rattle.proof_hearing.specs.proof_nonces.proof_attempts.Since.{AlongRuns, KnowsSince}
 use Rattle.proof_noting.proofs.AsksSealed.{AsksAreSo, asks_along}
 use Rattle.proof_noting.proofs.ItemsFit.{event_follows, one_fits}
 use Rattle.proof_noting.proofs.ItemsGo.{item_follows}

@@ -1,6 +1,6 @@
 -- By what is known along the run where it submits, and where it starts again.
 use Rattle.s0_crypto.specs.Sealing.{keys_of}
-use Rattle.proof_choice.proofs.Queued.{PayloadsBring}
+use Rattle.proof_hearing.proofs.Queued.{PayloadsBring}
 use Rattle.proof_hearing.specs.proof_queue.proof_attempts.proof_requests.proof_alone.Phases.{Submitting}
 use Rattle.proof_noting.proofs.NewRequests.{requests_go}
 use Rattle.proof_noting.proofs.StartsAgain.{starts_again}

@@ -11,9 +11,9 @@ use Rattle.proof_hearing.specs.proof_queue.proof_attempts.Since.{AlongRuns}
 use Rattle.proof_hearing.specs.proof_queue.proof_attempts.proof_requests.proof_alone.Phases.{Phase}
 use Rattle.proof_hearing.specs.proof_queue.proof_attempts.proof_requests.proof_alone.Runs.{Run}
 use Rattle.proof_hearing.specs.proof_queue.proof_attempts.proof_requests.proof_alone.State.{HostMachine}
-use Rattle.proof_choice.proofs.Running.{run_keeps}
-use Rattle.proof_choice.proofs.Along.{every_along, law_along}
-use Rattle.proof_choice.proofs.Owners.{OwnLaw, owners_walk}
+use Rattle.proof_hearing.proofs.Running.{run_keeps}
+use Rattle.proof_hearing.proofs.Along.{every_along, law_along}
+use Rattle.proof_hearing.proofs.Owners.{OwnLaw, owners_walk}
 use Rattle.proof_noting.specs.Ground.{GroundAlong}
 use Rattle.proof_noting.specs.Steps.{first_of}
 use Rattle.proof_noting.proofs.AsksSealed.{AsksGround, asks_along}

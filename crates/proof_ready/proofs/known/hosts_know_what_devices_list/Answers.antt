@@ -1,7 +1,7 @@
 -- Each interview that ended well told what the device lists.
 use Rattle.std.specs.Prelude.{Some, []}
 use Rattle.law_wire.specs.law_transcript.Nodes.{listing_of}
-use Rattle.proof_at_ease.specs.proof_line.world_model.State.{first_machine}
+use Rattle.proof_chip.specs.proof_line.world_model.State.{first_machine}
 use Rattle.proof_ready.proofs.known.hosts_know_what_devices_list.Goals as goal
 
 pub returns : goal.returns

@@ -1,11 +1,11 @@
 -- The first device of the node is one at first, and so at every moment.
 use Rattle.std.proofs.Common.{sym, subst}
 use Rattle.std.specs.Prelude.{Some, []}
-use Rattle.proof_at_ease.specs.proof_alone.world_model.State.{Machine}
-use Rattle.proof_at_ease.specs.proof_answered.Listening.{HasListener}
-use Rattle.proof_at_ease.specs.proof_line.world_model.State.{first_machine}
-use Rattle.proof_at_ease.specs.proof_line.world_lines.Done.{events_of}
-use Rattle.proof_at_ease.proofs.SpokenLines.{all_after}
+use Rattle.proof_rests.specs.proof_attempts.world_model.State.{Machine}
+use Rattle.proof_in_time.specs.proof_answered.Listening.{HasListener}
+use Rattle.proof_chip.specs.proof_line.world_model.State.{first_machine}
+use Rattle.proof_chip.specs.proof_world.world_lines.Done.{events_of}
+use Rattle.proof_chip.proofs.SpokenLines.{all_after}
 use Rattle.proof_ready.proofs.Listening.{listener_at}
 use Rattle.proof_ready.proofs.known.listeners_are_there.Goals as goal
 

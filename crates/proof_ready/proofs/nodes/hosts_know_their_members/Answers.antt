@@ -1,7 +1,7 @@
 -- A node that the chip has not joined is not joined by the transcript.
 use Rattle.std.specs.Prelude.{Some, []}
-use Rattle.proof_at_ease.specs.proof_line.world_model.State.{first_machine}
-use Rattle.proof_at_ease.specs.proof_line.world_lines.Spoken.{after_all, transcript_of}
+use Rattle.proof_chip.specs.proof_line.world_model.State.{first_machine}
+use Rattle.proof_chip.specs.proof_world.world_lines.Spoken.{after_all, transcript_of}
 use Rattle.proof_ready.proofs.Reading.{not_joined}
 use Rattle.proof_ready.proofs.nodes.hosts_know_their_members.Goals as goal
 

@@ -2,10 +2,10 @@
 use Rattle.std.proofs.Common.{◌∙◌}
 use Rattle.std.specs.Prelude.{Some, []}
 use Rattle.law_wire.specs.Routes.{MayGo}
-use Rattle.proof_at_ease.specs.proof_line.world_model.State.{first_machine}
-use Rattle.proof_at_ease.specs.proof_line.world_lines.Spoken.{after_all, transcript_of}
-use Rattle.proof_at_ease.proofs.Lines.{lines_lead}
-use Rattle.proof_at_ease.specs.proof_devices.proof_routes.Knowing.{KnowNetworks}
+use Rattle.proof_chip.specs.proof_line.world_model.State.{first_machine}
+use Rattle.proof_chip.specs.proof_world.world_lines.Spoken.{after_all, transcript_of}
+use Rattle.proof_chip.proofs.Lines.{lines_lead}
+use Rattle.proof_devices.specs.proof_routes.Knowing.{KnowNetworks}
 use Rattle.proof_ready.proofs.nodes.joined_nodes_are_there.Goals as goal
 
 pub returns : goal.returns

@@ -3,14 +3,14 @@ use Rattle.std.proofs.Common.{◌≤◌, arith}
 use Rattle.std.specs.Prelude.{Some, []}
 use Rattle.law_time.specs.Moments.{Allows}
 use Rattle.law_time.specs.Waking.{may_wake}
-use Rattle.proof_at_ease.specs.proof_alone.Reading.{read_of}
-use Rattle.proof_at_ease.specs.proof_line.proof_serial.Units.{good_units}
-use Rattle.proof_at_ease.specs.proof_line.world_model.State.{first_machine}
-use Rattle.proof_at_ease.specs.proof_line.world_lines.Spoken.{after_all, transcript_of}
-use Rattle.proof_at_ease.proofs.Running.{run_keeps}
-use Rattle.proof_at_ease.specs.proof_rests.proof_nonces.proof_known.Known.{KnowsWhole}
-use Rattle.proof_at_ease.specs.proof_alone.Phases.{Resting}
-use Rattle.proof_ready.proofs.Stillness.{blank, still_inside, still_outside}
+use Rattle.proof_rests.specs.proof_requests.proof_alone.Reading.{read_of}
+use Rattle.proof_chip.specs.proof_world.proof_serial.Units.{good_units}
+use Rattle.proof_chip.specs.proof_line.world_model.State.{first_machine}
+use Rattle.proof_chip.specs.proof_world.world_lines.Spoken.{after_all, transcript_of}
+use Rattle.proof_rests.proofs.Running.{run_keeps}
+use Rattle.proof_rests.specs.proof_nonces.proof_known.Known.{KnowsWhole}
+use Rattle.proof_rests.specs.proof_requests.proof_alone.Phases.{Resting}
+use Rattle.proof_ready.proofs.Stillness.{blank, still_inside, still_outside, unasked}
 use Rattle.proof_ready.proofs.nodes.nodes_are_still.Goals as goal
 
 pub returns-clause-outside : goal.returns-clause-outside
@@ -29,6 +29,15 @@ returns-clause-blank c = λ keys devices lines are whole.
     let reads = (c.lines_leave_a_host_at_rest.ensures keys devices lines are whole).1 in
     let h = read_of 0 (after_all m lines) (good_units reads.down) in
     blank past h (run_keeps (Allows may_wake) KnowsWhole c.hosts_know_what_was_told.ensures.walk [] reads.run.run (c.hosts_know_what_was_told.ensures.first keys)).1
+    (c.hosts_keep_what_is_said.ensures.table keys Resting past h reads.run.run) c.hosts_show_open_sessions.ensures.waits
+
+pub returns-clause-unasked : goal.returns-clause-unasked
+returns-clause-unasked c = λ keys devices lines are whole.
+    let m = first_machine keys (Some []) devices in
+    let past = transcript_of m lines in
+    let reads = (c.lines_leave_a_host_at_rest.ensures keys devices lines are whole).1 in
+    let h = read_of 0 (after_all m lines) (good_units reads.down) in
+    unasked past h (run_keeps (Allows may_wake) KnowsWhole c.hosts_know_what_was_told.ensures.walk [] reads.run.run (c.hosts_know_what_was_told.ensures.first keys)).1
     (c.hosts_keep_what_is_said.ensures.table keys Resting past h reads.run.run) c.hosts_show_open_sessions.ensures.waits
 
 pub returns-clause-inside : goal.returns-clause-inside

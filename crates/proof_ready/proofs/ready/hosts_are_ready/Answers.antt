@@ -1,8 +1,8 @@
 -- Each node is still or one of these.
 use Rattle.std.proofs.Common.{◌∙◌, arith}
 use Rattle.std.specs.Prelude.{Some, []}
-use Rattle.proof_at_ease.specs.proof_line.world_model.State.{first_machine}
-use Rattle.proof_at_ease.specs.proof_line.world_lines.Spoken.{after_all, transcript_of}
+use Rattle.proof_chip.specs.proof_line.world_model.State.{first_machine}
+use Rattle.proof_chip.specs.proof_world.world_lines.Spoken.{after_all, transcript_of}
 use Rattle.proof_ready.proofs.Workers.{ready}
 use Rattle.proof_ready.proofs.ready.hosts_are_ready.Goals as goal
 

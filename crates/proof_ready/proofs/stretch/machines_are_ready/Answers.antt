@@ -2,9 +2,9 @@
 use Rattle.std.proofs.Common.{◌≤◌, sym, subst, arith}
 use Rattle.std.specs.Prelude.{Some, []}
 use Rattle.std.specs.List.{AllByRecursion}
-use Rattle.proof_at_ease.specs.proof_answered.Outward.{IsFor}
-use Rattle.proof_at_ease.specs.proof_line.world_model.State.{first_machine}
-use Rattle.proof_at_ease.specs.proof_line.world_lines.Spoken.{after_all, transcript_of}
+use Rattle.proof_in_time.specs.proof_answered.Outward.{IsFor}
+use Rattle.proof_chip.specs.proof_line.world_model.State.{first_machine}
+use Rattle.proof_chip.specs.proof_world.world_lines.Spoken.{after_all, transcript_of}
 use Rattle.proof_ready.specs.Ready.{marks_of}
 use Rattle.proof_ready.proofs.Listening.{device_known, waits_for}
 use Rattle.proof_ready.proofs.Marks.{many_marks}

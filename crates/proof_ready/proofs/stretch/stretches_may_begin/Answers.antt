@@ -5,24 +5,28 @@ use Rattle.std.specs.List.{AllByRecursion}
 use Rattle.serial_link.specs.declared.turn.Turn.{Turn}
 use Rattle.chip_sim.specs.Rules.{WaitsWhileBusy}
 use Rattle.law_time.specs.Stretches.{workers}
-use Rattle.proof_at_ease.specs.proof_answered.Outward.{IsOf, IsOfSaying}
-use Rattle.proof_at_ease.specs.proof_answered.Workers.{IsFrom, IsFromSaying}
-use Rattle.proof_at_ease.specs.proof_answered.proof_calm.Tied.{unheard, unheard_by}
-use Rattle.proof_at_ease.specs.proof_answered.proof_calm.proof_traffic.OnAir.{on_air}
-use Rattle.proof_at_ease.specs.proof_line.world_model.State.{first_machine}
-use Rattle.proof_at_ease.specs.proof_line.world_lines.Spoken.{after_all, transcript_of}
-use Rattle.proof_messages.specs.Reporting.{TellsPlainly}
+use Rattle.proof_in_time.specs.proof_answered.Outward.{IsOf, IsOfSaying}
+use Rattle.proof_in_time.specs.proof_answered.Workers.{IsFrom, IsFromSaying}
+use Rattle.proof_in_time.specs.proof_answered.proof_calm.Tied.{unheard, unheard_by}
+use Rattle.proof_in_time.specs.proof_answered.proof_calm.proof_traffic.OnAir.{on_air}
+use Rattle.proof_chip.specs.proof_line.world_model.State.{first_machine}
+use Rattle.proof_chip.specs.proof_world.world_lines.Spoken.{after_all, transcript_of}
+use Rattle.proof_rests.specs.proof_attempts.proof_messages.Reporting.{TellsPlainly}
 use Rattle.proof_ready.specs.Ready.{marks_of}
+use Rattle.proof_ready.proofs.Listening.{lists_openly}
 use Rattle.proof_ready.proofs.Reading.{moves}
 use Rattle.proof_ready.proofs.stretch.stretches_may_begin.Goals as goal
 
 pub returns : goal.returns
-returns c = λ keys devices lines are whole nodes up still key stretch quiet plain reach chip go.
+returns c = λ keys devices lines are whole nodes up still key stretch quiet plain reach.
     let past = transcript_of (first_machine keys (Some []) devices) lines in
     let m = after_all (first_machine keys (Some []) devices) lines in
     let these = marks_of (workers past stretch) in
     let is = c.still_machines_are_ready.ensures keys devices lines are whole up still key stretch quiet plain in
+    let known = (c.workers_are_known.ensures keys devices lines are whole key stretch quiet plain).1 in
+    let go = (c.orders_go_whole.ensures these keys devices lines (lists_openly these devices past known) are).0 in
     let moving = moves past still.judged in
+    let chip = c.calm_chips_rest.ensures.rests keys devices lines are whole moving still.settled still.chip still.called in
     let none_flies : on_air m.outside.outer.air.frames ≡ [] = (c.calm_air_is_empty.ensures keys devices lines are whole still.air).none_flies in
     let heard = c.calm_hosts_have_heard_all.ensures.host keys devices lines are whole moving in
     let none_waits : m.outside.outer.chip.state.port.waiting ≡ []

@@ -1,0 +1,12 @@
+-- The lines up to the end of the stretch were said, and run whole.
+use Rattle.run_all.specs.host_core.Network.{keys_of}
+use Rattle.proof_commands.proofs.InTime.{done, answered_so, whole}
+use Rattle.proof_commands.proofs.Speaking.{all_said}
+use Rattle.proof_commands.proofs.laws.stories_answer_in_time.Goals as goal
+
+pub returns : goal.returns
+returns c = λ key old new story unentered is fair before stretch more are schedules.
+    let again = c.lines_are_read_as_said.ensures in
+    answered_so again key old new story unentered is fair before stretch more are schedules
+    (c.stretches_are_answered_in_time.ensures key (keys_of key) old.devices (all_said before) (all_said stretch) fair.made
+    (done again key old new story unentered is fair before stretch more are schedules) (whole again key old new story unentered is fair before stretch more are schedules))

@@ -1,0 +1,51 @@
+//! How the orders for plain nodes go, and which nodes are plain.
+
+ghost use Rattle.std.specs.Prelude.{◌≡◌, Bool, List, Some, [], true, ℕ};
+ghost use Rattle.std.specs.List.{AllByRecursion};
+ghost use Rattle.s0_crypto.specs.declared.key_pair.Keys.{Keys};
+ghost use Rattle.chip_sim.specs.Nodes.{is_marked};
+ghost use Rattle.law_transcript.specs.Headline.{IsAsMade};
+ghost use Rattle.device_sim.specs.State.{State};
+ghost use Rattle.world_model.specs.State.{first_machine};
+ghost use Rattle.world_lines.specs.Spoken.{Spoken, after_all};
+ghost use Rattle.world_lines.specs.Done.{AreDone, events_of};
+ghost use Rattle.proof_course_plain.specs.World.{OrdersPlain};
+ghost use Rattle.proof_answered.specs.Few.{AreIdle};
+ghost use Rattle.proof_in_time.specs.Coming.{GoWhole, ListOpenly};
+ghost use Rattle.proof_in_time.specs.InStep.{ArePlainByKind, ArePlainOver};
+
+use proof_course_plain::{devices_follow_the_course, idle_devices_stay_idle, lines_ask_plainly};
+use proof_spoken::{
+    interviews_give_what_is_known, interviews_tell_what_nodes_list, lines_keep_and_ask_well,
+    restarts_go_on, the_machine_keeps_facts,
+};
+
+/// Over any lines from the first machine on, the last of which an allocation failure may have cut short, and however often the host starts again: where the
+/// devices of some nodes list neither Security 0 nor Transport Service, each command that was ever accepted for one of these goes whole and unsealed, and so
+/// does each order. For the host takes no such node to list one of the two, and refuses an order for it whose message has no room in one payload.
+pub fn orders_go_whole()
+    ensures { (these : List Bool) (keys : Keys) (devices : List State) (lines : List Spoken) → ListOpenly these devices →
+        AreDone (first_machine keys (Some []) devices) lines →
+        GoWhole these (after_all (first_machine keys (Some []) devices) lines).host.state.commands ×
+        ((n : ℕ) → is_marked these n ≡ true → AllByRecursion (OrdersPlain n) (events_of lines)) }
+{
+    interviews_give_what_is_known();
+    interviews_tell_what_nodes_list();
+    lines_ask_plainly();
+    lines_keep_and_ask_well();
+    restarts_go_on();
+    the_machine_keeps_facts();
+}
+
+/// So nodes whose devices are of kinds that take commands in sessions, not sealed, whole, and have no levels are what `nodes_stay_in_step` asks of nodes, over
+/// any lines, where all devices are as their makers left them. These are at no work.
+pub fn nodes_are_plain_by_kind()
+    ensures plain { (these : List Bool) (key : List ℕ) (keys : Keys) (devices : List State) (lines : List Spoken) →
+        AllByRecursion (IsAsMade key) devices → ArePlainByKind these devices → AreDone (first_machine keys (Some []) devices) lines →
+        ArePlainOver these devices (events_of lines) }
+    ensures idle { (key : List ℕ) (devices : List State) → AllByRecursion (IsAsMade key) devices → AreIdle devices }
+{
+    devices_follow_the_course();
+    idle_devices_stay_idle();
+    orders_go_whole();
+}
