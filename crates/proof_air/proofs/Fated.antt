@@ -1,5 +1,5 @@
 -- A frame that arrives has its fate, which is entered first of all that it brings about; one that is heard again had its fate before.
-use Rattle.std.proofs.Common.{◌≡◌, ℕ, ◌+◌, ◌-◌, ◌&&◌, not, ◌⊎◌, inl, inr, Bool, true, false, if◌then◌else◌, List, [], ◌∷◌, ◌++◌, length, refl, sym, ap, subst, ◌∙◌, append-nil, append_assoc}
+use Rattle.std.proofs.Common.{◌≡◌, ℕ, ◌+◌, ◌&&◌, not, ◌⊎◌, inl, inr, Bool, true, false, if◌then◌else◌, List, [], ◌∷◌, ◌++◌, length, refl, sym, ap, subst, ◌∙◌, append-nil, append_assoc}
 use Rattle.std.proofs.lemmas.List.{length-append}
 use Rattle.std.specs.Prelude.{Option, Some, None, slice_get, slice_set}
 use Rattle.std.specs.Option.{option_map}
@@ -120,7 +120,7 @@ hearing_landed air node route device event = answered_if_landed (is_joined air n
 -- ---- the next frame arrives
 
 -- a device that is awake is there
-listens_there : (devices : List State) (at : Option ℕ) (place : ℕ) → awake_at devices at ≡ Some place → slice_get devices place ≡ None → ⊥
+pub listens_there : (devices : List State) (at : Option ℕ) (place : ℕ) → awake_at devices at ≡ Some place → slice_get devices place ≡ None → ⊥
 listens_there devices None place listens none = cc
 listens_there devices (Some there) place listens none = by (is_awake (slice_get devices there)) refl listens
   where

@@ -71,7 +71,7 @@ node_by s r false false own other (inr is) apart = absurd (eqb-false r controlle
 node_same : (frame : AirFrame) → HasEnd frame → (departure frame).node ≢ controller → (departure frame).node ≡ node_of frame
 node_same frame ends apart = node_by frame.sender frame.receiver (frame.sender == controller) (frame.receiver == controller) refl refl ends apart
 
-apart_at : (log : List Mark) (at : ℕ) (one : Departure) → AllByRecursion IsApart log → departure_at log at ≡ Some one → one.node ≢ controller
+pub apart_at : (log : List Mark) (at : ℕ) (one : Departure) → AllByRecursion IsApart log → departure_at log at ≡ Some one → one.node ≢ controller
 apart_at [] at one apart is = absurd cc
 apart_at (Goes first ∷ log) zero one apart is = let same : first ≡ one = cc in subst (λ (d : Departure). d.node ≢ controller) same apart.0
 apart_at (Goes first ∷ log) (suc at) one apart is = apart_at log at one apart.1 is

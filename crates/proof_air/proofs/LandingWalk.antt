@@ -65,6 +65,12 @@ untimed_stands past e untimed = tt
 no_more : (m n : ℕ) → m ≡ n → m ≤ n
 no_more m n is = omega (arith, is)
 
+-- what the host does of itself begins neither a line nor a tick
+pub hosts : (event : OuterEvent) → is_own event ≡ false → IsWithin event
+hosts Begins_line own = absurd (let none : true ≡ false = own in cc)
+hosts Begins_tick own = absurd (let none : true ≡ false = own in cc)
+hosts event own = tt
+
 module _ (before : ℕ) (ticking : Bool) where
   -- the clock stays
   sent_moves : (w later : Outside) (told : List Entry) → AreUntimed told → later.outer.clock ≡ w.outer.clock → Moves MayLand (Sent before ticking) w told (Sent before ticking) later
@@ -109,11 +115,6 @@ module _ (before : ℕ) (ticking : Bool) where
 
   -- ---- an event of the machine
 
-  hosts : (event : OuterEvent) → is_own event ≡ false → IsWithin event
-  hosts Begins_line own = absurd (let none : true ≡ false = own in cc)
-  hosts Begins_tick own = absurd (let none : true ≡ false = own in cc)
-  hosts event own = tt
-
   sent_kept : (past : List Entry) (m : Machine) (event : Event) → CoversOuter IsWithin event → May m event → KnownSent before ticking past m
       → EachAfter MayLand past (entries m event) × KnownSent before ticking (past ++ entries m event) (happens m event)
   sent_kept past m event within may known =
@@ -142,7 +143,7 @@ landed_asked past m time known =
     landed_now past m known ∙ ap (λ (n : ℕ). sent_before n past) (sym (plus_none m.outside.outer.clock) ∙ time.0.0.clock)
 
 -- as many frames are shown as were sent
-sent_frames : (past : List Entry) (w : Outside) → Tie nothing past w → length (frames past) ≡ w.outer.air.frames.sent
+pub sent_frames : (past : List Entry) (w : Outside) → Tie nothing past w → length (frames past) ≡ w.outer.air.frames.sent
 sent_frames past w tie =
     sym (frames_sent past) ∙ (ap goes_in (sym (tie.shown ∙ append-nil (log_of past))) ∙ (plain_sent tie.log ∙ sym tie.kept.sent))
 

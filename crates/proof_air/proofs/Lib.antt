@@ -1,6 +1,6 @@
 pub mod Logs
 mod Silent
-mod Airing
+pub mod Airing
 pub mod Judging
 mod Outer
 pub mod Hearing

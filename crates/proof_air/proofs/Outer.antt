@@ -56,9 +56,6 @@ use Rattle.proof_air.proofs.Judging.{AllGoWell, StartsSo, judged_well, JudgesNon
 pub same : (o p : OuterState) → p.air.frames ≡ o.air.frames → p.air.joined ≡ o.air.joined → p.chip.state.joined ≡ o.chip.state.joined → IsSameAir o p
 same o p frames joined chip = record { frames = frames; joined = joined; chip = ap length chip }
 
-same_then : (o p q : OuterState) → IsSameAir o p → IsSameAir p q → IsSameAir o q
-same_then o p q first later = record { frames = later.frames ∙ first.frames; joined = later.joined ∙ first.joined; chip = later.chip ∙ first.chip }
-
 -- of items that are judged nothing is to be entered
 pub from_judging : (ways : List (Item × Option Route)) (past : List Entry) (w : Outside) → Tie (Judging ways) past w → Tie nothing past w
 from_judging ways past w tie = record { log = tie.log; kept = tie.kept; shown = tie.shown; apart = tie.apart; chip = tie.chip; air = tie.air; home = tie.home }

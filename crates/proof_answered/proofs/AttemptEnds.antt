@@ -55,7 +55,7 @@ use Rattle.proof_serial.proofs.HostFits.{all-set, all_at}
 use Rattle.proof_calm.specs.Calls.{FrameFollows, IsSending}
 use Rattle.proof_calm.specs.Passes.{IsPlain, frames_in}
 use Rattle.proof_calm.specs.Tied.{IsFresh}
-use Rattle.proof_calm.proofs.Ending.{calls_are}
+use Rattle.proof_calm.proofs.Ending.{both, calls_are}
 use Rattle.proof_calm.proofs.Followed.{FollowersAre, payload_all}
 use Rattle.proof_calm.proofs.Following.{kept}
 use Rattle.proof_calm.proofs.Judging.{Follow, MayTell, TieBy, units_are}
@@ -357,9 +357,6 @@ pub units_last : (counted : Bool) (s : ChipState) (asking : List FrameParts) (h 
 units_last counted s asking h units rest events plain judged tie heard = units_are LastAll SaysHeard counted s asking (follow_last s.joined) h units rest events plain judged tie heard
 
 -- ---- the call of a request of an attempt
-
-both : (a b : Bool) → a ≡ true → b ≡ true → (a && b) ≡ true
-both a b one two = rw one two
 
 pub call_signs : (h : HostState) (u : UnderWay) (n : ℕ) (more : Bool) (payload : List ℕ) (events : List HostEvent) → IsSending u h → u.purpose ≡ Attempt n more payload
     → FrameFollows h (notice_frame (SendData h.requests.last_id CompleteOk)) events → (after_all h events).nodes ≡ (with_node h n (after_sign (node_of h n))).nodes

@@ -22,7 +22,6 @@ use Rattle.host_model.specs.Events.{HostEvent, Accepts, Line_ticks, Requests_do,
 use Rattle.host_model.specs.May.{May as MayHost}
 use Rattle.host_model.specs.Pumping.{no_more_event}
 use Rattle.host_model.specs.State.{HostState}
-use Rattle.host_model.specs.Taking.{AreJudged}
 use Rattle.host_model.proofs.Submitted.{next_is, no_more_is}
 use Rattle.outside_model.specs.Events.{OuterEvent, Begins_line, Begins_tick, Arrives, Gives, Device_ticks, Chip_ticks, Chip_takes}
 use Rattle.world_model.specs.State.{Machine}
@@ -43,6 +42,7 @@ use Rattle.proof_calm.proofs.Idle.{host_idles}
 use Rattle.proof_calm.proofs.Judging.{TieBy}
 use Rattle.proof_calm.proofs.Reading.{goods}
 use Rattle.proof_calm.proofs.Requested.{moved_frames}
+use Rattle.proof_calm.proofs.Peopled.{judged_are}
 use Rattle.proof_answered.specs.Few.{IsStretched, Knows}
 use Rattle.proof_answered.specs.FirstAttempts.{AllFirst, AndInTime, IsInTime, KnowFirst}
 use Rattle.proof_answered.specs.Heard.{AllSayHeard}
@@ -118,10 +118,6 @@ module _ (On : HostState → Type 0) (law : (h : HostState) (event : HostEvent) 
 
   -- ---- the host's part of a pass
 
-  judged_are : (m : Machine) (count : ℕ) (rest : Rest) (items : List Item) (events : List HostEvent) (units : List LineUnit) → May m (Host_takes count rest items events) → items ≡ goods units → AreJudged m.host.state (goods units) events
-  unfolding May
-  judged_are m count rest items events units may same = subst (λ (l : List Item). AreJudged m.host.state l events) same may.judged
-
   all_on : (h : HostState) (events : List HostEvent) → LastAll h events → MayAll h events → On h → On (after_all h events)
   all_on h [] last may on = on
   all_on h (event ∷ events) last may on = all_on (after h event) events last.1 may.1 (law h event last.0 may.0 on)
@@ -162,16 +158,10 @@ module _ (On : HostState → Type 0) (law : (h : HostState) (event : HostEvent) 
   first_as : (m : Machine) (event is : Event) → event ≡ is → First (happens m is) → First (happens m event)
   first_as m event is same all = subst (λ (e : Event). First (happens m e)) (sym same) all
 
-  may_be : (m : Machine) (event is : Event) → event ≡ is → May m event → May m is
-  may_be m event is same may = subst (May m) same may
-
-  time_be : (m : Machine) (event is : Event) → event ≡ is → IsInTime m event → IsInTime m is
-  time_be m event is same in_time = subst (IsInTime m) same in_time
-
   pub first_on : (air : Airs) (here next : Phase) (m : Machine) (event : Event) → Goes here m event next → May m event → IsInTime m event → LineAt here m → AwaitsAt here m → TieAt here m → AllSayHeard (unheard m.outside.outer)
       → ((k : ℕ) → event ≡ Host_does (Begin_unkept k) → First m → On (after m.host.state (Begin_unkept k))) → First m → First (happens m event)
   first_on air (Said_line line) next m event (is, to) may in_time line_at awaits tie heard unkept all = first_as m event _ is (outer_first m Begins_line all)
-  first_on air (Doing line (first ∷ left)) next m event (is, to) may in_time line_at awaits tie heard unkept all = first_as m event first is (effect_first m first line_at.0.0 (may_be m event first is may) all)
+  first_on air (Doing line (first ∷ left)) next m event (is, to) may in_time line_at awaits tie heard unkept all = first_as m event first is (effect_first m first line_at.0.0 (subst (May m) is may) all)
   first_on air (To_tick (suc ticks)) next m event (is, to) may in_time line_at awaits tie heard unkept all = first_as m event _ is (outer_first m Begins_tick all)
   first_on air (Arriving (suc frames) ticks) next m event (drawn, route, is, to) may in_time line_at awaits tie heard unkept all = first_as m event _ is (outer_first m (Arrives drawn route) all)
   first_on air (Giving (suc results) ticks) next m event (route, is, to) may in_time line_at awaits tie heard unkept all = first_as m event _ is (outer_first m (Gives route) all)
@@ -179,10 +169,10 @@ module _ (On : HostState → Type 0) (law : (h : HostState) (event : HostEvent) 
   first_on air (Ticking_chip ticks) next m event (is, to) may in_time line_at awaits tie heard unkept all = first_as m event _ is (outer_first m Chip_ticks all)
   first_on air (Ticking_decoder ticks) next m event (is, to) may in_time line_at awaits tie heard unkept all = first_as m event _ is (decoder_first m all)
   first_on air (Ticking_host (first ∷ events) ticks) next m event (is, to) may in_time line_at awaits tie heard unkept all =
-      first_as m event _ is (tick_first m first events line_at.1 awaits tie (time_be m event (Host_does first) is in_time) (may_be m event (Host_does first) is may) all)
+      first_as m event _ is (tick_first m first events line_at.1 awaits tie (subst (IsInTime m) is in_time) (subst (May m) is may) all)
   first_on air (Sleeping passes ticks) next m event (node, wants, is, to) may in_time line_at awaits tie heard unkept all =
       let e : HostEvent = no_more_event m.host.state node in
-      first_as m event _ is (does_first m e (no_more_is (LastsAt m.host.state) (record { queues = λ n. tt; drops = λ n. tt }) m.host.state node) (may_be m event (Host_does e) is may) all)
+      first_as m event _ is (does_first m e (no_more_is (LastsAt m.host.state) (record { queues = λ n. tt; drops = λ n. tt }) m.host.state node) (subst (May m) is may) all)
   first_on air (Submitting passes ticks) next m event (asked, next_is_so, is, to) may in_time line_at awaits tie heard unkept all =
       first_as m event _ is
       (next_is (λ (e : HostEvent). event ≡ Host_does e → May m (Host_does e) → First (happens m (Host_does e)))
@@ -195,10 +185,10 @@ module _ (On : HostState → Type 0) (law : (h : HostState) (event : HostEvent) 
         begins = λ n session command same may_it. does_first m _ tt may_it all;
         unkept = λ n same may_it. unkept_on m n (unkept n same all);
       })
-      m.host.state asked next_is_so is (may_be m event (Host_does asked) is may))
+      m.host.state asked next_is_so is (subst (May m) is may))
   first_on air (Moving passes ticks) next m event (rest, ways, is, to) may in_time line_at awaits tie heard unkept all = first_as m event _ is (outer_first m (Chip_takes (length m.outside.outer.to_chip.bytes) rest ways) all)
   first_on air (Moved b passes ticks) next m event (rest, items, done, is, to) may in_time line_at awaits tie heard unkept all =
-      first_as m event _ is (takes_first air b passes m rest items done (may_be m event _ is may) line_at tie heard all)
+      first_as m event _ is (takes_first air b passes m rest items done (subst (May m) is may) line_at tie heard all)
   first_on air here next m event goes may in_time line_at awaits tie heard unkept all = absurd goes
 
 -- ---- the walk, over each that knows where the request is and what calls say

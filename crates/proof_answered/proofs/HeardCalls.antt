@@ -29,12 +29,10 @@ use Rattle.mesh_sim.specs.declared.event.AirEvent.{AirEvent}
 use Rattle.mesh_sim.specs.declared.event.AirEvent.TheVariants as air_event
 use Rattle.mesh_sim.specs.declared.fate.Fate.{Fate}
 use Rattle.mesh_sim.specs.declared.fate.Fate.TheVariants.{Lost, Dead, Missed, AtChip, AtDevice}
-use Rattle.outside_model.specs.declared.waits.Call.{Call}
-use Rattle.outside_model.specs.declared.waits.Call.TheVariants.{OfFrame, NoRoute as no_route_call}
 use Rattle.outside_model.specs.State.{OuterState, Outside, each, silent}
 use Rattle.outside_model.specs.Air.{deals, to_chip}
 use Rattle.outside_model.specs.Chip.{chip_does}
-use Rattle.outside_model.specs.Results.{call_back, frame_ends, leading, no_routes, owes_call}
+use Rattle.outside_model.specs.Results.{call_back, frame_ends, no_routes, owes_call}
 use Rattle.outside_model.specs.Events.{Arrives, mesh_of, outcome, May as MayOutside}
 use Rattle.world_model.specs.State.{Machine}
 use Rattle.world_model.specs.Events.{Event, Outside_does, happens, entries, May}
@@ -46,11 +44,12 @@ use Rattle.proof_calm.proofs.Arrivals.{IsTold, told_then}
 use Rattle.proof_calm.proofs.proof_traffic_Parts.{Airs}
 use Rattle.proof_calm.specs.Calls.{answer_taken}
 use Rattle.proof_calm.specs.Resting.{IsGiven, LineRests}
-use Rattle.proof_calm.specs.Routed.{IsOfFrame, IsRouted}
+use Rattle.proof_calm.specs.Routed.{IsRouted}
 use Rattle.proof_calm.specs.Tied.{unheard, unheard_by}
 use Rattle.proof_calm.proofs.Counting.{outs_all}
 use Rattle.proof_calm.proofs.Pending.{line_of}
 use Rattle.proof_calm.proofs.Unmarked.{nothing_asked}
+use Rattle.proof_calm.proofs.Routed.{none_lead}
 use Rattle.proof_answered.specs.Few.{IsStretched, KnowFew, Knows}
 use Rattle.proof_answered.specs.Heard.{AllSayHeard, IsHeardFor, IsHeardThen, KnowHeard, SaysHeard}
 use Rattle.proof_answered.specs.Outward.{IsSentTo}
@@ -105,11 +104,6 @@ call_heard o all = by (owes_call o.chip.state)
     by : (b : Bool) → PortHeard (if b then chip_does p (Done CompleteOk) else silent p).outer.chip.state
     by true = subst PortHeard (sym (does_chip p (Done CompleteOk))) (done (o.chip.state.aborted == 0))
     by false = all
-
-none_lead : (calls : List Call) → AllByRecursion IsOfFrame calls → leading calls ≡ 0
-none_lead [] all = refl
-none_lead (OfFrame ∷ calls) all = refl
-none_lead (no_route_call ∷ calls) all = absurd all.0
 
 ends_heard : (o : OuterState) → IsRouted o → PortHeard o.chip.state → PortHeard (frame_ends o 0 None).outer.chip.state
 ends_heard o routed all =

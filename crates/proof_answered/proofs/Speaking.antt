@@ -70,7 +70,7 @@ use Rattle.proof_answered.proofs.Works.{ticks_say, ticks_work}
 abbrev pub Same : Type 0
 Same = (device : State) (event : DeviceEvent) → IsSame device (device_after device event)
 
-either_mark : (these : List Bool) (n : ℕ) → (is_marked these n ≡ true) ⊎ (is_marked these n ≡ false)
+pub either_mark : (these : List Bool) (n : ℕ) → (is_marked these n ≡ true) ⊎ (is_marked these n ≡ false)
 either_mark these n = by (is_marked these n) refl
   where
     by : (b : Bool) → is_marked these n ≡ b → (is_marked these n ≡ true) ⊎ (is_marked these n ≡ false)

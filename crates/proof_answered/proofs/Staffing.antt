@@ -244,12 +244,6 @@ module _ (payloads : Payloads) (these : List Bool) where
   staffed_as : (m : Machine) (event is : Event) → event ≡ is → Knows (happens m is) → Knows (happens m event)
   staffed_as m event is same knows = subst (λ (e : Event). Knows (happens m e)) (sym same) knows
 
-  may_be : (m : Machine) (event is : Event) → event ≡ is → May m event → May m is
-  may_be m event is same may = subst (May m) same may
-
-  work_be : (m : Machine) (event is : Event) → event ≡ is → IsWorkFor these m event → IsWorkFor these m is
-  work_be m event is same work = subst (IsWorkFor these m) same work
-
   submits_named : (m : Machine) (event : HostEvent) → IsNext m.host.state event → May m (Host_does event) → m.host.state.requests.owes ≡ false → IsPeopled these m → Knows m → IsNamed these event
   unfolding May
   submits_named m event next may paid is knows = (next_asks IsStill still_rests these m.host.state knows payloads is.facts is.fits event paid next may.0).1
@@ -257,7 +251,7 @@ module _ (payloads : Payloads) (these : List Bool) where
   staffed_on : (air : Airs) (here next : Phase) (m : Machine) (event : Event) → Goes here m event next → May m event → IsWorkFor these m event → LineAt here m → TieAt here m → IsPeopled these m → Knows m → Knows (happens m event)
   staffed_on air (Said_line line) next m event (is, to) may work line_at tie at knows = staffed_as m event _ is (outer_staffed m Begins_line knows)
   staffed_on air (Doing line (first ∷ left)) next m event (is, to) may work line_at tie at knows =
-      staffed_as m event first is (effect_staffed m first line_at.0.0 (work_be m event first is work) (may_be m event first is may) knows)
+      staffed_as m event first is (effect_staffed m first line_at.0.0 (subst (IsWorkFor these m) is work) (subst (May m) is may) knows)
   staffed_on air (To_tick (suc ticks)) next m event (is, to) may work line_at tie at knows = staffed_as m event _ is (outer_staffed m Begins_tick knows)
   staffed_on air (Arriving (suc frames) ticks) next m event (drawn, route, is, to) may work line_at tie at knows = staffed_as m event _ is (outer_staffed m (Arrives drawn route) knows)
   staffed_on air (Giving (suc results) ticks) next m event (route, is, to) may work line_at tie at knows = staffed_as m event _ is (outer_staffed m (Gives route) knows)
@@ -265,16 +259,16 @@ module _ (payloads : Payloads) (these : List Bool) where
   staffed_on air (Ticking_chip ticks) next m event (is, to) may work line_at tie at knows = staffed_as m event _ is (outer_staffed m Chip_ticks knows)
   staffed_on air (Ticking_decoder ticks) next m event (is, to) may work line_at tie at knows = staffed_as m event _ is (decoder_staffed m knows)
   staffed_on air (Ticking_host (first ∷ events) ticks) next m event (is, to) may work line_at tie at knows =
-      staffed_as m event _ is (tick_staffed m first events line_at.1 tie (may_be m event (Host_does first) is may) knows)
+      staffed_as m event _ is (tick_staffed m first events line_at.1 tie (subst (May m) is may) knows)
   staffed_on air (Sleeping passes ticks) next m event (node, wants, is, to) may work line_at tie at knows =
       let e : HostEvent = no_more_event m.host.state node in
-      staffed_as m event _ is (does_staffed m e (no_more_named IsStill still_rests these m.host.state knows node wants) (may_be m event (Host_does e) is may) knows)
+      staffed_as m event _ is (does_staffed m e (no_more_named IsStill still_rests these m.host.state knows node wants) (subst (May m) is may) knows)
   staffed_on air (Submitting passes ticks) next m event (asked_is, next_is, is, to) may work line_at tie at knows =
-      let may_it : May m (Host_does asked_is) = may_be m event (Host_does asked_is) is may in
+      let may_it : May m (Host_does asked_is) = subst (May m) is may in
       staffed_as m event _ is (does_staffed m asked_is (submits_named m asked_is next_is may_it tie.paid at knows) may_it knows)
   staffed_on air (Moving passes ticks) next m event (rest, ways, is, to) may work line_at tie at knows = staffed_as m event _ is (outer_staffed m (Chip_takes (length m.outside.outer.to_chip.bytes) rest ways) knows)
   staffed_on air (Moved b passes ticks) next m event (rest, items, done, is, to) may work line_at tie at knows =
-      staffed_as m event _ is (takes_staffed air b passes m rest items done (may_be m event _ is may) line_at tie (work_be m event _ is work) knows)
+      staffed_as m event _ is (takes_staffed air b passes m rest items done (subst (May m) is may) line_at tie (subst (IsWorkFor these m) is work) knows)
   staffed_on air here next m event goes may work line_at tie at knows = absurd goes
 
 -- ---- what the chip sends

@@ -25,7 +25,7 @@ use Rattle.air_frames.specs.declared.frame.Heading.TheVariants.{Homeward}
 use Rattle.chip_sim.specs.Did.{after_all as after_chip, judged_all}
 use Rattle.chip_sim.specs.State.{ChipParts, ChipState}
 use Rattle.chip_sim.specs.Waiting.{PortState, is_full, queued, queued_at}
-use Rattle.device_sim.specs.Event.{DeviceEvent, Ticks, Wakes}
+use Rattle.device_sim.specs.Event.{Ticks, Wakes}
 use Rattle.device_sim.specs.State.{State}
 use Rattle.host_model.specs.Events.{HostEvent, Accepts}
 use Rattle.host_model.specs.Pumping.{no_more_event}
@@ -39,7 +39,6 @@ use Rattle.outside_model.specs.Air.{deals, to_chip}
 use Rattle.outside_model.specs.Chip.{chip_does}
 use Rattle.outside_model.specs.Results.{frame_ends}
 use Rattle.outside_model.specs.State.{OuterState, Outcome, Outside, each, silent}
-use Rattle.outside_model.specs.Devices.{acts_at, acts_by_hand}
 use Rattle.outside_model.specs.Events.{OuterEvent, Begins_line, Begins_tick, Arrives, Device_ticks, Chip_ticks, Chip_takes, Wakes_device, Shows, Cuts, has_entered, mesh_of, outcome}
 use Rattle.world_model.specs.State.{Machine}
 use Rattle.world_model.specs.Events.{Event, Outside_does, Host_does, Host_takes, Decoder_ticks, Refuses, Shows_values, happens, May}
@@ -63,7 +62,7 @@ use Rattle.proof_calm.proofs.Results.{Calls, IsResult, end_goes}
 use Rattle.proof_calm.proofs.Following.{kept}
 use Rattle.proof_calm.proofs.Requested.{Judges, moved_frames, taken_state}
 use Rattle.proof_calm.proofs.Submitting.{written}
-use Rattle.proof_calm.proofs.Tying.{moved_lines, part_served}
+use Rattle.proof_calm.proofs.Tying.{acts_chip, hand_chip, moved_lines, part_served}
 use Rattle.proof_answered.proofs.Walking.{none_given}
 
 -- what is so of frames stays so with one more before or behind them, of which something is so
@@ -119,15 +118,6 @@ module _ (Says : FrameParts → Type 0) (On : List FrameParts → Type 0) (piled
       let x : Outcome = outcome m.outside event in
       still_says m.outside.outer (has_entered x.outer x.entries) (entered_state x.outer x.entries ∙ chip) (entered_way x.outer x.entries ∙ to_host) all
 
-  acts_still : (o : OuterState) (found : Option State) (event : DeviceEvent) (route : Option Route) → ((acts_at o found event route).outer.chip.state ≡ o.chip.state) × ((acts_at o found event route).outer.to_host ≡ o.to_host)
-  acts_still o None event route = (refl, refl)
-  acts_still o (Some device) event route = (refl, refl)
-
-  hand_still : (o : OuterState) (devices : List State) (place : Option ℕ) (event : DeviceEvent) (route : Option Route)
-      → ((acts_by_hand o devices place event route).outer.chip.state ≡ o.chip.state) × ((acts_by_hand o devices place event route).outer.to_host ≡ o.to_host)
-  hand_still o devices None event route = (refl, refl)
-  hand_still o devices (Some place) event route = acts_still o (slice_get devices place) event route
-
   pub line_says : (m : Machine) → AllSay (unheard m.outside.outer) → AllSay (unheard (happens m (Outside_does Begins_line)).outside.outer)
   unfolding outcome
   line_says m all = outer_says m Begins_line refl refl all
@@ -139,7 +129,7 @@ module _ (Says : FrameParts → Type 0) (On : List FrameParts → Type 0) (piled
   pub device_says : (m : Machine) (place : ℕ) (drawn : List ℕ) (route : Option Route) → AllSay (unheard m.outside.outer) → AllSay (unheard (happens m (Outside_does (Device_ticks place drawn route))).outside.outer)
   unfolding outcome
   device_says m place drawn route all =
-      let still = acts_still m.outside.outer (slice_get m.outside.devices place) (Ticks drawn) route in outer_says m (Device_ticks place drawn route) still.0 still.1 all
+      let still = acts_chip m.outside.outer (slice_get m.outside.devices place) (Ticks drawn) route in outer_says m (Device_ticks place drawn route) still.0 still.1 all
 
   pub decoder_says : (m : Machine) → AllSay (unheard m.outside.outer) → AllSay (unheard (happens m Decoder_ticks).outside.outer)
   unfolding happens
@@ -152,7 +142,7 @@ module _ (Says : FrameParts → Type 0) (On : List FrameParts → Type 0) (piled
     pub effect_says : (m : Machine) (event : Event) → IsEffect event → AllSay (unheard m.outside.outer) → AllSay (unheard (happens m event).outside.outer)
     unfolding outcome happens
     effect_says m (Outside_does (Wakes_device node route)) is all =
-        let still = hand_still m.outside.outer m.outside.devices (place_of node m.outside.devices) Wakes route in outer_says m (Wakes_device node route) still.0 still.1 all
+        let still = hand_chip m.outside.outer m.outside.devices (place_of node m.outside.devices) Wakes route in outer_says m (Wakes_device node route) still.0 still.1 all
     effect_says m (Outside_does (Shows node)) is all = outer_says m (Shows node) refl refl all
     effect_says m (Outside_does (Cuts size)) is all = outer_says m (Cuts size) refl refl all
     effect_says m (Host_does (Accepts order carriage)) is all = does_says m (Accepts order carriage) all
@@ -315,9 +305,6 @@ module _ (Says : FrameParts → Type 0) (On : List FrameParts → Type 0) (piled
     as_is : (next to : Phase) (m : Machine) (event is : Event) → event ≡ is → next ≡ to → Leads to m is → Leads next m event
     as_is next to m event is event_is next_is leads = subst (λ (e : Event). Leads next m e) (sym event_is) (subst (λ (q : Phase). Leads q m is) (sym next_is) leads)
 
-    may_is : (m : Machine) (event is : Event) → event ≡ is → May m event → May m is
-    may_is m event is same may = subst (May m) same may
-
     pub event_says : (answer : Says answer_taken) (behind : (a b : List FrameParts) → On (a ++ b) → On b) (here next : Phase) (m : Machine) (event : Event) → Goes here m event next → May m event → At here m
         → ((drawn : List ℕ) (route : Option Route) → event ≡ Outside_does (Arrives drawn route) → IsGiven 0 m → IsGiven 0 (happens m (Outside_does (Arrives drawn route)))
         → AllSay (unheard (happens m (Outside_does (Arrives drawn route))).outside.outer)) → AwaitsAt here m → AllSay (unheard m.outside.outer) → Leads next m event
@@ -339,8 +326,8 @@ module _ (Says : FrameParts → Type 0) (On : List FrameParts → Type 0) (piled
     event_says answer behind (Submitting passes ticks) next m event (asked, next_is, is, to) may at arrives awaits all = as_is next (Submitting passes ticks) m event (Host_does asked) is to (λ later. does_says air m asked all)
     event_says answer behind (Moving passes ticks) next m event (rest, ways, is, to) may at arrives awaits all =
         as_is next (Moved true passes ticks) m event (Outside_does (Chip_takes (length m.outside.outer.to_chip.bytes) rest ways)) is to
-        (λ later. chip_part_says answer passes m rest ways (may_is m event _ is may) at.0 at.1 at.3 later all)
+        (λ later. chip_part_says answer passes m rest ways (subst (May m) is may) at.0 at.1 at.3 later all)
     event_says answer behind (Moved b passes ticks) next m event (rest, items, done, is, to) may at arrives awaits all =
         as_is next (Sleeping passes ticks) m event (Host_takes (length m.outside.outer.to_host.bytes) rest items done) is to
-        (λ later. host_part_says air m rest items done behind b passes (may_is m event _ is may) at.0 all)
+        (λ later. host_part_says air m rest items done behind b passes (subst (May m) is may) at.0 all)
     event_says answer behind here next m event goes may at arrives awaits all = absurd goes

@@ -31,7 +31,7 @@ use Rattle.outside_model.specs.declared.waits.Call.{Call}
 use Rattle.outside_model.specs.declared.waits.Due.{Due}
 use Rattle.outside_model.specs.Devices.{MayAct}
 use Rattle.outside_model.specs.State.{Outside}
-use Rattle.outside_model.specs.Events.{OuterEvent, Begins_line, Begins_tick, Arrives, Gives, Device_ticks, Chip_ticks, Chip_takes, Wakes_device, Shows, Cuts, has_entered, outcome, devices_after, happens as happens_outside, May as MayOutside}
+use Rattle.outside_model.specs.Events.{OuterEvent, Begins_line, Begins_tick, Arrives, Gives, Device_ticks, Chip_ticks, Chip_takes, Wakes_device, Shows, Cuts, has_entered, outcome, devices_after, May as MayOutside}
 use Rattle.world_model.specs.State.{Machine}
 use Rattle.world_model.specs.Events.{Event, Outside_does, Host_does, Host_takes, Decoder_ticks, Refuses, Shows_values, enters, fed, shown_values, happens, entries, May}
 use Rattle.world_model.specs.Lines.{IsEffect as IsLineEffect}
@@ -39,7 +39,7 @@ use Rattle.proof_calm.specs.proof_work.Phases.{AsksNothing}
 use Rattle.proof_calm.specs.proof_work.proof_walk.Phases.{Phase, Between, Said_line, Begun, Doing, To_tick, Ticked, Arriving, Giving, Ticking_devices, Ticking_chip, Ticking_decoder, Ticking_host, Sleeping, Submitting, Moving, Moved, Turns, Goes, after_pump, passes_after}
 use Rattle.proof_calm.specs.proof_work.proof_walk.Walk.{WalkWhere}
 use Rattle.world_model.proofs.Hosting.{devices_host-all, routed_still}
-use Rattle.proof_calm.specs.proof_traffic.Facts.{one_if, flying_in}
+use Rattle.proof_calm.specs.proof_traffic.Facts.{flying_in}
 use Rattle.proof_calm.specs.proof_traffic.Flights.{Fly}
 use Rattle.proof_calm.specs.proof_traffic.OnAir.{on_air, hosts_on_air}
 use Rattle.proof_calm.specs.proof_traffic.OutsideTraffic.{flags, one_outward, outward}
@@ -55,6 +55,7 @@ use Rattle.proof_calm.specs.Tied.{IsOrderly, IsOrderlyFor, IsTied, KnowTied, to_
 use Rattle.proof_calm.proofs.Pending.{has_kept}
 use Rattle.proof_calm.proofs.Quiet.{quiet_both}
 use Rattle.proof_calm.proofs.Unmarked.{nothing_asked}
+use Rattle.proof_calm.proofs.Awaiting.{few_if, outer_of}
 use Rattle.proof_answered.specs.Few.{WorkApart, work_of, work_at, AreFew, AreArriving, All, Others, HaveArrived, AreTicking, EndedBefore, FewAt, wakes_in, woken_in, IsStretched, Knows, KnowFew}
 use Rattle.proof_answered.specs.Outward.{IsSentTo}
 use Rattle.proof_answered.proofs.Apart.{less_apart, more_apart, set_else, set_here}
@@ -63,13 +64,9 @@ use Rattle.proof_answered.proofs.Works.{ticks_say, ticks_work}
 
 -- ---- the calls, and the frames that they are to come for
 
-one_most : (b : Bool) → one_if b ≤ 1
-one_most true = omega arith
-one_most false = omega arith
-
 flying_most : (calls : List Bool) → flying_in calls ≤ length calls
 flying_most [] = omega arith
-flying_most (flies ∷ calls) = let one = one_most flies in let rest = flying_most calls in omega (arith, one, rest)
+flying_most (flies ∷ calls) = let one = few_if flies in let rest = flying_most calls in omega (arith, one, rest)
 
 -- where no call was given up, one at most is to come
 few_calls : (m : Machine) → Awaits m → m.outside.outer.chip.state.aborted ≡ 0 → length (flags m.outside.outer.calls) ≤ 1
@@ -77,7 +74,7 @@ few_calls m is none =
     let same = ap (λ (l : List Bool). length l) is.follows.knows.calls in
     let each = is.each_call in
     let gave_up = is.follows.knows.aborted ∙ none in
-    let one = one_most is.course.sending in
+    let one = few_if is.course.sending in
     omega (arith, same, each, gave_up, one)
 
 one_host : (m : Machine) → Awaits m → m.outside.outer.chip.state.aborted ≡ 0 → hosts_on_air m.outside.outer ≤ 1
@@ -209,10 +206,6 @@ ticks_begin to_wake most m few = few.work
 all_apart : (devices : List State) → WorkApart 4 devices → WorkApart 5 devices
 all_apart devices is = more_apart (λ a. work_at devices a) is
 
-outer_is : (m : Machine) (event : OuterEvent) → (happens m (Outside_does event)).outside ≡ happens_outside m.outside event
-unfolding happens
-outer_is m event = refl
-
 -- a frame arrives
 home_less : (sent later landed frames : ℕ) → sent - landed ≤ suc frames → later ≡ sent → later - (landed + 1) ≤ frames
 home_less sent later landed frames few same = omega (arith, few, same)
@@ -232,7 +225,7 @@ module _ (airs : Airs) (worked : Worked) (m : Machine) (drawn : List ℕ) (route
       → hosts_on_air m.outside.outer ≡ one_outward flight.heading + hosts_on_air then_there.outside.outer
   hosts_less log flight rest are fly =
       let homes : Homes log rest then_there.outside.outer.air.frames =
-      subst (λ (w : Outside). Homes log rest w.outer.air.frames) (sym (outer_is m (Arrives drawn route))) (arrives_home airs log flight rest m.outside drawn route fly) in
+      subst (λ (w : Outside). Homes log rest w.outer.air.frames) (sym (outer_of m (Arrives drawn route))) (arrives_home airs log flight rest m.outside drawn route fly) in
       let later : hosts_on_air then_there.outside.outer ≡ outward (rest ++ homes.home) = ap outward (sym (flights_are (log ++ homes.more) (rest ++ homes.home) then_there.outside.outer.air.frames homes.fly)) in
       let both = outward-append rest homes.home in
       let none = homes.none_outward in
@@ -277,7 +270,7 @@ module _ (airs : Airs) (worked : Worked) (m : Machine) (drawn : List ℕ) (route
           let log : List Mark = is.awaits.log in
           let fly : Fly log (flight ∷ (later ++ is.behind)) m.outside.outer.air.frames = subst (λ (fs : List Flown). Fly log fs m.outside.outer.air.frames) are is.awaits.follows.fly in
           let arrival : Arrival m.outside then_there.outside flight =
-          subst (λ (w : Outside). Arrival m.outside w flight) (sym (outer_is m (Arrives drawn route)))
+          subst (λ (w : Outside). Arrival m.outside w flight) (sym (outer_of m (Arrives drawn route)))
           (arrives worked m.outside flight drawn route (airs.next log flight (later ++ is.behind) m.outside.outer.air.frames fly)) in
           at_arrival flight arrival (one_host m is.awaits kept) (hosts_less log flight (later ++ is.behind) are fly) arriving
 
@@ -391,7 +384,7 @@ have_ticked place m is = record {
 
 chip_few : (m : Machine) → AreFew 0 3 m → AreFew 0 3 (happens m (Outside_does Chip_ticks))
 chip_few m few =
-    let is = outer_is m Chip_ticks in
+    let is = outer_of m Chip_ticks in
     let counted = chip_counts m.outside in
     same_few 0 3 m (happens m (Outside_does Chip_ticks)) (ap (λ (w : Outside). w.outer.air) is ∙ counted.0) (ap (λ (w : Outside). w.outer.calls) is ∙ counted.1) (ap (λ (w : Outside). w.devices) is ∙ counted.2) few
 
@@ -432,9 +425,6 @@ module _ (airs : Airs) (worked : Worked) (woken : ℕ) where
   as_is : (next to : Phase) (m : Machine) (event is : Event) → event ≡ is → next ≡ to → Leads to m is → Leads next m event
   as_is next to m event is event_is next_is leads = subst (λ (e : Event). Leads next m e) (sym event_is) (subst (λ (q : Phase). Leads q m is) (sym next_is) leads)
 
-  may_is : (m : Machine) (event is : Event) → event ≡ is → May m event → May m is
-  may_is m event is same may = subst (May m) same may
-
   event_few : (here next : Phase) (m : Machine) (event : Event) → Goes here m event next → May m event → Ground here m → FewAt woken here m → Leads next m event
   event_few (Said_line line) next m event (is, to) may ground few = as_is next (Begun line) m event (Outside_does Begins_line) is to (λ later. begins_few (length (woken_by line)) (3 + woken) m few)
   event_few (Doing line (first ∷ left)) next m event (is, to) may ground few =
@@ -444,7 +434,7 @@ module _ (airs : Airs) (worked : Worked) (woken : ℕ) where
       as_is next (Arriving frames ticks) m event (Outside_does (Arrives drawn route)) is to (λ later. arrives_few airs worked m drawn route frames ground.1 (has_kept 0 m.outside.outer ground.0.has) few)
   event_few (Giving (suc results) ticks) next m event (route, is, to) may ground few = absurd (none_given m results ground.2 ground.1.many)
   event_few (Ticking_devices place (suc count) ticks) next m event (drawn, route, is, to) may ground few =
-      as_is next (Ticking_devices (place + 1) count ticks) m event (Outside_does (Device_ticks place drawn route)) is to (λ later. ticks_few m place count drawn route (may_is m event _ is may) few)
+      as_is next (Ticking_devices (place + 1) count ticks) m event (Outside_does (Device_ticks place drawn route)) is to (λ later. ticks_few m place count drawn route (subst (May m) is may) few)
   event_few (Ticking_chip ticks) next m event (is, to) may ground few = as_is next (Ticking_decoder ticks) m event (Outside_does Chip_ticks) is to (λ later. chip_few m few)
   event_few (Ticking_decoder ticks) next m event (is, to) may ground few = as_is next (Ticking_host (tick_events m.host.state) ticks) m event Decoder_ticks is to (λ later. decoder_few m few)
   event_few (Ticking_host (first ∷ events) ticks) next m event (is, to) may ground few =

@@ -22,10 +22,9 @@ use Rattle.proof_chip.proofs.Growing.{serves_aside}
 use Rattle.proof_chip.proofs.Settling.{AreIdle}
 use Rattle.proof_chip.proofs.Standing.{goes_none}
 use Rattle.proof_chip.proofs.Fating.{IsFate, fate_other, fate_timed}
-use Rattle.proof_chip.proofs.Reckoning.{settled_now}
+use Rattle.proof_chip.proofs.Reckoning.{settled_now, settled_left}
 use Rattle.proof_answers.specs.Telling.{TellSo, TellsBefore}
 use Rattle.proof_answers.proofs.Accounts.{Grows, account_grows, posts_by}
-use Rattle.proof_answers.proofs.Due.{settled_in}
 use Rattle.proof_answers.proofs.Entering.{Parts, parts_all}
 use Rattle.proof_answers.proofs.Informing.{IsCalm}
 use Rattle.proof_answers.proofs.Landing.{Ends, before_entry, due_last, entry_are}
@@ -69,7 +68,7 @@ module _ (devices : List State) (v : Outlook) (o : OuterState) (same : v.clock �
   begun = let (frames, serves, are) = tally in subst (λ (n : ℕ). 0 < n) same (are (course_of did) (goes_none (course_of did))).begun
 
   settled : settled_clock here ≡ o.clock - 1
-  settled = settled_in o.clock left here timed
+  settled = settled_left o.clock left here timed
 
   is_open : settled_clock here < o.clock
   is_open = let at = settled in let some = begun in omega (arith, at, some)
@@ -78,7 +77,7 @@ module _ (devices : List State) (v : Outlook) (o : OuterState) (same : v.clock �
   parts_by zero is course goes = parts_all devices course o.clock here e (settled_now o.clock heard (subst (λ (n : ℕ). Timed o.clock n false heard) is timed_then))
   parts_by (suc count) is course goes =
       let (frames, serves, are) = tally in
-      before_parts devices o [] course here v true (suc left) false 0 (length frames) e same is_open (settled_in o.clock count heard (subst (λ (n : ℕ). Timed o.clock n false heard) is timed_then)) (are course goes)
+      before_parts devices o [] course here v true (suc left) false 0 (length frames) e same is_open (settled_left o.clock count heard (subst (λ (n : ℕ). Timed o.clock n false heard) is timed_then)) (are course goes)
 
   -- what comes of it is given, and the state is such as the transcript says
   pub fate_tells : (there : List State) (rest : List AirEvent) (more : List FrameParts) → posts_by (all_account there rest o) ≡ more → AreIdle (each (deals there) o rest).entries → AllByRecursion IsCalm (each (deals there) o rest).entries

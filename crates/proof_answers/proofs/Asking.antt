@@ -25,7 +25,7 @@ use Rattle.proof_chip.proofs.Airing.{IsNoAck, answer, asked_here, last_answered,
 use Rattle.proof_chip.proofs.Answered.{GivesNone}
 use Rattle.proof_chip.proofs.Picking.{shown_both}
 use Rattle.proof_chip.proofs.Replying.{none_filtered, settled_same}
-use Rattle.proof_chip.proofs.Totals.{IsApartFrom, WasAsked, elsewhere, stays_out, was_asked}
+use Rattle.proof_chip.proofs.Totals.{IsApartFrom, WasAsked, elsewhere, stays_out, was_asked, none_out}
 use Rattle.proof_answers.specs.Owing.{Ends, Informs, Owed, asked_in_tick, dues, has_no_route, informs, is_of_tick, owed_by, owed_in, owed_now, owed_of, unrouted}
 use Rattle.proof_answers.proofs.Entering.{none_called, owed_both, owed_same}
 
@@ -104,10 +104,6 @@ only_dues all ticks (no_route_due ∷ due) =
     by false = only_ends all
 
 -- ---- where other SendData are under way
-
-none_out : (past : List Entry) (one : Asked) (sendings : List Sending) → AllByRecursion (IsApartFrom past one) sendings → filter (stays_out past one) sendings ≡ []
-none_out past one [] apart = refl
-none_out past one (s ∷ sendings) apart = ap₂ (λ (b : Bool) (l : List Sending). if b then s ∷ l else l) apart.0 (none_out past one sendings apart.1)
 
 -- none of them was taken there, or each has its frame
 owed_apart : (course : Course) (past : List Entry) (all : List Asked) → AllByRecursion (λ (one : Asked). AllByRecursion (IsApartFrom past one) (last_sending course past)) all → owed_in course past all ≡ informs_all all

@@ -33,13 +33,6 @@ settled_by clock left true past timed = let is = settled_all past (timed.landed 
 settled_by clock zero false past timed = let is = settled_now clock past timed in omega (arith, is)
 settled_by clock (suc left) false past timed = let is = settled_some past left (timed.fates refl) in let now = timed.now refl in omega (arith, is, now)
 
--- in a tick whose number stands, and in which so many fates are to come
-pub settled_in : (clock left : ℕ) (past : List Entry) → Timed clock (suc left) false past → settled_clock past ≡ clock - 1
-settled_in clock left past timed = settled_some past left (timed.fates refl) ∙ ap (λ (n : ℕ). n - 1) (timed.now refl)
-
-pub settled_under : (clock left : ℕ) (past : List Entry) → Timed clock left true past → settled_clock past < clock
-settled_under clock left past timed = let is = settled_all past (timed.landed refl) in let below = timed.was refl in omega (arith, is, below)
-
 -- ---- where no results are to come
 
 module _ (devices : List State) (v : Outlook) (awaits : Bool) (coming count : ℕ) (course : Course) (past : List Entry) (was : TallyNow devices v awaits coming count course past) where

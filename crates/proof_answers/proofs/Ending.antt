@@ -112,7 +112,7 @@ dues_none ticks (no_route_due ∷ due) = none_first (has_no_route due)
     none_first false = refl
 dues_none ticks (Info node ∷ due) = ap (λ (l : List Owed). Informs node ticks ∷ l) (dues_none ticks due)
 
-has_some : (due : List Due) → 0 < no_routes_due due → has_no_route due ≡ true
+pub has_some : (due : List Due) → 0 < no_routes_due due → has_no_route due ≡ true
 has_some [] some = absurd (omega (arith, some))
 has_some (no_route_due ∷ due) some = refl
 has_some (Info node ∷ due) some = has_some due (omega (arith, some))

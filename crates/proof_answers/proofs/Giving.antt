@@ -35,7 +35,7 @@ use Rattle.proof_chip.specs.proof_line.proof_traffic.Facts.{flying_in, one_if}
 use Rattle.proof_chip.specs.proof_line.proof_traffic.OutsideTraffic.{flags, no_routes_due, without_frame}
 use Rattle.proof_devices.proofs.Times.{does_chip, does_time}
 use Rattle.proof_chip.specs.Serving.{Serves, frame_texts}
-use Rattle.proof_chip.proofs.Giving.{done_rests, informed_rests}
+use Rattle.proof_chip.proofs.Giving.{done_rests, informed_rests, drop_flies}
 use Rattle.proof_chip.proofs.Growing.{frames_both}
 use Rattle.proof_chip.proofs.Judged.{goes_back}
 use Rattle.proof_chip.proofs.Owing.{no_route_quiet, quiet_call, without_call, without_due}
@@ -43,11 +43,11 @@ use Rattle.proof_chip.proofs.Replying.{none_filtered}
 use Rattle.proof_answers.specs.Owing.{Ends, Informs, Owed, come, dues, ends_in, has_no_route, owed_by, owed_in, owed_now}
 use Rattle.proof_answers.specs.Telling.{HasFailing, IsUnder, TellSo, Tells, TellsBefore, called_by, told_by}
 use Rattle.proof_answers.proofs.Accounts.{account_grows, posts_by}
-use Rattle.proof_answers.proofs.Ending.{Calmly, calmly, own_posts, route_posts}
+use Rattle.proof_answers.proofs.Ending.{Calmly, calmly, own_posts, route_posts, has_some}
 use Rattle.proof_answers.proofs.Lists.{tells_are, tells_those}
 use Rattle.proof_answers.proofs.Moving.{gives_on}
 use Rattle.proof_answers.proofs.Owning.{failing_more}
-use Rattle.proof_answers.proofs.Standing.{before_idle}
+use Rattle.proof_answers.proofs.Standing.{before_idle, ends_both}
 
 -- ---- calls of no frame
 
@@ -64,10 +64,6 @@ last_none b [] none is = is
 last_none b (OfFrame ∷ calls) none is = absurd (omega (arith, none))
 last_none b (no_route_call ∷ calls) none is = last_none false calls (no_more (flying_in (flags calls)) none) refl
 
-drop_none : (calls : List Call) → flying_in (flags calls) ≡ 0 → flying_in (flags (drop 1 calls)) ≡ 0
-drop_none [] none = refl
-drop_none (call ∷ calls) none = omega (arith, none)
-
 -- where none is due
 none_due : (own : List Owed) (ticks : ℕ) (due : List Due) → no_routes_due due ≡ 0 → dues own ticks due ≡ dues [] ticks due
 none_due own ticks [] none = refl
@@ -79,11 +75,6 @@ has_none [] none = refl
 has_none (no_route_due ∷ due) none = absurd (omega (arith, none))
 has_none (Info node ∷ due) none = has_none due (no_more (no_routes_due due) none)
 
-has_one : (due : List Due) → 0 < no_routes_due due → has_no_route due ≡ true
-has_one [] some = absurd (omega (arith, some))
-has_one (no_route_due ∷ due) some = refl
-has_one (Info node ∷ due) some = has_one due (omega (arith, some))
-
 -- ---- by what is told and what is left
 
 -- what is given is the first of what was left: the state is such, and those that ended count
@@ -94,11 +85,6 @@ record Next (devices : List State) (o p : OuterState) (more : List FrameParts) (
   fits : Tells devices (frame_texts more) (map (come past) first) []
   under : IsUnder p.chip.state.sending (last_sending course past)
   failing : (calls : List Called) → HasFailing o.chip.state.failing calls → HasFailing p.chip.state.failing (calls ++ ends_in first)
-
-ends_append : (one more : List Owed) → ends_in (one ++ more) ≡ ends_in one ++ ends_in more
-ends_append [] more = refl
-ends_append (Ends called ∷ one) more = ap (λ (l : List Called). called ∷ l) (ends_append one more)
-ends_append (Informs node ticks ∷ one) more = ends_append one more
 
 module _ (devices : List State) (o p : OuterState) (more : List FrameParts) (frames : List FrameParts) (course : Course) (past : List Entry) (next : Next devices o p more course past) where
   abbrev ticks : ℕ
@@ -120,7 +106,7 @@ module _ (devices : List State) (o p : OuterState) (more : List FrameParts) (fra
         ap (λ (n : ℕ). called_by n course past) next.time
         ∙ (was.ended
         ∙ (ap (λ (l : List Owed). was.calls ++ ends_in l) next.owes
-        ∙ (ap (λ (l : List Called). was.calls ++ l) (ends_append next.first (owed_now course past ticks p))
+        ∙ (ap (λ (l : List Called). was.calls ++ l) (ends_both next.first (owed_now course past ticks p))
         ∙ (sym (append_assoc was.calls (ends_in next.first) (ends_in (owed_now course past ticks p)))
         ∙ ap (λ (n : ℕ). (was.calls ++ ends_in next.first) ++ ends_in (owed_now course past (n - 1) p)) (sym next.time)))));
     failing = next.failing was.calls was.failing;
@@ -198,10 +184,10 @@ module _ (devices : List State) (there : List State) (o : OuterState) (route : O
           let here = ap no_routes_due is in
           let flag : one_if (is_some o.chip.state.sending) ≡ 1 = ap (λ (b : Bool). one_if b) sends in
           let enough = each_call in
-          let more : has_no_route due ≡ true = has_one due (omega (arith, counts, here, flag, enough, some)) in
+          let more : has_no_route due ≡ true = has_some due (omega (arith, counts, here, flag, enough, some)) in
           ap₂ (λ (b : Bool) (l : List Due). shape (is_some o.chip.state.sending) b l) last_is is
           ∙ (ap (λ (b : Bool). (if b then [] else map (λ (one : Called). Ends one) (if is_some o.chip.state.sending && true then ended_by NoRoute (last_sending course past) else [])) ++ shape (is_some o.chip.state.sending) false due) more
-          ∙ sym (ap₂ (λ (b : Bool) (l : List Due). shape (is_some o.chip.state.sending) b l) (last_none false (drop 1 o.calls) (drop_none o.calls calm) refl) less_is))
+          ∙ sym (ap₂ (λ (b : Bool) (l : List Due). shape (is_some o.chip.state.sending) b l) (last_none false (drop 1 o.calls) (drop_flies o.calls calm) refl) less_is))
 
   -- that of the SendData under way
   own_next : (due : List Due) → o.due ≡ no_route_due ∷ due → o.chip.state.aborted ≡ 0 → (parts : SendingParts) → o.chip.state.sending ≡ Some parts → IsUnder (Some parts) (last_sending course past) → Gives_so (no_route_due ∷ due)

@@ -13,14 +13,13 @@ use Rattle.zw_text.specs.declared.entry.Entry.{Entry}
 use Rattle.zw_text.specs.declared.entry.Entry.TheVariants as entry
 use Rattle.zw_text.specs.Transcript.{AirFrame}
 use Rattle.law_transcript.specs.Carrying.{homeward}
-use Rattle.law_transcript.specs.Fates.{first_fate}
 use Rattle.law_transcript.specs.Lists.{listed}
 use Rattle.law_transcript.specs.Nodes.{controller}
 use Rattle.law_transcript.specs.Repeats.{frame_of}
 use Rattle.law_transcript.specs.Restarts.{repeats}
 use Rattle.law_transcript.specs.Units.{Carried}
 use Rattle.law_wire.specs.Asked.{Course}
-use Rattle.law_wire.specs.Results.{Called, came_due, ended_at, ended_by, sent_as, settled_clock, status_heard}
+use Rattle.law_wire.specs.Results.{Called, came_due, settled_clock}
 use Rattle.law_wire.specs.Given.{Frame, Given, callback_of, given_at, handler_of, handlers_at, notice_frame, results_of}
 use Rattle.outside_model.specs.Devices.{State}
 use Rattle.outside_model.specs.State.{OuterState, Outcome, each, silent}
@@ -32,7 +31,7 @@ use Rattle.proof_devices.specs.proof_air.Carrying.{IsHome}
 use Rattle.proof_chip.proofs.ChipAccounts.{all_account, heard_account, steps_by}
 use Rattle.proof_chip.specs.Serving.{as_given}
 use Rattle.proof_chip.proofs.Growing.{serves_aside}
-use Rattle.proof_chip.proofs.Hearing.{has_room, heard_rests}
+use Rattle.proof_chip.proofs.Hearing.{has_room, heard_rests, again_ends, again_fate, first_payload}
 use Rattle.proof_chip.proofs.Replying.{settled_same}
 use Rattle.proof_chip.proofs.Settling.{AreIdle}
 use Rattle.proof_answers.specs.Telling.{TellSo, TellsNow}
@@ -58,10 +57,6 @@ abbrev first_node : List Carried → ℕ
 first_node [] = 0
 first_node (one ∷ more) = one.node
 
-abbrev first_payload : List Carried → List ℕ
-first_payload [] = []
-first_payload (one ∷ more) = one.payload
-
 -- where a handler has room for its payload, just that is told
 pub handlers_are : (past : List Entry) (number node : ℕ) (payload : List ℕ) → IsHome past number node payload → handlers_at past (entry.Heard number) ≡ as_given (heard_frames (has_room payload) node payload)
 handlers_are past number node payload home = by (frame_of past number) home
@@ -79,13 +74,6 @@ handlers_are past number node payload home = by (frame_of past number) home
     by : (found : Option AirFrame) → homeward found ≡ record { node = node; payload = payload } ∷ [] → flat_map handler_of (listed found) ≡ as_given (heard_frames (has_room payload) node payload)
     by None is = absurd cc
     by (Some frame) is = at frame (frame.receiver == controller) refl is
-
--- no SendData ends where a frame is heard again
-again_ends : (course : Course) (past : List Entry) (number : ℕ) → repeats past ≡ true → ended_at course past (entry.Heard number) ≡ []
-again_ends course past number is = ap (λ (b : Bool). if b then [] else ended_by (status_heard past) (sent_as course past number)) is
-
-again_fate : (past : List Entry) (number : ℕ) → repeats past ≡ true → first_fate past (entry.Heard number) ≡ []
-again_fate past number is = ap (λ (b : Bool). if b then [] else number ∷ []) is
 
 -- ---- outside the host
 

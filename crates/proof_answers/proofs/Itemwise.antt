@@ -23,7 +23,6 @@ use Rattle.chip_sim.specs.Events.{ChipEvent, Judged, after, collides, outs}
 use Rattle.chip_sim.specs.Link.{link_steps}
 use Rattle.chip_sim.specs.Rules.{judged_posts, over, posts}
 use Rattle.chip_sim.specs.declared.out.Sending.{Sending as SendingParts}
-use Rattle.zw_words.specs.declared.side.Side.TheVariants.{Chip as by_chip}
 use Rattle.zw_text.specs.declared.entry.Entry.{Entry}
 use Rattle.zw_text.specs.declared.entry.Entry.TheVariants as entry
 use Rattle.law_transcript.specs.Lists.{EachAfter}
@@ -47,7 +46,7 @@ use Rattle.proof_chip.proofs.Answered.{GivesNone}
 use Rattle.proof_chip.proofs.Going.{apart_goes}
 use Rattle.proof_chip.proofs.Items.{Now, number_puts, one_item, quiet_rests}
 use Rattle.proof_chip.proofs.Putting.{Puts}
-use Rattle.proof_chip.proofs.Judged.{decided, goes_back, judged_nodes, none_passed, passed_at, put_shows}
+use Rattle.proof_chip.proofs.Judged.{decided, goes_back, judged_nodes, none_passed, passed_at, put_shows, gives_no_ack}
 use Rattle.proof_chip.proofs.Judges.{both_none, item_keeps, items_of, items_same, silent_item}
 use Rattle.proof_chip.proofs.Keeping.{number_apart}
 use Rattle.proof_chip.proofs.Passing.{ShowsNone, shown_all}
@@ -63,10 +62,6 @@ use Rattle.proof_answers.proofs.Moving.{map_so, now_numbered, now_on, now_settle
 use Rattle.proof_answers.proofs.Standing.{SameOwing, now_as}
 
 -- ---- what the chip knows of nodes
-
-gives_no_ack : (e : Entry) → GivesNone e → IsNoAck e
-gives_no_ack (entry.Written by_chip unit) none = none
-gives_no_ack e none = tt
 
 stopped_listening : (x : Option SendingParts) (s : ChipState) → (stopped x s).listening ≡ s.listening
 stopped_listening None s = refl

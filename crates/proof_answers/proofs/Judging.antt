@@ -21,8 +21,7 @@ use Rattle.chip_sim.specs.Rules.{listed as listed_of}
 use Rattle.chip_sim.specs.declared.out.Sending.{Sending as SendingParts}
 use Rattle.zw_text.specs.declared.entry.Entry.{Entry}
 use Rattle.zw_text.specs.declared.entry.Entry.TheVariants as entry
-use Rattle.zw_text.specs.Transcript.{AirFrame, frame_at, frames}
-use Rattle.zw_text.proofs.Views.{shown-append}
+use Rattle.zw_text.specs.Transcript.{AirFrame, frames}
 use Rattle.law_transcript.specs.Lists.{EachAfter, last_or, listed}
 use Rattle.law_transcript.specs.Nodes.{is_joined}
 use Rattle.law_wire.specs.Asked.{Asked, Course, Sending, acks, asked, clock_of, course_of, in_tick, last_sending, requests_of, sending_after, sending_of, takes}
@@ -43,11 +42,11 @@ use Rattle.proof_chip.proofs.Parts.{Laws}
 use Rattle.proof_host.proofs.Lists.{each-append}
 use Rattle.proof_chip.specs.Serving.{GoesOn, HasGiven, as_given, frame_texts}
 use Rattle.proof_chip.specs.Sending.{AreSending, ItemsSo, TieAir}
-use Rattle.proof_chip.proofs.Airing.{IsMore, IsNoAck, answer, requests_are}
+use Rattle.proof_chip.proofs.Airing.{IsNoAck, answer, requests_are}
 use Rattle.proof_chip.proofs.Answered.{GivesNone, given_answered}
 use Rattle.proof_chip.proofs.Growing.{frames_both, many_frames}
 use Rattle.proof_chip.proofs.Answering.{shows, state_is}
-use Rattle.proof_chip.proofs.Putting.{Puts, taken_within}
+use Rattle.proof_chip.proofs.Putting.{Puts, frames_more, more_frames, taken_within}
 use Rattle.proof_chip.proofs.Judged.{goes_back}
 use Rattle.proof_chip.proofs.Leaving.{Airs, LeavesSo, LeavesTaken, Quiet, Shows}
 use Rattle.proof_chip.proofs.Payloads.{has_payload}
@@ -131,14 +130,6 @@ module _ (devices : List State) (o p : OuterState) (course : Course) (past tail 
   }
 
 -- ---- what a request leaves
-
-more_frames : (told : List Entry) → AllByRecursion IsMore told → frames told ≡ []
-more_frames [] more = refl
-more_frames (entry.Air frame sender receiver repeaters payload ∷ told) more = absurd (let no : false ≡ true = more.0.0 in cc)
-more_frames (e ∷ told) more = more_frames told more.1
-
-frames_more : (past rest : List Entry) → AllByRecursion IsMore rest → frames (past ++ answer ∷ rest) ≡ frames past
-frames_more past rest more = shown-append frame_at past (answer ∷ rest) ∙ (ap (λ (l : List AirFrame). frames past ++ l) (more_frames rest more) ∙ append-nil (frames past))
 
 plus_dues : (own : List Owed) (ticks : ℕ) (due : List Due) → dues own ticks (due ++ []) ≡ dues own ticks due ++ []
 plus_dues own ticks due = ap (λ (l : List Due). dues own ticks l) (append-nil due) ∙ sym (append-nil (dues own ticks due))

@@ -22,11 +22,10 @@ use Rattle.proof_chip.proofs.Replying.{none_filtered}
 use Rattle.proof_chip.proofs.Settling.{AreIdle}
 use Rattle.proof_chip.proofs.Standing.{goes_none}
 use Rattle.proof_chip.proofs.Tallied.{before_number_t, now_number_t}
-use Rattle.proof_chip.proofs.Reckoning.{settled_now}
+use Rattle.proof_chip.proofs.Reckoning.{settled_now, settled_left, settled_was}
 use Rattle.proof_answers.specs.Owing.{come, owed_in}
 use Rattle.proof_answers.specs.Telling.{Telling, TellSo, TellsBefore, TellsNow, told_by}
 use Rattle.proof_answers.proofs.Accounts.{Grows}
-use Rattle.proof_answers.proofs.Due.{settled_in, settled_under}
 use Rattle.proof_answers.proofs.Entering.{Parts, parts_all}
 use Rattle.proof_answers.proofs.Lists.{tells_are}
 use Rattle.proof_answers.proofs.Standing.{SameOwing, before_number, before_parts, now_as, now_idle, now_number}
@@ -75,8 +74,8 @@ module _ (devices : List State) where
           (subst (λ (n : ℕ). Timed o.clock n false (past ++ entry.Time o.clock ∷ [])) is (timed_before o arriving count false did (past ++ entry.Time o.clock ∷ []) port tally)))
       parts_here (suc left) is (frames, serves, are) tally course goes =
           let was = are course goes in
-          before_parts devices o [] course past (outlook o) arriving count true 0 (length frames) (entry.Time o.clock) refl (settled_under o.clock count past was.timed)
-          (settled_in o.clock left (past ++ entry.Time o.clock ∷ [])
+          before_parts devices o [] course past (outlook o) arriving count true 0 (length frames) (entry.Time o.clock) refl (settled_was o.clock count past was.timed)
+          (settled_left o.clock left (past ++ entry.Time o.clock ∷ [])
           (subst (λ (n : ℕ). Timed o.clock n false (past ++ entry.Time o.clock ∷ [])) is (timed_before o arriving count false did (past ++ entry.Time o.clock ∷ []) port tally))) was
 
       before_by : (b : Bool) → TallySo (TallyBefore devices (outlook o) arriving count b 0) did past port → TellSo (TellsBefore devices arriving o) did past port
@@ -87,7 +86,7 @@ module _ (devices : List State) where
             serves_aside did frames past (entry.Time o.clock ∷ []) port port (tt, tt) refl refl serves,
             λ course goes.
                 before_number devices o frames course past arriving (parts_here count refl tally numbered course goes)
-                (settled_under o.clock count past (timed_before o arriving count true did past port tally)) (are course goes),
+                (settled_was o.clock count past (timed_before o arriving count true did past port tally)) (are course goes),
           )
       before_by false tally so = subst (λ (l : List Entry). TellSo (TellsBefore devices arriving o) did l port) (sym (append-nil past)) so
 

@@ -81,7 +81,7 @@ module _ (devices : List State) (o p : OuterState) (same : SameOwing o p) (frame
 
 -- ---- what is owed, as SendData that end
 
-ends_both : (one more : List Owed) → ends_in (one ++ more) ≡ ends_in one ++ ends_in more
+pub ends_both : (one more : List Owed) → ends_in (one ++ more) ≡ ends_in one ++ ends_in more
 ends_both [] more = refl
 ends_both (Ends called ∷ one) more = ap (λ (l : List Called). called ∷ l) (ends_both one more)
 ends_both (Informs node ticks ∷ one) more = ends_both one more

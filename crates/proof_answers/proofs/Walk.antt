@@ -62,10 +62,15 @@ use Rattle.proof_chip.proofs.Settling.{AreIdle, IsIdle}
 use Rattle.proof_chip.proofs.Steady.{hosts_chip, hosts_within, steady_within}
 use Rattle.proof_chip.proofs.Tallied.{before_number_t, chip_idle}
 use Rattle.proof_chip.proofs.Reckoning.{settled_now}
-use Rattle.proof_chip.proofs.Hosted.{BeforeSo, IsOfHost, NowSo, covers_answer, covers_host, hosts_keep as hosts_count, host_covers, many_sent, no_steps}
-use Rattle.proof_chip.proofs.Outsides.{Collides_it, Kind, Repeats_one, Stays_still, Ticks_chip, apart_here, kind_of, same_frames, still_steps, unanswered}
+use Rattle.proof_chip.proofs.Hosted.{BeforeSo, IsOfHost, NowSo, covers_answer, covers_host, hosts_keep as hosts_count, host_covers, no_steps}
+use Rattle.proof_chip.proofs.Outsides.{Collides_it, Kind, Repeats_one, Stays_still, Ticks_chip, apart_here, kind_of, still_steps}
 use Rattle.proof_chip.proofs.Tallies.{again_of}
+use Rattle.proof_chip.proofs.LandingWalk.{sent_frames}
 use Rattle.proof_chip.proofs.Telling.{AreAside, IsAside}
+use Rattle.proof_chip.proofs.Quieting.{unanswered}
+use Rattle.proof_chip.proofs.Finishing.{no_length}
+use Rattle.proof_chip.proofs.Outside.{may_outside}
+use Rattle.proof_chip.proofs.Items.{number_frames}
 use Rattle.proof_answers.specs.Telling.{KnowTells, TellSo, TellsBefore, TellsNow}
 use Rattle.proof_answers.proofs.Accounts.{aside_grows, event_grows}
 use Rattle.proof_answers.proofs.Moving.{before_numbered, event_now, map_so, now_settled, timed_before}
@@ -153,7 +158,7 @@ module _ (devices : List State) (laws : Laws) (none : NoNexting) (did : List Ste
   ticks_tell =
       let fed : OuterState = record w.outer { chip = record { decoder = after_tick w.outer.chip.decoder; state = w.outer.chip.state } } in
       let x : Outcome = chip_does fed ticked_event in
-      let idle = chip_idle fed ticked_event (unanswered (collides w.outer.chip.state) ticked_event (inl refl)) in
+      let idle = chip_idle fed ticked_event (unanswered (collides w.outer.chip.state) ticked_event tt) in
       event_now devices w.outer x.outer did (link_steps w.outer.chip.state ticked_event) past (steady_owing laws none past w tie Chip_ticks tt) (number_stays Chip_ticks tt) tally so x.entries idle
       (λ here frames serves. event_grows devices did frames here fed ticked_event idle serves)
 
@@ -211,7 +216,7 @@ module _ (devices : List State) (laws : Laws) (none : NoNexting) (did : List Ste
       let not_false : true ≡ false → suc left ≡ 0 = λ is. absurd (let no : true ≡ false = is in cc) in
       let numbered = before_number_t devices (outlook w.outer) true (suc left) (awaits_number w.outer) not_false did past w.outer.chip.state.port tally in
       let got =
-      arrives_tells devices laws past w tie waits flight flights left did here on (same_frames devices laws none did past w tie (awaits_number w.outer) w.outer.clock) calm (number_marks past (awaits_number w.outer) w.outer.clock ∙ acks) numbered
+      arrives_tells devices laws past w tie waits flight flights left did here on (number_frames (awaits_number w.outer) w.outer.clock past) calm (number_marks past (awaits_number w.outer) w.outer.clock ∙ acks) numbered
       (before_numbered devices w.outer did past w.outer.chip.state.port true (suc left) not_false tally so) drawn route fates.1 in
       let number : ticked_entry x.outer ≡ ticked_entry w.outer = same_number w.outer x.outer (outcome_time w (Arrives drawn route) tt) in
       before_entered devices true x.outer x.entries (did ++ steps_by (steps_account w (mesh.Arrives drawn route))) past
@@ -342,10 +347,6 @@ module _ (devices : List State) (laws : Laws) (none : NoNexting) (Ground : Phase
   tick_begins ticks past m ground tally so = tick_tells devices laws none did past m.outside (law.history (To_tick (suc ticks)) past m ground) tally.0 so
 
   -- the next frame arrives, and what is due is given
-  may_outside : (m : Machine) (event : OuterEvent) → May m (Outside_does event) → MayOutside m.outside event
-  unfolding May
-  may_outside m event may = may.1
-
   outside_before : (past : List Entry) (m : Machine) (event : OuterEvent) (arriving : Bool) → BeforeTold devices arriving (did ++ outer_steps m.outside event) (past ++ entries_outside m.outside event) (happens_outside m.outside event).outer
       → BeforeTold devices arriving (did ++ event_steps m (Outside_does event)) (past ++ entries m (Outside_does event)) (happens m (Outside_does event)).outside.outer
   unfolding happens entries event_steps
@@ -400,7 +401,7 @@ module _ (devices : List State) (laws : Laws) (none : NoNexting) (Ground : Phase
   unfolding MayOutside outer_steps
   takes_go past w count rest ways may tie networks agrees airs tally so =
       takes_told devices laws did w count rest ways may past agrees airs
-      (record { log = tie.log; fly = flying tie.log w.outer.air.frames tie.kept; sent = many_sent past w tie; joined = tie.chip }) (chip_knows past w networks) tally so
+      (record { log = tie.log; fly = flying tie.log w.outer.air.frames tie.kept; sent = sent_frames past w tie; joined = tie.chip }) (chip_knows past w networks) tally so
 
   takes : (passes ticks : ℕ) (past : List Entry) (m : Machine) (rest : Rest) (ways : List (Item × Option Route)) → May m (Outside_does (Chip_takes (length m.outside.outer.to_chip.bytes) rest ways))
       → Ground (Moving passes ticks) past m → KnowAir devices did (Moving passes ticks) past m → KnowTally devices did (Moving passes ticks) past m → NowTold devices did past m.outside.outer
@@ -450,10 +451,6 @@ module _ (devices : List State) (laws : Laws) (none : NoNexting) (Ground : Phase
   to : (next phase : Phase) (past : List Entry) (m : Machine) → next ≡ phase → KnowTells devices did phase past m → KnowTells devices did next past m
   to next phase past m is known = subst (λ (q : Phase). KnowTells devices did q past m) (sym is) known
 
-  no_due : (due : List Due) → length due ≡ 0 → due ≡ []
-  no_due [] is = refl
-  no_due (first ∷ due) is = absurd (omega (arith, is))
-
   given_all : (o : OuterState) (past : List Entry) → o.due ≡ [] → TallySo (TallyBefore devices (outlook o) false 0 (awaits_number o) 0) did past o.chip.state.port → BeforeTold devices false did past o → NowTold devices did past o
   given_all o past due (counted, count_serves, counts) (frames, serves, are) =
       (frames, serves, λ course goes. before_over devices o frames course past (outlook o) false 0 (awaits_number o) 0 (length counted) refl due (counts course goes) (are course goes))
@@ -468,7 +465,7 @@ module _ (devices : List State) (laws : Laws) (none : NoNexting) (Ground : Phase
       to next (Giving _ ticks) past m next_is
       (map_so devices (TellsBefore devices true m.outside.outer) (TellsBefore devices false m.outside.outer) (λ frames course all was. before_arrived devices m.outside.outer frames course all was) did past m.outside.outer.chip.state.port known)
   tells_turn (Giving zero ticks) next past m next_is ground tally known =
-      to next (Ticking_devices 0 _ ticks) past m next_is (given_all m.outside.outer past (no_due m.outside.outer.due (calls (Giving 0 ticks) past m ground).1.many) tally.0 known)
+      to next (Ticking_devices 0 _ ticks) past m next_is (given_all m.outside.outer past (no_length m.outside.outer.due (calls (Giving 0 ticks) past m ground).1.many) tally.0 known)
   tells_turn (Ticking_devices place zero ticks) next past m next_is ground tally known = to next (Ticking_chip ticks) past m next_is known
   tells_turn (Ticking_host [] ticks) next past m next_is ground tally known = to next (Sleeping 64 ticks) past m next_is known
   tells_turn (Sleeping passes ticks) next past m (wants, next_is) ground tally known = to next (Submitting passes ticks) past m next_is known

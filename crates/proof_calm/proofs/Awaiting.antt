@@ -63,7 +63,11 @@ less_one : (calls : List Bool) → length (drop 1 calls) ≡ length calls - 1
 less_one [] = refl
 less_one (call ∷ calls) = omega arith
 
-few_if : (b : Bool) → one_if b ≤ 1
+pub outer_of : (m : Machine) (event : OuterEvent) → (happens m (Outside_does event)).outside ≡ happens_outside m.outside event
+unfolding happens
+outer_of m event = refl
+
+pub few_if : (b : Bool) → one_if b ≤ 1
 few_if true = omega arith
 few_if false = omega arith
 
@@ -192,10 +196,6 @@ module _ (laws : Outsides) where
 
   -- ---- a frame arrives
 
-  outer_of : (m : Machine) (event : OuterEvent) → (happens m (Outside_does event)).outside ≡ happens_outside m.outside event
-  unfolding happens
-  outer_of m event = refl
-
   none_both : (all a b : ℕ) → all ≡ a + b → a ≡ 0 → b ≡ 0 → all ≡ 0
   none_both all a b x y z = omega arith
 
@@ -281,20 +281,17 @@ module _ (laws : Outsides) where
   as_is next to m event is event_is next_is leads =
       subst (λ (e : Event). AwaitsAt next (happens m e)) (sym event_is) (subst (λ (q : Phase). AwaitsAt q (happens m is)) (sym next_is) leads)
 
-  may_is : (m : Machine) (event is : Event) → event ≡ is → May m event → May m is
-  may_is m event is same may = subst (May m) same may
-
   pub event_awaits : (here next : Phase) (m : Machine) (event : Event) → Goes here m event next → May m event → LineAt here m → AwaitsAt here m → AwaitsAt next (happens m event)
-  event_awaits (Said_line line) next m event (is, to) may line_at at = as_is next (Begun line) m event (Outside_does Begins_line) is to (outside_awaits m Begins_line (may_is m event _ is may) tt at)
-  event_awaits (Doing line (first ∷ left)) next m event (is, to) may line_at at = as_is next (Doing line left) m event first is to (effect_awaits m first line_at.0.0 (may_is m event first is may) at)
-  event_awaits (To_tick (suc ticks)) next m event (is, to) may line_at at = as_is next (Ticked ticks) m event (Outside_does Begins_tick) is to (outside_awaits m Begins_tick (may_is m event _ is may) tt at)
+  event_awaits (Said_line line) next m event (is, to) may line_at at = as_is next (Begun line) m event (Outside_does Begins_line) is to (outside_awaits m Begins_line (subst (May m) is may) tt at)
+  event_awaits (Doing line (first ∷ left)) next m event (is, to) may line_at at = as_is next (Doing line left) m event first is to (effect_awaits m first line_at.0.0 (subst (May m) is may) at)
+  event_awaits (To_tick (suc ticks)) next m event (is, to) may line_at at = as_is next (Ticked ticks) m event (Outside_does Begins_tick) is to (outside_awaits m Begins_tick (subst (May m) is may) tt at)
   event_awaits (Arriving (suc frames) ticks) next m event (drawn, route, is, to) may line_at at =
-      as_is next (Arriving frames ticks) m event (Outside_does (Arrives drawn route)) is to (arrives_awaits m drawn route frames (may_is m event _ is may) at)
+      as_is next (Arriving frames ticks) m event (Outside_does (Arrives drawn route)) is to (arrives_awaits m drawn route frames (subst (May m) is may) at)
   event_awaits (Giving (suc results) ticks) next m event (route, is, to) may line_at at =
-      as_is next (Giving results ticks) m event (Outside_does (Gives route)) is to (gives_awaits m route results (may_is m event _ is may) at)
+      as_is next (Giving results ticks) m event (Outside_does (Gives route)) is to (gives_awaits m route results (subst (May m) is may) at)
   event_awaits (Ticking_devices place (suc count) ticks) next m event (drawn, route, is, to) may line_at at =
-      as_is next (Ticking_devices (place + 1) count ticks) m event (Outside_does (Device_ticks place drawn route)) is to (device_awaits m place drawn route (may_is m event _ is may) at)
-  event_awaits (Ticking_chip ticks) next m event (is, to) may line_at at = as_is next (Ticking_decoder ticks) m event (Outside_does Chip_ticks) is to (chip_awaits m (may_is m event _ is may) at)
+      as_is next (Ticking_devices (place + 1) count ticks) m event (Outside_does (Device_ticks place drawn route)) is to (device_awaits m place drawn route (subst (May m) is may) at)
+  event_awaits (Ticking_chip ticks) next m event (is, to) may line_at at = as_is next (Ticking_decoder ticks) m event (Outside_does Chip_ticks) is to (chip_awaits m (subst (May m) is may) at)
   event_awaits (Ticking_decoder ticks) next m event (is, to) may line_at at = as_is next (Ticking_host _ ticks) m event Decoder_ticks is to (decoder_none m at)
   event_awaits (Ticking_host (first ∷ events) ticks) next m event (is, to) may line_at at = as_is next (Ticking_host events ticks) m event (Host_does first) is to (host_none m first at)
   event_awaits (Sleeping passes ticks) next m event (node, wants, is, to) may line_at at =

@@ -49,6 +49,7 @@ use Rattle.proof_work.specs.proof_walk.Phases.{Ticked}
 use Rattle.proof_waking.proofs.ChipNotices.{does_said, done_said, queued_said}
 use Rattle.proof_calm.specs.Tied.{RoomAt}
 use Rattle.proof_calm.proofs.ChipPart.{entered_state}
+use Rattle.proof_calm.proofs.Awaiting.{few_if}
 
 -- ---- the chip
 
@@ -58,10 +59,6 @@ waits s = length s.port.waiting
 -- with one for the call of the payload that it sends
 abbrev weight : ChipState → ℕ
 weight s = waits s + one_if (is_some s.sending)
-
-few_if : (b : Bool) → one_if b ≤ 1
-few_if true = omega arith
-few_if false = omega arith
 
 queued_most : (t : Turn) (port : PortState) (frame : FrameParts) → length (queued_at t port frame).waiting ≤ length port.waiting + 1
 queued_most Idle port frame = omega arith

@@ -156,7 +156,7 @@ calls_are h id status events is =
     subst (λ (r : Result Notice BodyFault). NoticeEvents h r events)
     (notice_only (notice_function (SendData id status)) (notice_body (SendData id status)) (SendData id status) (record { row = tt; function = refl; tail = []; text = sym (append-nil (notice_body (SendData id status))) })) is
 
-both : (a b : Bool) → a ≡ true → b ≡ true → (a && b) ≡ true
+pub both : (a b : Bool) → a ≡ true → b ≡ true → (a && b) ≡ true
 both a b one two = rw one two
 
 pub call_ends : (h : HostState) (u : UnderWay) (status : TransmitStatus) (events : List HostEvent) → IsSending u h → FrameFollows h (notice_frame (SendData h.requests.last_id status)) events

@@ -11,6 +11,7 @@ use Rattle.serial_frame.specs.declared.unit.Unit.{Unit as LineUnit}
 use Rattle.serial_frame.specs.declared.unit.Unit.TheVariants.{Framed}
 use Rattle.s0_session.specs.Nonces.{live_of}
 use Rattle.serial_link.specs.State.{Side}
+use Rattle.host_requests.specs.State.{RequestsState}
 use Rattle.host_requests.specs.declared.under_way.UnderWay.{UnderWay}
 use Rattle.host_requests.specs.declared.end.End.{End}
 use Rattle.host_requests.specs.declared.end.How.{How}
@@ -63,33 +64,47 @@ may_off unit event may = tt
 
 -- ---- it leaves the host's frame, and writes nothing
 
+-- its side of the line, and its requests: the end of an attempt leaves them, and so does that of a request
+abbrev pub asks_of : HostState → Side × RequestsState
+asks_of h = (h.side, h.requests)
+
+pub attempt_asks : (h : HostState) (end : AttemptEnd) (command : Option ℕ) → asks_of (attempt_ended h end command) ≡ asks_of h
+attempt_asks h NoneRan command = refl
+attempt_asks h Again command = refl
+attempt_asks h (Unanswered fell) None = refl
+attempt_asks h (Unanswered fell) (Some command) = refl
+
+part_asks : (h : HostState) (n : ℕ) (end : PartEnd) (moment : Moment) → asks_of (after_part h n end moment) ≡ asks_of h
+part_asks h n Good moment = refl
+part_asks h n Passed_over moment = refl
+part_asks h n Bad moment = attempt_asks (with_node h n (after_attempt_end (node_of h n) moment)) (attempt_end (node_of h n)) (open_command (node_of h n))
+
+task_asks : (h : HostState) (task : Task) → asks_of (after_task h task) ≡ asks_of h
+task_asks h (NoMore n) = refl
+task_asks h task = refl
+
+end_asks : (h : HostState) (purpose : Purpose) (how : How) (moment : Moment) → asks_of (after_end h (record { purpose = purpose; how = how }) moment) ≡ asks_of h
+end_asks h (Attempt n more payload) how moment = part_asks h n (part_end more how) moment
+end_asks h (Housekeeping task) how moment = task_asks h task
+end_asks h Abort how moment = refl
+
+pub end_if_asks : (h : HostState) (end : Option End) (moment : Moment) → asks_of (after_end_if h end moment) ≡ asks_of h
+end_if_asks h None moment = refl
+end_if_asks h (Some end) moment = end_asks h end.purpose end.how moment
+
+pub held_asks : (h : HostState) (n : ℕ) (held : Bool) → asks_of (holding h n held) ≡ asks_of h
+held_asks h n true = refl
+held_asks h n false = refl
+
+abbrev kept_by : Side × RequestsState → Side × Option UnderWay × Bool × ℕ
+kept_by p = (p.0, p.1.under_way, p.1.owes, p.1.last_id)
+
 -- its frame on the line, the request under way, whether an abort is owed, and the callback id given last
 abbrev pub kept : HostState → Side × Option UnderWay × Bool × ℕ
-kept h = (h.side, h.requests.under_way, h.requests.owes, h.requests.last_id)
-
-attempt_kept : (h : HostState) (end : AttemptEnd) (command : Option ℕ) → kept (attempt_ended h end command) ≡ kept h
-attempt_kept h NoneRan command = refl
-attempt_kept h Again command = refl
-attempt_kept h (Unanswered fell) None = refl
-attempt_kept h (Unanswered fell) (Some command) = refl
-
-part_kept : (h : HostState) (n : ℕ) (end : PartEnd) (moment : Moment) → kept (after_part h n end moment) ≡ kept h
-part_kept h n Good moment = refl
-part_kept h n Passed_over moment = refl
-part_kept h n Bad moment = attempt_kept (with_node h n (after_attempt_end (node_of h n) moment)) (attempt_end (node_of h n)) (open_command (node_of h n))
-
-task_kept : (h : HostState) (task : Task) → kept (after_task h task) ≡ kept h
-task_kept h (NoMore n) = refl
-task_kept h task = refl
-
-end_kept : (h : HostState) (purpose : Purpose) (how : How) (moment : Moment) → kept (after_end h (record { purpose = purpose; how = how }) moment) ≡ kept h
-end_kept h (Attempt n more payload) how moment = part_kept h n (part_end more how) moment
-end_kept h (Housekeeping task) how moment = task_kept h task
-end_kept h Abort how moment = refl
+kept h = kept_by (asks_of h)
 
 pub end_if_kept : (h : HostState) (end : Option End) (moment : Moment) → kept (after_end_if h end moment) ≡ kept h
-end_if_kept h None moment = refl
-end_if_kept h (Some end) moment = end_kept h end.purpose end.how moment
+end_if_kept h end moment = ap kept_by (end_if_asks h end moment)
 
 queued_kept : (h : HostState) (task : Task) → kept (queues_if_room h task) ≡ kept h
 queued_kept h task = by (is_full h)
@@ -102,10 +117,6 @@ offered_kept : (h : HostState) (n : ℕ) (live : Option (List ℕ)) → kept (of
 offered_kept h n None = refl
 offered_kept h n (Some nonce) = queued_kept h (Offer n nonce)
 
-held_kept : (h : HostState) (n : ℕ) (held : Bool) → kept (holding h n held) ≡ kept h
-held_kept h n true = refl
-held_kept h n false = refl
-
 -- such an event that the requests do not hear of
 abbrev pub IsApart : HostEvent → Type 0
 IsApart (Requests_do event moment) = ⊥
@@ -114,11 +125,11 @@ IsApart (Interview_unkept n update) = ⊥
 IsApart event = IsOff event
 
 pub apart_kept : (h : HostState) (event : HostEvent) → IsApart event → kept (after h event) ≡ kept h
-apart_kept h (Finishes n session id command status wake) apart = held_kept (finishing h n id command status) n (is_held h n wake)
+apart_kept h (Finishes n session id command status wake) apart = ap kept_by (held_asks (finishing h n id command status) n (is_held h n wake))
 apart_kept h (Offers n) apart = offered_kept h n (live_of h.nonces n)
 apart_kept h (Gives n drawn) apart = offered_kept (giving h n drawn) n (live_of (giving h n drawn).nonces n)
 apart_kept h (Resends n payload) apart = queued_kept h (Segment n payload)
-apart_kept h (Node_ticks n) apart = attempt_kept (node_does h n node_ticks) (tick_end (node_of h n)) (open_command (node_of h n))
+apart_kept h (Node_ticks n) apart = ap kept_by (attempt_asks (node_does h n node_ticks) (tick_end (node_of h n)) (open_command (node_of h n)))
 apart_kept h (Requests_do event moment) apart = absurd apart
 apart_kept h (Interviews n listens classes update) apart = absurd apart
 apart_kept h (Interview_unkept n update) apart = absurd apart

@@ -234,12 +234,9 @@ module _ (payloads : Payloads) (air : Airs) (facts_kept : FactsKept) (opened : O
   known_as : (joined : List Bool) (m : Machine) (event is : Event) → event ≡ is → GoesOn joined m is → GoesOn joined m event
   known_as joined m event is same goes = subst (λ (e : Event). GoesOn joined m e) (sym same) goes
 
-  may_be : (m : Machine) (event is : Event) → event ≡ is → May m event → May m is
-  may_be m event is same may = subst (May m) same may
-
   known_on : {these : List Bool} (here next : Phase) (m : Machine) (event : Event) → Goes here m event next → May m event → LineAt here m → TieAt here m → IsPeopled these m → GoesOn m.outside.outer.chip.state.joined m event
   known_on (Said_line line) next m event (is, to) may line_at tie at = known_as _ m event _ is (outer_known payloads _ m _ at.knows at.plains)
-  known_on (Doing line (first ∷ left)) next m event (is, to) may line_at tie at = known_as _ m event first is (effect_known payloads _ m first line_at.0.0 (may_be m event first is may) at.knows at.plains)
+  known_on (Doing line (first ∷ left)) next m event (is, to) may line_at tie at = known_as _ m event first is (effect_known payloads _ m first line_at.0.0 (subst (May m) is may) at.knows at.plains)
   known_on (To_tick (suc ticks)) next m event (is, to) may line_at tie at = known_as _ m event _ is (outer_known payloads _ m _ at.knows at.plains)
   known_on (Arriving (suc frames) ticks) next m event (drawn, route, is, to) may line_at tie at = known_as _ m event _ is (outer_known payloads _ m _ at.knows at.plains)
   known_on (Giving (suc results) ticks) next m event (route, is, to) may line_at tie at = known_as _ m event _ is (outer_known payloads _ m _ at.knows at.plains)
@@ -247,16 +244,16 @@ module _ (payloads : Payloads) (air : Airs) (facts_kept : FactsKept) (opened : O
   known_on (Ticking_chip ticks) next m event (is, to) may line_at tie at = known_as _ m event _ is (outer_known payloads _ m _ at.knows at.plains)
   known_on (Ticking_decoder ticks) next m event (is, to) may line_at tie at = known_as _ m event _ is (decoder_known payloads _ m at.knows at.plains)
   known_on (Ticking_host (first ∷ events) ticks) next m event (is, to) may line_at tie at =
-      known_as _ m event _ is (tick_known payloads _ m first events line_at.1 tie (may_be m event (Host_does first) is may) at.knows at.plains)
+      known_as _ m event _ is (tick_known payloads _ m first events line_at.1 tie (subst (May m) is may) at.knows at.plains)
   known_on (Sleeping passes ticks) next m event (node, wants, is, to) may line_at tie at =
       let e : HostEvent = no_more_event m.host.state node in
-      known_as _ m event _ is (does_known payloads _ m e (no_more_named IsBlank blank_rests _ m.host.state at.knows node wants) (may_be m event (Host_does e) is may) at.knows at.plains)
+      known_as _ m event _ is (does_known payloads _ m e (no_more_named IsBlank blank_rests _ m.host.state at.knows node wants) (subst (May m) is may) at.knows at.plains)
   known_on (Submitting passes ticks) next m event (asked, next_is, is, to) may line_at tie at =
-      let may_it : May m (Host_does asked) = may_be m event (Host_does asked) is may in
+      let may_it : May m (Host_does asked) = subst (May m) is may in
       known_as _ m event _ is (does_known payloads _ m asked (next_asked payloads m asked next_is may_it tie.paid at).1 may_it at.knows at.plains)
   known_on (Moving passes ticks) next m event (rest, ways, is, to) may line_at tie at = known_as _ m event _ is (outer_known payloads _ m _ at.knows at.plains)
   known_on (Moved b passes ticks) next m event (rest, items, done, is, to) may line_at tie at =
-      known_as _ m event _ is (takes_known payloads air b passes m rest items done (may_be m event _ is may) line_at tie at.knows at.plains)
+      known_as _ m event _ is (takes_known payloads air b passes m rest items done (subst (May m) is may) line_at tie at.knows at.plains)
   known_on here next m event goes may line_at tie at = absurd goes
 
   pub peopled_on : {these : List Bool} (here next : Phase) (m : Machine) (event : Event) → Goes here m event next → May m event → IsAskedAt these event → LineAt here m → TieAt here m → IsPeopled these m

@@ -79,7 +79,7 @@ one_less : (calls : List Call) → AllByRecursion IsOfFrame calls → AllByRecur
 one_less [] all = tt
 one_less (call ∷ calls) all = all.1
 
-none_lead : (calls : List Call) → AllByRecursion IsOfFrame calls → leading calls ≡ 0
+pub none_lead : (calls : List Call) → AllByRecursion IsOfFrame calls → leading calls ≡ 0
 none_lead [] all = refl
 none_lead (OfFrame ∷ calls) all = refl
 none_lead (no_route_call ∷ calls) all = absurd all.0

@@ -71,7 +71,6 @@ use Rattle.proof_calm.proofs.Judging.{TieBy, ends_by, tie_kept, units_tied}
 use Rattle.proof_calm.proofs.Parts.{none_up}
 use Rattle.proof_calm.proofs.Pending.{ChipTied, counted_line, gives_step, has_kept, has_served, has_unheard, line_of, steps_step}
 use Rattle.proof_calm.proofs.Quiet.{quiet_both, said_quiet}
-use Rattle.proof_calm.proofs.Reading.{goods}
 use Rattle.proof_calm.proofs.Requested.{moved_frames, moved_line, none_tied, part_tied, taken_state}
 use Rattle.proof_calm.specs.Sending.{SendsFew}
 use Rattle.proof_calm.specs.Undisturbed.{HasNone, IsTaken}
@@ -103,7 +102,7 @@ use Rattle.proof_serial.proofs.HostRuns.{FactsKept, OpenedFacts}
 use Rattle.proof_calm.specs.Tied.{AsksAt, IsPeopled, PumpedAt}
 use Rattle.proof_calm.specs.Live.{HasLive, IsAskedAt}
 use Rattle.proof_calm.proofs.Homing.{arrival_from}
-use Rattle.proof_calm.proofs.Peopled.{next_asked, peopled_on}
+use Rattle.proof_calm.proofs.Peopled.{judged_are, next_asked, peopled_on}
 use Rattle.proof_calm.proofs.Serving.{Payloads}
 use Rattle.proof_calm.proofs.Ticking.{no_more_mute, tick_mute}
 use Rattle.proof_calm.proofs.Written.{mute_well, next_well, takes_well}
@@ -173,11 +172,11 @@ module _ (counted : Bool) (asking : List FrameParts) where
 
 -- ---- events outside at which the chip says nothing
 
-acts_chip : (o : OuterState) (device : Option State) (event : DeviceEvent) (route : Option Route) → ((acts_at o device event route).outer.chip.state ≡ o.chip.state) × ((acts_at o device event route).outer.to_host ≡ o.to_host)
+pub acts_chip : (o : OuterState) (device : Option State) (event : DeviceEvent) (route : Option Route) → ((acts_at o device event route).outer.chip.state ≡ o.chip.state) × ((acts_at o device event route).outer.to_host ≡ o.to_host)
 acts_chip o None event route = (refl, refl)
 acts_chip o (Some device) event route = (refl, refl)
 
-hand_chip : (o : OuterState) (devices : List State) (place : Option ℕ) (event : DeviceEvent) (route : Option Route)
+pub hand_chip : (o : OuterState) (devices : List State) (place : Option ℕ) (event : DeviceEvent) (route : Option Route)
     → ((acts_by_hand o devices place event route).outer.chip.state ≡ o.chip.state) × ((acts_by_hand o devices place event route).outer.to_host ≡ o.to_host)
 hand_chip o devices None event route = (refl, refl)
 hand_chip o devices (Some place) event route = acts_chip o (slice_get devices place) event route
@@ -367,7 +366,7 @@ asking_none : (m : Machine) → m.host.state.side.turn ≡ Idle → on_line m.ho
 asking_none m idle = ap on_line idle
 
 -- where the line rests, the host has judged all
-rests_unheard : (m : Machine) → LineRests m → unheard m.outside.outer ≡ []
+pub rests_unheard : (m : Machine) → LineRests m → unheard m.outside.outer ≡ []
 rests_unheard m line = ap (λ (bs : List ℕ). unheard_by bs m.outside.outer.chip.state.port) line.at_chip.down_bytes ∙ line.at_chip.waiting
 
 rests_tied : (m : Machine) → LineRests m → TieOf true m (on_line m.host.state.side.turn) → TieOf false m []
@@ -441,10 +440,6 @@ moving_turn passes m (inl stalled) (inr can) = absurd (let no : false ≡ true =
 -- ---- the host's part of a pass
 
 -- what it judges is these units
-judged_are : (m : Machine) (count : ℕ) (rest : Rest) (items : List Item) (events : List HostEvent) (units : List LineUnit) → May m (Host_takes count rest items events) → items ≡ goods units → AreJudged m.host.state (goods units) events
-unfolding May
-judged_are m count rest items events units may same = subst (λ (l : List Item). AreJudged m.host.state l events) same may.judged
-
 module _ (air : Airs) where
   judged_tied : (b : Bool) (passes : ℕ) (m : Machine) (rest : Rest) (items : List Item) (events : List HostEvent) → May m (Host_takes (length m.outside.outer.to_host.bytes) rest items events) → IsDone m ⊎ HasMoved b passes m
       → TieOf true m [] → TieOf true (happens m (Host_takes (length m.outside.outer.to_host.bytes) rest items events)) []
@@ -777,18 +772,12 @@ module _ (stays : StaysOnLine) where
 -- ---- events
 
 module _ (laws : Outsides) (ids : Ids) (payloads : Payloads) where
-  may_is : (m : Machine) (event is : Event) → event ≡ is → May m event → May m is
-  may_is m event is same may = subst (May m) same may
-
-  orderly_is : (m : Machine) (event is : Event) → event ≡ is → IsOrderly m event → IsOrderly m is
-  orderly_is m event is same orderly = subst (IsOrderly m) same orderly
-
   served_as : (m : Machine) (event is : Event) → event ≡ is → IsServed m is → IsServed m event
   served_as m event is same served = subst (IsServed m) (sym same) served
 
   event_served : {these : List Bool} (here next : Phase) (m : Machine) (event : Event) → Goes here m event next → May m event → IsOrderly m event → LineAt here m → RoomAt here m → TieAt here m → IsPeopled these m → IsServed m event
   event_served (Said_line line) next m event (is, to) may orderly line_at room tie at = served_as m event (Outside_does Begins_line) is tt
-  event_served (Doing line (first ∷ left)) next m event (is, to) may orderly line_at room tie at = served_as m event first is (effect_served m first line_at.0.0 (orderly_is m event first is orderly))
+  event_served (Doing line (first ∷ left)) next m event (is, to) may orderly line_at room tie at = served_as m event first is (effect_served m first line_at.0.0 (subst (IsOrderly m) is orderly))
   event_served (To_tick (suc ticks)) next m event (is, to) may orderly line_at room tie at = served_as m event (Outside_does Begins_tick) is tt
   event_served (Arriving (suc frames) ticks) next m event (drawn, route, is, to) may orderly line_at room tie at = served_as m event (Outside_does (Arrives drawn route)) is tt
   event_served (Giving (suc results) ticks) next m event (route, is, to) may orderly line_at room tie at = served_as m event (Outside_does (Gives route)) is tt
@@ -800,11 +789,11 @@ module _ (laws : Outsides) (ids : Ids) (payloads : Payloads) where
   event_served (Sleeping passes ticks) next m event (node, wants, is, to) may orderly line_at room tie at =
       served_as m event (Host_does (no_more_event m.host.state node)) is (mute_well m (no_more_event m.host.state node) (no_more_mute laws.air m.host.state node))
   event_served (Submitting passes ticks) next m event (asked, next_is, is, to) may orderly line_at room tie at =
-      served_as m event (Host_does asked) is (next_well m m.outside.outer.chip.state asked next_is (may_is m event _ is may) (next_asked payloads m asked next_is (may_is m event _ is may) tie.paid at).0 tie.paid)
+      served_as m event (Host_does asked) is (next_well m m.outside.outer.chip.state asked next_is (subst (May m) is may) (next_asked payloads m asked next_is (subst (May m) is may) tie.paid at).0 tie.paid)
   event_served (Moving passes ticks) next m event (rest, ways, is, to) may orderly line_at room tie at =
-      served_as m event (Outside_does (Chip_takes (length m.outside.outer.to_chip.bytes) rest ways)) is (part_served passes m rest ways (may_is m event _ is may) line_at room tie).0
+      served_as m event (Outside_does (Chip_takes (length m.outside.outer.to_chip.bytes) rest ways)) is (part_served passes m rest ways (subst (May m) is may) line_at room tie).0
   event_served (Moved b passes ticks) next m event (rest, items, done, is, to) may orderly line_at room tie at =
-      served_as m event (Host_takes (length m.outside.outer.to_host.bytes) rest items done) is (takes_well b passes m rest items done (may_is m event _ is may) line_at)
+      served_as m event (Host_takes (length m.outside.outer.to_host.bytes) rest items done) is (takes_well b passes m rest items done (subst (May m) is may) line_at)
   event_served here next m event goes may orderly line_at room tie at = absurd goes
 
   -- the event is this one, and leads there
@@ -838,13 +827,13 @@ module _ (laws : Outsides) (ids : Ids) (payloads : Payloads) where
   event_ties (Sleeping passes ticks) next m event (node, wants, is, to) may orderly line_at awaits has tie at =
       as_is next (Sleeping passes ticks) m event (Host_does (no_more_event m.host.state node)) is to (λ later room. no_more_tied laws.air m node tie)
   event_ties (Submitting passes ticks) next m event (asked, next_is, is, to) may orderly line_at awaits has tie at =
-      as_is next (Submitting passes ticks) m event (Host_does asked) is to (λ later room. asks_tied laws.air ids m asked next_is (may_is m event _ is may) (next_asked payloads m asked next_is (may_is m event _ is may) tie.paid at).0 tie)
+      as_is next (Submitting passes ticks) m event (Host_does asked) is to (λ later room. asks_tied laws.air ids m asked next_is (subst (May m) is may) (next_asked payloads m asked next_is (subst (May m) is may) tie.paid at).0 tie)
   event_ties (Moving passes ticks) next m event (rest, ways, is, to) may orderly line_at awaits has tie at =
       as_is next (Moved true passes ticks) m event (Outside_does (Chip_takes (length m.outside.outer.to_chip.bytes) rest ways)) is to
-      (λ later room. part_tied_on passes m rest ways (may_is m event _ is may) later (part_served passes m rest ways (may_is m event _ is may) line_at has tie).1.tied)
+      (λ later room. part_tied_on passes m rest ways (subst (May m) is may) later (part_served passes m rest ways (subst (May m) is may) line_at has tie).1.tied)
   event_ties (Moved b passes ticks) next m event (rest, items, done, is, to) may orderly line_at awaits has tie at =
       as_is next (Sleeping passes ticks) m event (Host_takes (length m.outside.outer.to_host.bytes) rest items done) is to
-      (λ later room. judged_tied laws.air b passes m rest items done (may_is m event _ is may) line_at tie)
+      (λ later room. judged_tied laws.air b passes m rest items done (subst (May m) is may) line_at tie)
   event_ties here next m event goes may orderly line_at awaits has tie at = absurd goes
 
   -- ---- parts that begin

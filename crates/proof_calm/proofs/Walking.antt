@@ -80,12 +80,6 @@ module _ (air : Airs) (pumps : Pumped) where
   as_is next to m event is event_is next_is leads =
       subst (λ (e : Event). Leads next m e) (sym event_is) (subst (λ (q : Phase). Leads q m is) (sym next_is) leads)
 
-  may_is : (m : Machine) (event is : Event) → event ≡ is → May m event → May m is
-  may_is m event is same may = subst (May m) same may
-
-  served_is : (m : Machine) (event is : Event) → event ≡ is → IsServed m event → IsServed m is
-  served_is m event is same served = subst (IsServed m) same served
-
   sleeps : (m : Machine) (node passes : ℕ) → May m (Host_does (no_more_event m.host.state node)) → first_wanting m.host.state.nodes ≡ Some node → IsDone m ⊎ Stands passes m
       → IsDone (happens m (Host_does (no_more_event m.host.state node))) ⊎ Stands passes (happens m (Host_does (no_more_event m.host.state node)))
   unfolding happens
@@ -114,30 +108,30 @@ module _ (air : Airs) (pumps : Pumped) where
 
   event_leads : (here next : Phase) (m : Machine) (event : Event) → Goes here m event next → May m event → IsServed m event → LineAt here m → Leads next m event
   event_leads (Said_line line) next m event (is, to) may served known =
-      as_is next (Begun line) m event (Outside_does Begins_line) is to (known.0, begins_rests m (may_is m event _ is may) known.1)
+      as_is next (Begun line) m event (Outside_does Begins_line) is to (known.0, begins_rests m (subst (May m) is may) known.1)
   event_leads (Doing line (first ∷ left)) next m event (is, to) may served known =
-      as_is next (Doing line left) m event first is to (known.0.1, effect_rests air m first known.0.0 (may_is m event first is may) known.1)
-  event_leads (To_tick (suc ticks)) next m event (is, to) may served known = as_is next (Ticked ticks) m event (Outside_does Begins_tick) is to (tick_given m (may_is m event _ is may) known)
+      as_is next (Doing line left) m event first is to (known.0.1, effect_rests air m first known.0.0 (subst (May m) is may) known.1)
+  event_leads (To_tick (suc ticks)) next m event (is, to) may served known = as_is next (Ticked ticks) m event (Outside_does Begins_tick) is to (tick_given m (subst (May m) is may) known)
   event_leads (Arriving (suc frames) ticks) next m event (drawn, route, is, to) may served known =
-      as_is next (Arriving frames ticks) m event (Outside_does (Arrives drawn route)) is to (arrives_given m drawn route (may_is m event _ is may) known)
+      as_is next (Arriving frames ticks) m event (Outside_does (Arrives drawn route)) is to (arrives_given m drawn route (subst (May m) is may) known)
   event_leads (Giving (suc results) ticks) next m event (route, is, to) may served known =
-      as_is next (Giving results ticks) m event (Outside_does (Gives route)) is to (gives_given m route (may_is m event _ is may) known)
+      as_is next (Giving results ticks) m event (Outside_does (Gives route)) is to (gives_given m route (subst (May m) is may) known)
   event_leads (Ticking_devices place (suc count) ticks) next m event (drawn, route, is, to) may served known =
-      as_is next (Ticking_devices (place + 1) count ticks) m event (Outside_does (Device_ticks place drawn route)) is to (device_given m place drawn route (may_is m event _ is may) known)
-  event_leads (Ticking_chip ticks) next m event (is, to) may served known = as_is next (Ticking_decoder ticks) m event (Outside_does Chip_ticks) is to (chip_given m (may_is m event _ is may) known)
+      as_is next (Ticking_devices (place + 1) count ticks) m event (Outside_does (Device_ticks place drawn route)) is to (device_given m place drawn route (subst (May m) is may) known)
+  event_leads (Ticking_chip ticks) next m event (is, to) may served known = as_is next (Ticking_decoder ticks) m event (Outside_does Chip_ticks) is to (chip_given m (subst (May m) is may) known)
   event_leads (Ticking_decoder ticks) next m event (is, to) may served known =
-      as_is next (Ticking_host (tick_events m.host.state) ticks) m event Decoder_ticks is to (all_of_tick m.host.state, decoder_given m (may_is m event _ is may) known)
+      as_is next (Ticking_host (tick_events m.host.state) ticks) m event Decoder_ticks is to (all_of_tick m.host.state, decoder_given m (subst (May m) is may) known)
   event_leads (Ticking_host (first ∷ events) ticks) next m event (is, to) may served known =
-      as_is next (Ticking_host events ticks) m event (Host_does first) is to (known.0.1, host_given air m first known.0.0 (may_is m event _ is may) known.1)
+      as_is next (Ticking_host events ticks) m event (Host_does first) is to (known.0.1, host_given air m first known.0.0 (subst (May m) is may) known.1)
   event_leads (Sleeping passes ticks) next m event (node, wants, is, to) may served known =
-      as_is next (Sleeping passes ticks) m event (Host_does (no_more_event m.host.state node)) is to (sleeps m node passes (may_is m event _ is may) wants known)
+      as_is next (Sleeping passes ticks) m event (Host_does (no_more_event m.host.state node)) is to (sleeps m node passes (subst (May m) is may) wants known)
   event_leads (Submitting passes ticks) next m event (asked, next_is, is, to) may served known =
-      as_is next (Submitting passes ticks) m event (Host_does asked) is to (submits m asked passes (may_is m event _ is may) (served_is m event _ is served) next_is known)
+      as_is next (Submitting passes ticks) m event (Host_does asked) is to (submits m asked passes (subst (May m) is may) (subst (IsServed m) is served) next_is known)
   event_leads (Moving passes ticks) next m event (rest, ways, is, to) may served known =
       as_is next (Moved true passes ticks) m event (Outside_does (Chip_takes (length m.outside.outer.to_chip.bytes) rest ways)) is to
-      (moves m rest ways passes (may_is m event _ is may) (served_is m event _ is served) known)
+      (moves m rest ways passes (subst (May m) is may) (subst (IsServed m) is served) known)
   event_leads (Moved b passes ticks) next m event (rest, items, done, is, to) may served known =
-      as_is next (Sleeping passes ticks) m event (Host_takes (length m.outside.outer.to_host.bytes) rest items done) is to (moved_on m b rest items done passes (may_is m event _ is may) known)
+      as_is next (Sleeping passes ticks) m event (Host_takes (length m.outside.outer.to_host.bytes) rest items done) is to (moved_on m b rest items done passes (subst (May m) is may) known)
   event_leads here next m event goes may served known = absurd goes
 
   -- ---- parts that begin

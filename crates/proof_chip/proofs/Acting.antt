@@ -41,8 +41,8 @@ use Rattle.proof_chip.proofs.Bringing.{some_heard}
 use Rattle.proof_chip.proofs.Asides.{NotHome, at_apart, other_node}
 use Rattle.proof_chip.proofs.Going.{IsNotOwn, account_goes, apart_goes, apart_weaker, chip_so, deals_other, heard_so, less_so}
 use Rattle.proof_chip.proofs.Homing.{IsBrought}
-use Rattle.proof_chip.proofs.Quieting.{IsUnanswered}
 use Rattle.proof_chip.proofs.Passing.{IsOther}
+use Rattle.proof_chip.proofs.Quieting.{unanswered}
 
 -- ---- what the air tells
 
@@ -125,10 +125,6 @@ hearing_outs_own there step hearing home = absurd hearing
 
 -- ---- what goes on
 
-heard_answers : (b : Bool) (from : ℕ) (payload : List ℕ) → IsUnanswered b (chip_hears from payload)
-heard_answers true from payload = tt
-heard_answers false from payload = tt
-
 all_other : (there : List State) (events : List AirEvent) (o : OuterState) → AreNotOwn events → AllByRecursion IsOther (each (deals there) o events).entries
 all_other there [] o own = tt
 all_other there (event ∷ events) o own =
@@ -153,7 +149,7 @@ module _ (devices : List State) (Are : List Sending → Type 0) where
       (if b then chip_does o (chip_hears from payload) else silent o).outer.chip.state.port
   comes_so o did past from payload true is knows =
       let some = leb-true 1 (length payload) (both_true (nat_le 1 (length payload)) (nat_le (length payload) 46) is).0 in
-      chip_so devices Are (record { node = from; payload = payload } ∷ []) did past o (chip_hears from payload) (heard_answers (collides o.chip.state) from payload)
+      chip_so devices Are (record { node = from; payload = payload } ∷ []) did past o (chip_hears from payload) (unanswered (collides o.chip.state) (chip_hears from payload) tt)
       (λ frames was. some_heard frames o.chip.state from payload past some was) knows
   comes_so o did past from payload false is knows =
       subst (λ (l : List Step). AirSo devices Are l (past ++ []) o.chip.state.port) (sym (append-nil did))

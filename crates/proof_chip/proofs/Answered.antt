@@ -33,7 +33,7 @@ use Rattle.outside_model.specs.Chip.{put_out}
 use Rattle.proof_air.proofs.Entered.{IsMark, told_by_marks}
 use Rattle.proof_chip.specs.Serving.{HasGiven, as_given, frame_texts}
 use Rattle.proof_chip.proofs.Airing.{answer}
-use Rattle.proof_chip.proofs.Growing.{frames_both, many_given}
+use Rattle.proof_chip.proofs.Growing.{frames_both, many_given, many_frames}
 use Rattle.proof_chip.proofs.Picking.{shown_both}
 use Rattle.proof_chip.proofs.Quieting.{IsQuiet, given_quiet}
 use Rattle.proof_chip.proofs.Replying.{none_filtered, settled_same}
@@ -102,10 +102,6 @@ module _ (devices : List State) where
   more_given (text ∷ texts) [] frames are same = absurd are
   more_given (text ∷ texts) (one ∷ all) frames are same = (are.0, more_given texts all frames are.1 (omega (arith, same)))
 
-  many_texts : (frames : List FrameParts) → length (frame_texts frames) ≡ length frames
-  many_texts [] = refl
-  many_texts (f ∷ frames) = let rest = many_texts frames in omega (arith, rest)
-
   -- what comes to both
   pub has_more : (course : Course) (frames more : List FrameParts) (past all : List Entry) → given devices course all ≡ given devices course past ++ as_given more → HasGiven devices course frames past
       → HasGiven devices course (frames ++ more) all
@@ -113,7 +109,7 @@ module _ (devices : List State) where
     are =
         subst (λ (l : List Given). AreOf devices (frame_texts (frames ++ more)) l) (sym is)
         (subst (λ (l : List (List ℕ)). AreOf devices l (given devices course past ++ as_given more)) (sym (frames_both frames more))
-        (more_given (frame_texts frames) (given devices course past) more has.are (has.many ∙ sym (many_texts frames))));
+        (more_given (frame_texts frames) (given devices course past) more has.are (has.many ∙ sym (many_frames frames))));
     many =
         let parts = ap (λ (l : List Given). length l) is ∙ length-append (given devices course past) (as_given more) in
         let first = has.many in

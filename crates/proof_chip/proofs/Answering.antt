@@ -32,6 +32,7 @@ use Rattle.outside_model.specs.declared.waits.Call.TheVariants.{OfFrame}
 use Rattle.outside_model.specs.Devices.{State}
 use Rattle.outside_model.specs.State.{OuterState, Outcome, each, with_chip}
 use Rattle.outside_model.specs.Chip.{chip_does, put_out}
+use Rattle.proof_air.proofs.Counting.{each-left}
 use Rattle.proof_air.proofs.Times.{does_chip}
 use Rattle.proof_line.specs.proof_traffic.Flights.{Fly}
 use Rattle.proof_line.specs.proof_traffic.OnAir.{on_air}
@@ -54,7 +55,7 @@ use Rattle.proof_chip.proofs.Settling.{AreIdle, IsIdle}
 use Rattle.proof_chip.proofs.Taking.{takes_same}
 use Rattle.proof_chip.proofs.Tallied.{chip_t}
 use Rattle.proof_chip.proofs.Coming.{now_above}
-use Rattle.proof_chip.proofs.Putting.{Puts, airs_one, each_front, frames_more, more_idle, numbers_next, taken_within}
+use Rattle.proof_chip.proofs.Putting.{Puts, airs_one, frames_more, more_idle, numbers_next, taken_within}
 use Rattle.proof_chip.proofs.Looking.{SendsSo, does_clock, last_call, looks_by, looks_so, sends_so}
 
 -- ---- a frame that is answered
@@ -189,7 +190,7 @@ module _ (devices : List State) (laws : Laws) (did : List Step) (past : List Ent
         subst (λ (r : Option Request). LooksSo (λ n l. takes past under n l) v before r) (sym asked) (subst (λ (b : Bool). LooksTaken b v before) (sym takes_by) (refl, refl, refl, refl)) in
         let waits_all = subst (λ (l : List Entry). EachAfter (MayWait devices later) past l) told_is waits in
         let first : TallyNow devices before false 0 (count + more) later whole =
-        answered_now devices later past quiet f passed_here idle v before o.chip.state.sending count more refl refl is_under refl below looks reply (each_front (MayWait devices later) past (answer ∷ quiet) _ waits_all) was in
+        answered_now devices later past quiet f passed_here idle v before o.chip.state.sending count more refl refl is_under refl below looks reply (each-left (MayWait devices later) past (answer ∷ quiet) _ waits_all) was in
         let no_ack : AllByRecursion IsNoAck quiet = others_no_ack quiet (all-weaker IsMore _ more_other quiet all) in
         let alone : last_sending later whole ≡ sending_of past node payload id ∷ [] =
         last_answered later past quiet f passed_here no_ack ∙ (sent_by node payload options id asked ∙ ap (λ (b : Bool). if b then sending_of past node payload id ∷ [] else under) takes_by) in

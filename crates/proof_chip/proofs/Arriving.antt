@@ -34,7 +34,7 @@ use Rattle.proof_chip.proofs.Finishing.{Finishes, Sees, calls_t}
 use Rattle.proof_chip.proofs.Growing.{serves_aside}
 use Rattle.proof_chip.proofs.Numbering.{with_number}
 use Rattle.proof_chip.proofs.Standing.{few_stand}
-use Rattle.proof_chip.proofs.Asides.{AreUnrelated, IsUnrelated}
+use Rattle.proof_chip.proofs.Asides.{AreUnrelated, IsUnrelated, change_unrelated}
 use Rattle.proof_chip.proofs.Tallied.{apart_t, before_stays, both_so, forgets_t, now_stays}
 use Rattle.proof_chip.proofs.Fating.{IsFate, before_lands, now_again}
 use Rattle.proof_chip.proofs.Telling.{IsAside}
@@ -81,10 +81,6 @@ IsPlain event = ⊥
 
 abbrev pub ArePlain : List AirEvent → Type 0
 ArePlain events = AllByRecursion IsPlain events
-
-change_idle : (e : Entry) → IsChange e → IsUnrelated e
-change_idle (entry.Dev node by setting) change = (tt, (tt, tt))
-change_idle e change = absurd change
 
 module _ (devices : List State) (v : Outlook) (left number : ℕ) (numbers : List ℕ) where
   abbrev Still : ℕ → ℕ → Course → List Entry → Type 0
@@ -164,7 +160,7 @@ module _ (devices : List State) (v : Outlook) (left number : ℕ) (numbers : Lis
       plain_by there coming o (plain ++ rest) (plain_t there coming o rest goes plain are.1) (deals there o (tells_of.Sent at from to route payload)).entries ((tt, (tt, are.0)), tt) did past so
   plain_t there coming o rest goes (tells_of.Changed node at ∷ plain) are did past so =
       plain_by there coming o (plain ++ rest) (plain_t there coming o rest goes plain are.1) (deals there o (tells_of.Changed node at)).entries
-      (let change = change_at (device_at there (place_of node there)) at in all-weaker IsChange IsUnrelated change_idle (change_entries node change) (change_entered node change)) did past so
+      (let change = change_at (device_at there (place_of node there)) at in all-weaker IsChange IsUnrelated change_unrelated (change_entries node change) (change_entered node change)) did past so
   plain_t there coming o rest goes (tells_of.Heard at ∷ plain) are did past so = absurd are.0
   plain_t there coming o rest goes (tells_of.Lost at ∷ plain) are did past so = absurd are.0
   plain_t there coming o rest goes (tells_of.Unheard at ∷ plain) are did past so = absurd are.0
@@ -237,7 +233,7 @@ module _ (there : List State) (o : OuterState) where
   plain_apart (tells_of.Sent at from to route payload ∷ plain) are = ((tt, (tt, are.0)), plain_apart plain are.1)
   plain_apart (tells_of.Changed node at ∷ plain) are =
       let change = change_at (device_at there (place_of node there)) at in
-      all-append IsUnrelated (change_entries node change) (each (deals there) o plain).entries (all-weaker IsChange IsUnrelated change_idle (change_entries node change) (change_entered node change)) (plain_apart plain are.1)
+      all-append IsUnrelated (change_entries node change) (each (deals there) o plain).entries (all-weaker IsChange IsUnrelated change_unrelated (change_entries node change) (change_entered node change)) (plain_apart plain are.1)
   plain_apart (tells_of.Heard at ∷ plain) are = absurd are.0
   plain_apart (tells_of.Lost at ∷ plain) are = absurd are.0
   plain_apart (tells_of.Unheard at ∷ plain) are = absurd are.0

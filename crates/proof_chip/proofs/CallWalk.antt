@@ -13,7 +13,6 @@ use Rattle.zw_text.specs.declared.line.Line.{Line}
 use Rattle.zw_text.specs.declared.line.Line.TheVariants as lines
 use Rattle.zw_text.specs.declared.entry.Entry.{Entry}
 use Rattle.host_model.specs.Ticking.{tick_events}
-use Rattle.outside_model.specs.declared.waits.Due.{Due}
 use Rattle.outside_model.specs.State.{OuterState, Outside}
 use Rattle.outside_model.specs.Events.{Begins_line, Begins_tick, Chip_takes, Arrives, Gives, happens as happens_outside}
 use Rattle.world_model.specs.State.{Machine}
@@ -40,6 +39,7 @@ use Rattle.proof_chip.specs.Knowing.{AnyEntry}
 use Rattle.proof_chip.specs.Calling.{AreGiven, AreLanding, CallsAt, KnowCalls, LeavesCalls, Waits}
 use Rattle.proof_chip.proofs.Calling.{arrives_waits, event_waits, flying, gives_waits, takes_waits}
 use Rattle.proof_chip.proofs.Learning.{any_each}
+use Rattle.proof_chip.proofs.Finishing.{no_length}
 
 -- ---- where all results have come
 
@@ -47,13 +47,6 @@ each_or : (calls : List Bool) → length calls ≡ flying_in calls + without_fra
 each_or [] = refl
 each_or (true ∷ calls) = let later = each_or calls in omega (arith, later)
 each_or (false ∷ calls) = let later = each_or calls in omega (arith, later)
-
-none_due : (o : OuterState) → length o.due ≡ 0 → no_routes_due o.due ≡ 0
-none_due o none = by o.due none
-  where
-    by : (due : List Due) → length due ≡ 0 → no_routes_due due ≡ 0
-    by [] is = refl
-    by (first ∷ due) is = absurd (grind (arith, is))
 
 none_under_way : (sending : Option SendingParts) (aborted : ℕ) → aborted + one_if (is_some sending) ≡ 0 → sending ≡ None
 none_under_way None aborted is = refl
@@ -67,7 +60,7 @@ waits_none o known given =
     let frames = known.await.frames in
     let results = known.await.results in
     let clear = given.none in
-    let due = none_due o given.many in
+    let due = ap no_routes_due (no_length o.due given.many) in
     none_under_way o.chip.state.sending o.chip.state.aborted (omega (arith, many, same, each, frames, results, clear, due))
 
 -- ---- frames arrive

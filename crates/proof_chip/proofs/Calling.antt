@@ -1,10 +1,9 @@
 -- What is known of the results that the chip waits for goes on with each event of the machine.
-use Rattle.std.proofs.Common.{◌≡◌, ◌≢◌, ◌≤◌, ◌<◌, ◌⊎◌, ℕ, ◌+◌, ◌-◌, ◌&&◌, nat_le, Bool, true, false, if◌then◌else◌, inl, inr, List, [], ◌∷◌, ◌++◌, filter, length, map, refl, sym, ap, ap₂, subst, ◌∙◌, append-nil, length-append, length-drop, arith}
+use Rattle.std.proofs.Common.{◌≡◌, ◌≢◌, ◌≤◌, ◌<◌, ◌⊎◌, ℕ, ◌+◌, ◌-◌, ◌&&◌, nat_le, Bool, true, false, if◌then◌else◌, inl, inr, List, [], ◌∷◌, ◌++◌, length, map, refl, sym, ap, ap₂, subst, ◌∙◌, append-nil, length-append, length-drop, arith}
 use Rattle.std.proofs.lemmas.Bool.{cases_lt}
 use Rattle.std.proofs.lemmas.List.{get_or_past, length-map}
 use Rattle.std.specs.Prelude.{◌==◌, Option, Some, None, drop, slice_get, option_map}
 use Rattle.std.specs.Option.{is_some}
-use Rattle.std.specs.List.{AllByRecursion, range_with_len}
 use Rattle.serial_frame.specs.Stream.{Rest, after_tick}
 use Rattle.serial_frame.specs.declared.item.Item.{Item}
 use Rattle.serial_link.specs.State.{copy_due}
@@ -20,9 +19,8 @@ use Rattle.air_frames.specs.Frames.{FramesState, remembered}
 use Rattle.air_frames.specs.History.{Mark, IsOf}
 use Rattle.chip_sim.specs.State.{ChipState}
 use Rattle.chip_sim.specs.Waiting.{PortState, served_outs, ticked, ticked_outs, written}
-use Rattle.chip_sim.specs.Events.{ChipEvent, Heard as chip_hears, Informed, Joined, Linked, Ticked, after, outs}
-use Rattle.chip_sim.specs.Did.{after_all}
-use Rattle.mesh_sim.specs.Air.{AirState, is_joined, joining}
+use Rattle.chip_sim.specs.Events.{ChipEvent, Heard as chip_hears, Informed, Ticked, after, outs}
+use Rattle.mesh_sim.specs.Air.{AirState, is_joined}
 use Rattle.mesh_sim.specs.Fates.{Mesh, listener_of, place_of}
 use Rattle.mesh_sim.specs.Routes.{backwards}
 use Rattle.mesh_sim.specs.Steps.{answered_if, answers_if, changed, heard_again, heard_at, mesh_after, mesh_outs, outs_again, outs_at, outs_hearing, repeat_outs, repeat_outs_by, repeating, repeating_by}
@@ -39,7 +37,7 @@ use Rattle.outside_model.specs.Chip.{chip_does, chip_takes, put_out}
 use Rattle.outside_model.specs.Results.{device_at, gives, informs, profile_for}
 use Rattle.outside_model.specs.Air.{deals, to_chip}
 use Rattle.outside_model.specs.Devices.{acts_at, acts_by_hand}
-use Rattle.outside_model.specs.Nodes.{all_pairs, is_known, links_of, listens_at}
+use Rattle.outside_model.specs.Nodes.{all_pairs, listens_at}
 use Rattle.outside_model.specs.Events.{OuterEvent, Host_begins, Chip_takes, Arrives, Gives, Device_ticks, Chip_ticks, Repeats, Wakes_device, Sets_device, Joins, Discovers, Marks_loss, Marks_change, Clears_pipe, has_entered, outcome, repeats, steps, happens as happens_outside, May as MayOutside}
 use Rattle.world_model.specs.State.{Machine}
 use Rattle.world_model.specs.Events.{Event, Outside_does, Host_does, Host_takes, Decoder_ticks, Refuses, Shows_values, Restarts, happens, shown_values}
@@ -58,7 +56,7 @@ use Rattle.proof_line.proofs.Parts.{Laws}
 use Rattle.proof_air.specs.proof_walk.Outside.{CoversOuter, nothing}
 use Rattle.proof_air.specs.Logs.{Tie}
 use Rattle.proof_chip.specs.Calling.{LeavesCalls, Waits}
-use Rattle.proof_line.proofs.Colliding.{IsLinked, all_linked, pairs_linked}
+use Rattle.proof_chip.proofs.Learning.{discovers_keep, joins_keep}
 
 -- ---- each call, through steps of the course of requests
 
@@ -200,13 +198,10 @@ heard_alike o from payload = by (nat_le 1 (length payload) && nat_le (length pay
 ticks_mild : (port : PortState) → AreMild (ticked_outs port)
 ticks_mild port = mild-append (written (copy_due port.side.turn)) (served_outs (ticked port)) (written_mild (copy_due port.side.turn)) (served_mild (ticked port))
 
--- it learns of links
-linked_same : (events : List ChipEvent) (s : ChipState) → AllByRecursion IsLinked events → ((after_all s events).aborted ≡ s.aborted) × ((after_all s events).sending ≡ s.sending)
-linked_same [] s linked = (refl, refl)
-linked_same (Linked a b live ∷ events) s linked = linked_same events (after s (Linked a b live)) linked.1
-linked_same (event ∷ events) s linked = absurd linked.0
-
 -- ---- what happens outside the host
+
+abbrev under_way : ChipState → ℕ × Bool
+under_way s = (s.aborted, is_some s.sending)
 
 module _ (laws : Laws) (none : NoNexting) (past : List Entry) (w : Outside) (tie : Tie nothing past w) where
   abbrev o : OuterState
@@ -314,11 +309,11 @@ module _ (laws : Laws) (none : NoNexting) (past : List Entry) (w : Outside) (tie
   outcome_alike (Sets_device node value route) leaves = hand_alike (place_of node w.devices) (Sets value) route
   outcome_alike (Joins node) leaves =
       let listening : Bool = listens_at (device_at w.devices (place_of node w.devices)) in
-      let chip = linked_same (links_of (joining w.outer.air node listening) node) (after w.outer.chip.state (Joined node listening)) (all_linked _ (λ n. tt) _) in
-      record { aborted = chip.0; sending = ap is_some chip.1; calls = refl; due = refl; on = refl }
+      let chip = joins_keep under_way (λ s a b live. refl) w.outer node listening in
+      record { aborted = ap (λ (u : ℕ × Bool). u.0) chip; sending = ap (λ (u : ℕ × Bool). u.1) chip; calls = refl; due = refl; on = refl }
   outcome_alike Discovers leaves =
-      let chip = linked_same (all_pairs w.outer.air) w.outer.chip.state (pairs_linked w.outer.air (filter (λ (node : ℕ). is_known w.outer.air node) (range_with_len 1 232))) in
-      record { aborted = chip.0; sending = ap is_some chip.1; calls = refl; due = refl; on = refl }
+      let chip = discovers_keep under_way (λ s a b live. refl) w.outer in
+      record { aborted = ap (λ (u : ℕ × Bool). u.0) chip; sending = ap (λ (u : ℕ × Bool). u.1) chip; calls = refl; due = refl; on = refl }
   outcome_alike (Marks_loss by_host) leaves = record { aborted = refl; sending = refl; calls = refl; due = refl; on = refl }
   outcome_alike (Marks_loss by_chip) leaves = record { aborted = refl; sending = refl; calls = refl; due = refl; on = refl }
   outcome_alike (Marks_change by_host garble) leaves = record { aborted = refl; sending = refl; calls = refl; due = refl; on = refl }

@@ -1,5 +1,5 @@
 -- Frames that are the first of what the chip has for the host still are when the same places are taken out of both.
-use Rattle.std.proofs.Common.{◌≡◌, ◌<◌, ◌≤◌, ℕ, zero, suc, List, [], ◌∷◌, ◌++◌, length, take, drop, subst, arith}
+use Rattle.std.proofs.Common.{◌≡◌, ◌<◌, ℕ, zero, suc, List, [], ◌∷◌, ◌++◌, length, take, drop, subst, arith}
 use Rattle.serial_frame.specs.Frame.{FrameParts}
 use Rattle.serial_frame.specs.Items.{unit_text}
 use Rattle.serial_frame.specs.declared.unit.Unit.TheVariants.{Framed}
@@ -54,12 +54,6 @@ module _ (devices : List State) where
   first_are [] ys given are = tt
   first_are (x ∷ xs) ys [] are = absurd are
   first_are (x ∷ xs) ys (one ∷ given) are = (are.0, first_are xs ys given are.1)
-
-  -- there are no more of them
-  pub few_are : (xs : List (List ℕ)) (given : List Given) → AreOf devices xs given → length xs ≤ length given
-  few_are [] given are = omega arith
-  few_are (x ∷ xs) [] are = absurd are
-  few_are (x ∷ xs) (one ∷ given) are = let rest = few_are xs given are.1 in omega (arith, rest)
 
   pub more_are : (xs : List (List ℕ)) (given more : List Given) → AreOf devices xs given → AreOf devices xs (given ++ more)
   more_are [] given more are = tt

@@ -30,7 +30,7 @@ use Rattle.proof_air.proofs.Times.{does_chip, does_time}
 use Rattle.proof_chip.specs.Tally.{AreNumbered, AreOwn, Counting, Lacks, Outlook, TallyBefore, TallySo, infos_in, numbers_from, outlook, owed}
 use Rattle.proof_chip.proofs.Numbering.{numbers_home}
 use Rattle.proof_chip.proofs.Owing.{last_flies, no_route_quiet, quiet_call, without_call, without_due, infos_without}
-use Rattle.proof_chip.proofs.Quieting.{IsUnanswered}
+use Rattle.proof_chip.proofs.Quieting.{unanswered}
 use Rattle.proof_chip.proofs.Resting.{AreLeaving, Rests, each_rests, queued_leaves}
 use Rattle.proof_chip.proofs.Tallied.{before_stays, own_call_t, none_so, post_t, quiet_route_t}
 use Rattle.proof_chip.proofs.Coming.{before_next, give_above}
@@ -91,7 +91,7 @@ no_frame calls none = by (last_or false (flags calls)) refl
     by true is = absurd (let some = last_flies calls is in omega (arith, none, some))
     by false is = refl
 
-drop_flies : (calls : List Call) → flying_in (flags calls) ≡ 0 → flying_in (flags (drop 1 calls)) ≡ 0
+pub drop_flies : (calls : List Call) → flying_in (flags calls) ≡ 0 → flying_in (flags (drop 1 calls)) ≡ 0
 drop_flies [] none = refl
 drop_flies (call ∷ calls) none = omega (arith, none)
 
@@ -127,10 +127,6 @@ module _ (devices : List State) where
     abbrev v : Outlook
     v = outlook o
 
-    informed_answers : (b : Bool) (node : ℕ) (profile : _) → IsUnanswered b (Informed node profile)
-    informed_answers true node profile = tt
-    informed_answers false node profile = tt
-
     pub info_t : (node : ℕ) (due : List Due) → o.due ≡ Info node ∷ due → (awaits ≡ true → (gives o there (Info node ∷ due) route).entries ≡ []) → TallySo (Before v awaits) did past o.chip.state.port
         → TallySo (Before (outlook (gives o there (Info node ∷ due) route).outer) awaits) (did ++ steps_by (due_account o there (Info node ∷ due) route))
         (past ++ (gives o there (Info node ∷ due) route).entries) (gives o there (Info node ∷ due) route).outer.chip.state.port
@@ -148,7 +144,7 @@ module _ (devices : List State) where
         } in
         let infos : v.infos ≡ later.infos + 1 = ap infos_in is ∙ ap (λ (l : List Due). infos_in l + 1) (sym rests.due) in
         let owes = owed_as v later same 1 infos in
-        post_t devices awaits (Before v awaits) (Before later awaits) (before_stays devices v false 0 awaits 0) did past p event _ (informed_answers (collides o.chip.state) node (profile_for o.air there node route)) refl unentered
+        post_t devices awaits (Before v awaits) (Before later awaits) (before_stays devices v false 0 awaits 0) did past p event _ (unanswered (collides o.chip.state) event tt) refl unentered
         (λ count course all now was. above v (owed later) owes awaits count course all now was)
         (λ count course all was. less v later awaits 1 same.clock owes (numbered_as v later same) (own_as v later same) count course all was) so
 

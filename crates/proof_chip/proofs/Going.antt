@@ -47,7 +47,7 @@ use Rattle.proof_chip.proofs.Bringing.{HearsNone, brings_aside, brings_event, br
 use Rattle.proof_chip.proofs.Growing.{serves_aside, serves_event}
 use Rattle.proof_chip.proofs.Judged.{goes_back}
 use Rattle.proof_chip.proofs.Passing.{IsOther, others_no_ack, others_stand, puts_other}
-use Rattle.proof_chip.proofs.Quieting.{IsUnanswered, event_none}
+use Rattle.proof_chip.proofs.Quieting.{IsUnanswered, event_none, unanswered}
 use Rattle.proof_chip.proofs.Telling.{AreAside, IsAside}
 use Rattle.proof_line.proofs.ChipAccounts.{Account, Still, Both, Later, Does, Forgotten as ForgottenLink, Of_air, In_air, IsOfResults, gives_account, gives_results, steps_by}
 use Rattle.proof_chip.proofs.Learning.{air_aside, any_each}
@@ -71,14 +71,6 @@ pub given_answers : (b : Bool) (event : ChipEvent) → IsGiven event → IsUnans
 given_answers true event given = tt
 given_answers false (Judged item way) given = absurd given
 given_answers false event given = tt
-
-ticked_answers : (b : Bool) → IsUnanswered b Ticked
-ticked_answers true = tt
-ticked_answers false = tt
-
-collides_answers : (b : Bool) → IsUnanswered b Collides
-collides_answers true = tt
-collides_answers false = tt
 
 result_hears : (event : ChipEvent) → IsResult event → HearsNone event
 result_hears (chip_hears node payload) result = absurd result
@@ -227,11 +219,11 @@ module _ (devices : List State) (Are : List Sending → Type 0) where
   pub tick_goes : (did : List Step) (w : Outside) → Comes AnyEntry (KnowsAir devices Are did) w (chip_ticks w.outer) w.devices (KnowsAir devices Are (did ++ link_steps w.outer.chip.state Ticked))
   tick_goes did w =
       let fed : OuterState = record w.outer { chip = record { decoder = after_tick w.outer.chip.decoder; state = w.outer.chip.state } } in
-      after_same w.devices did (did ++ link_steps w.outer.chip.state Ticked) w.outer fed (chip_does fed Ticked) refl (chip_goes did (outside fed w.devices) Ticked (ticked_answers (collides w.outer.chip.state)) tt)
+      after_same w.devices did (did ++ link_steps w.outer.chip.state Ticked) w.outer fed (chip_does fed Ticked) refl (chip_goes did (outside fed w.devices) Ticked (unanswered (collides w.outer.chip.state) Ticked tt) tt)
 
   pub collides_goes : (did : List Step) (w : Outside) → Comes AnyEntry (KnowsAir devices Are did) w (outcome w Collides_next) w.devices (KnowsAir devices Are (did ++ link_steps w.outer.chip.state Collides))
   unfolding outcome chip_does
-  collides_goes did w = chip_goes did w Collides (collides_answers (collides w.outer.chip.state)) tt
+  collides_goes did w = chip_goes did w Collides (unanswered (collides w.outer.chip.state) Collides tt) tt
 
   -- ---- what lines do, and hosts
 

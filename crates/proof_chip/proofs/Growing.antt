@@ -30,7 +30,7 @@ use Rattle.outside_model.specs.State.{OuterState, each, with_chip}
 use Rattle.outside_model.specs.Chip.{put_out, chip_does}
 use Rattle.proof_chip.specs.Serving.{Lie, Serves, as_given, frame_texts, submitted_in, unit_texts}
 use Rattle.proof_chip.proofs.Dropping.{lie_last, lie_more, without_last, without_more}
-use Rattle.proof_chip.proofs.Picking.{begun_later, begun_picked, dropped_later, picked, picked_both, shown_both}
+use Rattle.proof_chip.proofs.Picking.{begun_picked, dropped_later, picked, picked_both, shown_both}
 use Rattle.proof_chip.proofs.Posting.{Fate, Falls, Stays, IsFew, fate_of, full_none, posts_few}
 use Rattle.proof_chip.proofs.Submitting.{as_many, firsts_both, firsts_of, passed_both, passed_of, steps_begin, steps_copy, steps_pass, steps_submit, submitted_both, texts_both}
 use Rattle.proof_chip.proofs.Telling.{AreAside, aside_drops, aside_written, drops_later, drops_one, no_places, puts_both, puts_drops, puts_written}
@@ -128,10 +128,6 @@ module _ (steps : List Step) (frames : List FrameParts) (past : List Entry) (o :
 
   units_enough : length (written by_chip past) ≤ length now.firsts
   units_enough = let same = ap (λ (l : List (List ℕ)). length l) serves.units ∙ sym (as_many steps) in omega (arith, same)
-
-  -- what the course then says of the entries so far
-  begun_before : begun later past ≡ frame_texts (submitted_in steps)
-  begun_before = begun_later now later (firsts_of more) all_firsts past units_enough ∙ serves.starts
 
   places_before : dropped later past ≡ dropped now past
   places_before = dropped_later now later (firsts_of more) all_firsts past [] units_enough

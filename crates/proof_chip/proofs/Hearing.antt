@@ -31,7 +31,7 @@ use Rattle.proof_line.specs.proof_traffic.Facts.{one_if}
 use Rattle.proof_air.proofs.Times.{does_chip, does_time}
 use Rattle.proof_chip.specs.Tally.{Counting, Outlook, TallyBefore, TallyNow, TallySo, outlook}
 use Rattle.proof_chip.proofs.Growing.{serves_aside}
-use Rattle.proof_chip.proofs.Quieting.{IsUnanswered}
+use Rattle.proof_chip.proofs.Quieting.{unanswered}
 use Rattle.proof_chip.proofs.Resting.{Rests, each_rests, queued_leaves, rests_look}
 use Rattle.proof_chip.proofs.Standing.{few_stand}
 use Rattle.proof_chip.proofs.Tallied.{Stays, before_stays, none_so, now_stays, post_t}
@@ -48,7 +48,7 @@ one_many : (b : Bool) (one : Given) → length ((if b then one ∷ [] else []) +
 one_many true one = refl
 one_many false one = refl
 
-abbrev first_payload : List Carried → List ℕ
+abbrev pub first_payload : List Carried → List ℕ
 first_payload [] = []
 first_payload (one ∷ more) = one.payload
 
@@ -72,7 +72,7 @@ handlers_many past number node payload home = by (frame_of past number) home
     by (Some frame) is = at frame (frame.receiver == controller) refl is
 
 -- no SendData ends: after a line that repeats a frame, and with a frame that is not the controller's
-again_ends : (course : Course) (past : List Entry) (number : ℕ) → repeats past ≡ true → ended_at course past (entry.Heard number) ≡ []
+pub again_ends : (course : Course) (past : List Entry) (number : ℕ) → repeats past ≡ true → ended_at course past (entry.Heard number) ≡ []
 again_ends course past number is = ap (λ (b : Bool). if b then [] else ended_by (status_heard past) (sent_as course past number)) is
 
 pub home_ends : (course : Course) (past : List Entry) (number : ℕ) → repeats past ≡ false → is_outward past number ≡ false → ended_at course past (entry.Heard number) ≡ []
@@ -83,7 +83,7 @@ home_ends course past number is other =
 pub home_fate : (past : List Entry) (number : ℕ) → repeats past ≡ false → first_fate past (entry.Heard number) ≡ number ∷ []
 home_fate past number is = ap (λ (b : Bool). if b then [] else number ∷ []) is
 
-again_fate : (past : List Entry) (number : ℕ) → repeats past ≡ true → first_fate past (entry.Heard number) ≡ []
+pub again_fate : (past : List Entry) (number : ℕ) → repeats past ≡ true → first_fate past (entry.Heard number) ≡ []
 again_fate past number is = ap (λ (b : Bool). if b then [] else number ∷ []) is
 
 -- ---- outside the host
@@ -101,10 +101,6 @@ heard_outlook o node payload =
 pub comes_outlook : (b : Bool) (o : OuterState) (node : ℕ) (payload : List ℕ) → outlook (if b then chip_does o (chip_hears node payload) else silent o).outer ≡ outlook o
 comes_outlook true o node payload = heard_outlook o node payload
 comes_outlook false o node payload = refl
-
-heard_answers : (b : Bool) (node : ℕ) (payload : List ℕ) → IsUnanswered b (chip_hears node payload)
-heard_answers true node payload = tt
-heard_answers false node payload = tt
 
 plus_none : (n : ℕ) → n + 0 ≡ n
 plus_none n = omega arith
@@ -124,7 +120,7 @@ module _ (devices : List State) where
         → TallySo (At 0) (did ++ steps_by (heard_account b o node payload)) (past ++ (if b then chip_does o (chip_hears node payload) else silent o).entries)
         (if b then chip_does o (chip_hears node payload) else silent o).outer.chip.state.port
     comes_t true past o node payload so =
-        post_t devices false (At 1) (At 0) (stays 1) did past o (chip_hears node payload) _ (heard_answers (collides o.chip.state) node payload) refl (λ is. absurd (let no : false ≡ true = is in cc))
+        post_t devices false (At 1) (At 0) (stays 1) did past o (chip_hears node payload) _ (unanswered (collides o.chip.state) (chip_hears node payload) tt) refl (λ is. absurd (let no : false ≡ true = is in cc))
         (λ count course all now was. above count course all was) (λ count course all was. step count course all was) so
     comes_t false past o node payload so = none_so devices (At 0) did past o.chip.state.port so
 

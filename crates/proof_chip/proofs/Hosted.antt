@@ -1,12 +1,10 @@
 -- The count of the frames for the host goes on with each event of the machine that is none outside the host.
-use Rattle.std.proofs.Common.{◌≡◌, ℕ, Bool, List, [], ◌++◌, length, refl, sym, ap, ◌∙◌, subst, append-nil, append_assoc}
+use Rattle.std.proofs.Common.{◌≡◌, ℕ, Bool, List, [], ◌++◌, refl, sym, ap, ◌∙◌, subst, append-nil, append_assoc}
 use Rattle.std.specs.List.{AllByRecursion}
 use Rattle.serial_link.specs.Rules.{Step}
-use Rattle.air_frames.specs.History.{goes_in}
 use Rattle.chip_sim.specs.State.{ChipState}
 use Rattle.zw_text.specs.declared.entry.Entry.{Entry}
 use Rattle.zw_text.specs.declared.entry.Entry.TheVariants as entry
-use Rattle.zw_text.specs.Transcript.{frames}
 use Rattle.host_model.specs.State.{HostState}
 use Rattle.host_model.specs.Events.{HostEvent, Accepts, Cancels}
 use Rattle.host_model.specs.Outs.{answers}
@@ -15,10 +13,7 @@ use Rattle.outside_model.specs.State.{OuterState, Outside}
 use Rattle.outside_model.specs.Events.{OuterEvent, Host_begins, Host_notes, outcome, entries as entries_outside, happens as happens_outside}
 use Rattle.world_model.specs.State.{Machine}
 use Rattle.world_model.specs.Events.{Event, Outside_does, Host_does, Refuses, Shows_values, May, entries, happens}
-use Rattle.proof_air.specs.proof_walk.Outside.{CoversAnswer, CoversHost, CoversOuter, awaits_number, nothing}
-use Rattle.proof_air.specs.Logs.{Tie, log_of}
-use Rattle.proof_air.proofs.Counting.{frames_sent}
-use Rattle.proof_air.proofs.Logs.{plain_sent}
+use Rattle.proof_air.specs.proof_walk.Outside.{CoversAnswer, CoversHost, CoversOuter, awaits_number}
 use Rattle.proof_air.proofs.HostNotes.{is_note}
 use Rattle.proof_air.proofs.Machines.{machine_goes}
 use Rattle.proof_line.proofs.ChipAccounts.{event_steps}
@@ -34,10 +29,6 @@ NowSo devices did past o = TallySo (TallyNow devices (outlook o) (awaits_number 
 -- and in a tick before
 abbrev pub BeforeSo : List State → Bool → ℕ → List Step → List Entry → OuterState → Type 0
 BeforeSo devices arriving left did past o = TallySo (TallyBefore devices (outlook o) arriving left (awaits_number o) 0) did past o.chip.state.port
-
--- as many frames are shown as were sent
-pub many_sent : (past : List Entry) (w : Outside) → Tie nothing past w → length (frames past) ≡ w.outer.air.frames.sent
-many_sent past w tie = sym (frames_sent past) ∙ (ap goes_in (sym (tie.shown ∙ append-nil (log_of past))) ∙ (plain_sent tie.log ∙ sym tie.kept.sent))
 
 -- ---- events of the host
 

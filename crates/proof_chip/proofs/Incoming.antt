@@ -1,5 +1,5 @@
 -- The next frame on the air: whose it is by the transcript, and what may become of it, case by case; and so of one that is heard again.
-use Rattle.std.proofs.Common.{◌≡◌, ◌≢◌, ◌<◌, ◌≤◌, ℕ, zero, suc, ◌+◌, ◌-◌, ◌==◌, ◌&&◌, ◌||◌, nat_le, nat_lt, Bool, true, false, if◌then◌else◌, List, [], ◌∷◌, ◌++◌, length, refl, sym, ap, ◌∙◌, subst, ne_eqb, arith}
+use Rattle.std.proofs.Common.{◌≡◌, ◌≢◌, ◌<◌, ◌≤◌, ℕ, zero, suc, ◌+◌, ◌-◌, ◌==◌, ◌&&◌, ◌||◌, nat_le, Bool, true, false, if◌then◌else◌, List, [], ◌∷◌, ◌++◌, length, refl, sym, ap, ◌∙◌, subst, ne_eqb, arith}
 use Rattle.std.specs.Prelude.{Option, Some, None, option_map, slice_get}
 use Rattle.std.specs.List.{AllByRecursion, flat_map}
 use Rattle.zw_base.proofs.Each.{all-append, all-weaker}
@@ -11,13 +11,13 @@ use Rattle.air_frames.specs.declared.frame.Heading.{Heading}
 use Rattle.air_frames.specs.declared.frame.Heading.TheVariants.{Outward, Homeward}
 use Rattle.air_frames.specs.Flown.{Flown}
 use Rattle.air_frames.specs.Frames.{FramesState, landing, next_of, remembered}
-use Rattle.air_frames.specs.History.{Mark, Goes, Begins, departure_at, stamped}
+use Rattle.air_frames.specs.History.{stamped}
 use Rattle.mesh_sim.specs.declared.event.AirEvent.{AirEvent}
 use Rattle.mesh_sim.specs.declared.event.AirEvent.TheVariants as tells
 use Rattle.mesh_sim.specs.declared.fate.Fate.{Fate}
 use Rattle.mesh_sim.specs.declared.fate.Fate.TheVariants as fate
 use Rattle.mesh_sim.specs.Air.{AirState, departing, is_joined}
-use Rattle.mesh_sim.specs.Fates.{Mesh, awake_at, dead_hop_of, fate_of, is_awake, listener_of, place_of}
+use Rattle.mesh_sim.specs.Fates.{Mesh, dead_hop_of, fate_of, listener_of, place_of}
 use Rattle.mesh_sim.specs.Routes.{backwards}
 use Rattle.mesh_sim.specs.Steps.{acknowledged, answers, answers_if, arrival_outs, arrival_outs_as, arriving, arriving_as, changed, done_of, heard_at, landed, mesh_after, outs_at, status_of, heard_again, outs_again, repeat_outs, repeat_outs_by, repeating, repeating_by}
 use Rattle.zw_text.specs.declared.entry.Entry.{Entry}
@@ -36,8 +36,10 @@ use Rattle.outside_model.specs.Events.{Arrives, mesh_of, happens as happens_outs
 use Rattle.proof_air.proofs.ChangesOutside.{fate_home, fate_out}
 use Rattle.proof_air.specs.proof_walk.Outside.{nothing}
 use Rattle.proof_air.specs.Carrying.{IsHome}
-use Rattle.proof_air.specs.Logs.{IsApart, Tie, plain}
+use Rattle.proof_air.specs.Logs.{Tie, plain}
 use Rattle.proof_air.proofs.Counting.{at_its_place, departure}
+use Rattle.proof_air.proofs.Fated.{listens_there}
+use Rattle.proof_air.proofs.Fresh.{apart_at}
 use Rattle.proof_air.proofs.Homes.{next_home, next_stands, shown_so, went_so, again_home, again_stands}
 use Rattle.proof_line.specs.proof_traffic.Flights.{Fly}
 use Rattle.proof_line.specs.proof_traffic.OnAir.{on_air}
@@ -53,7 +55,7 @@ use Rattle.proof_chip.proofs.Arriving.{ArePlain}
 use Rattle.proof_chip.proofs.Calling.{flying}
 use Rattle.proof_chip.proofs.Finishing.{Sees}
 use Rattle.proof_chip.proofs.Numbering.{numbers_above, numbers_many}
-use Rattle.proof_chip.proofs.Settling.{own}
+use Rattle.proof_chip.proofs.Settling.{found_in, own}
 use Rattle.proof_chip.proofs.Standing.{goes_none}
 use Rattle.proof_chip.proofs.Steady.{homes_numbers}
 use Rattle.proof_chip.proofs.Asides.{NotHome, other_node}
@@ -84,17 +86,6 @@ done_plain air node route device event home =
     (answers_if (is_joined air node) air node (option_map backwards route) (device_replies device event))
     (changed_plain node (length device.journal) (length (device_after device event).journal - length device.journal))
     (sends_plain (is_joined air node) air node (option_map backwards route) (device_replies device event) (other_node air node home))
-
--- there is a device where one listens
-none_listens : (there : List State) (found : Option ℕ) (place : ℕ) → awake_at there found ≡ Some place → slice_get there place ≡ None → ⊥
-none_listens there None place is none = cc
-none_listens there (Some at) place is none = by (is_awake (slice_get there at)) refl is
-  where
-    by : (b : Bool) → is_awake (slice_get there at) ≡ b → (if b then Some at else None) ≡ Some place → ⊥
-    by true awake here =
-        let same : at ≡ place = cc in
-        let no : true ≡ false = sym awake ∙ (ap (λ (n : ℕ). is_awake (slice_get there n)) same ∙ ap (λ (found : Option State). is_awake found) none) in cc
-    by false awake here = cc
 
 -- ---- frames of the transcript
 
@@ -129,12 +120,6 @@ not_own (Some frame) one is heads apart = by (frame.receiver == controller) refl
         let node : frame.sender ≡ one.node = sym (ap (λ (x : Bool). if x then frame.sender else frame.receiver) home) ∙ ap (λ (d : Departure). d.node) same in
         or_false (frame.sender == controller) (ne_eqb frame.sender controller (λ at. apart (sym node ∙ at)))
 
-apart_at : (log : List Mark) (at : ℕ) (one : Departure) → AllByRecursion IsApart log → departure_at log at ≡ Some one → one.node ≢ controller
-apart_at [] at one apart is = absurd cc
-apart_at (Begins node ∷ log) at one apart is = apart_at log at one apart.1 is
-apart_at (Goes first ∷ log) zero one apart is = let same : first ≡ one = cc in subst (λ (d : Departure). d.node ≢ controller) same apart.0
-apart_at (Goes first ∷ log) (suc at) one apart is = apart_at log at one apart.1 is
-
 module _ (past : List Entry) (w : Outside) (tie : Tie nothing past w) where
   none_at : (at : ℕ) (frame : Flown) → slice_get (stamped [] tie.log) at ≡ Some frame → frame.heading ≡ Outward → handlers_at past (entry.Heard (suc at)) ≡ []
   none_at at frame is heads =
@@ -154,9 +139,6 @@ plus_one n = omega arith
 -- where other entries show the same frames
 abbrev pub SameFrames : List Entry → List Entry → Type 0
 SameFrames here past = frames here ≡ frames past
-
-abbrev found_in : List AirFrame → ℕ → Option AirFrame
-found_in all number = if nat_lt 0 number then slice_get all (number - 1) else None
 
 same_handlers : (here past : List Entry) → SameFrames here past → (number : ℕ) → handlers_at here (entry.Heard number) ≡ handlers_at past (entry.Heard number)
 same_handlers here past same number = ap (λ (all : List AirFrame). flat_map handler_of (listed (found_in all number))) same
@@ -194,24 +176,24 @@ module _ (laws : Laws) (past : List Entry) (w : Outside) (tie : Tie nothing past
   it_stands : slice_get (stamped [] tie.log) w.outer.air.frames.landed ≡ Some flight
   it_stands = next_stands past w tie flight it_is
 
-  abbrev number : ℕ
-  number = w.outer.air.frames.landed + 1
+  abbrev next_number : ℕ
+  next_number = w.outer.air.frames.landed + 1
 
   abbrev numbers : List ℕ
-  numbers = numbers_from (number + 1) flights
+  numbers = numbers_from (next_number + 1) flights
 
   module _ (devices : List State) (waits : Waits w.outer) (left : ℕ) (did : List Step) (here : List Entry) (same : SameFrames here past)
       (so : TallySo (TallyBefore devices (outlook w.outer) true (suc left) false 0) did here w.outer.chip.state.port) where
-    own_numbers : flight.heading ≡ Outward → (outlook w.outer).numbers ≡ number ∷ numbers
-    own_numbers heads = ap (λ (fs : List Flown). numbers_from number fs) on ∙ ap (λ (h : Heading). number_of h number ++ numbers) heads
+    own_numbers : flight.heading ≡ Outward → (outlook w.outer).numbers ≡ next_number ∷ numbers
+    own_numbers heads = ap (λ (fs : List Flown). numbers_from next_number fs) on ∙ ap (λ (h : Heading). number_of h next_number ++ numbers) heads
 
-    own_is : flight.heading ≡ Outward → is_outward here number ≡ true
+    own_is : flight.heading ≡ Outward → is_outward here next_number ≡ true
     own_is heads =
         let (given_frames, serves, are) = so in
         let own_all : AreOwn here (outlook w.outer).numbers = (are (course_of did) (goes_none (course_of did))).own in
         (subst (λ (l : List ℕ). AreOwn here l) (own_numbers heads) own_all).0
 
-    its_sight : (air : AirState) → HasLanded w.outer flights air → flight.heading ≡ Outward → Sees devices (outlook w.outer) left number numbers (record w.outer { air = air })
+    its_sight : (air : AirState) → HasLanded w.outer flights air → flight.heading ≡ Outward → Sees devices (outlook w.outer) left next_number numbers (record w.outer { air = air })
     its_sight air at heads = record {
       sending = refl;
       by_frame = refl;
@@ -222,7 +204,7 @@ module _ (laws : Laws) (past : List Entry) (w : Outside) (tie : Tie nothing past
       each_call = waits.each;
       flies =
           sym waits.await.frames
-          ∙ (ap outward on ∙ (ap (λ (h : Heading). one_outward h + outward flights) heads ∙ one_plus (outward flights) (length numbers) (numbers_many (number + 1) flights)));
+          ∙ (ap outward on ∙ (ap (λ (h : Heading). one_outward h + outward flights) heads ∙ one_plus (outward flights) (length numbers) (numbers_many (next_number + 1) flights)));
     }
       where
         one_plus : (m n : ℕ) → n ≡ m → 1 + m ≡ suc n
@@ -231,15 +213,15 @@ module _ (laws : Laws) (past : List Entry) (w : Outside) (tie : Tie nothing past
     pub it_is_next : IsNext devices w.outer flight flights left here
     it_is_next = record {
       not_outward = λ heads.
-          same_outward here past same number
+          same_outward here past same next_number
           ∙ subst (λ (n : ℕ). is_outward past n ≡ false) (plus_one w.outer.air.frames.landed) (home_at past w tie w.outer.air.frames.landed flight it_stands heads);
-      home = λ heads. same_home here past same number flight.node flight.payload (next_home past w tie flight it_is heads);
+      home = λ heads. same_home here past same next_number flight.node flight.payload (next_home past w tie flight it_is heads);
       is_own = own_is;
       unhandled = λ heads.
-          same_handlers here past same number
+          same_handlers here past same next_number
           ∙ subst (λ (n : ℕ). handlers_at past (entry.Heard n) ≡ []) (plus_one w.outer.air.frames.landed) (none_at past w tie w.outer.air.frames.landed flight it_stands heads);
       sees = its_sight;
-      above = all-weaker (λ (n : ℕ). number + 1 ≤ n) (λ (n : ℕ). number < n) (λ n is. omega (arith, is)) numbers (numbers_above (number + 1) flights);
+      above = all-weaker (λ (n : ℕ). next_number + 1 ≤ n) (λ (n : ℕ). next_number < n) (λ n is. omega (arith, is)) numbers (numbers_above (next_number + 1) flights);
     }
 
 -- ---- what may become of it
@@ -292,7 +274,7 @@ module _ (w : Outside) (flight : Flown) (flights : List Flown) (Ends : Mesh → 
       cases.home_heard (arriving_as (mesh_of w) flight fate.AtChip drawn route) refl (fate_home flight.lost (dead_hop_of w.outer.air.network flight) flight.heading (listener_of flight.node w.devices) is)
   by_fate (fate.AtDevice place) drawn route is at =
       let out = fate_out flight.lost (dead_hop_of w.outer.air.network flight) flight.heading (listener_of flight.node w.devices) place is in
-      heard_by place (slice_get w.devices place) refl (λ none. none_listens w.devices (place_of flight.node w.devices) place out.1 none) drawn route at out.0
+      heard_by place (slice_get w.devices place) refl (λ none. listens_there w.devices (place_of flight.node w.devices) place out.1 none) drawn route at out.0
 
   arrives_by : (found : Option Flown) (drawn : List ℕ) (route : Option Route) → found ≡ Some flight → HasLanded w.outer flights (arriving (mesh_of w) found drawn route).air
       → Ends (arriving (mesh_of w) found drawn route) (arrival_outs (mesh_of w) found drawn route)

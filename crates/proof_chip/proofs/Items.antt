@@ -74,6 +74,11 @@ quiet_looks o item route none =
     ∙ ap (λ (passes : Option FrameParts). is_some (judged_frame passes (heard o.chip.state item)).sending) (none_passed (collides o.chip.state) item route none))
     (does_clock o e)
 
+-- the number of a tick shows no frame
+pub number_frames : (b : Bool) (clock : ℕ) (past : List Entry) → frames (past ++ (if b then entry.Time clock ∷ [] else [])) ≡ frames past
+number_frames true clock past = shown-append frame_at past (entry.Time clock ∷ []) ∙ append-nil (frames past)
+number_frames false clock past = ap (λ (l : List Entry). frames l) (append-nil past)
+
 module _ (devices : List State) where
   abbrev pub Now : Bool → List Step → List Entry → OuterState → Type 0
   Now awaits did past o = TallySo (TallyNow devices (outlook o) awaits 0) did past o.chip.state.port
@@ -168,18 +173,7 @@ module _ (devices : List State) (laws : Laws) where
   -- ---- all of it, with the number of the tick
 
   pub number_puts : (b : Bool) (clock : ℕ) (past : List Entry) (o : OuterState) → Puts past o → Puts (past ++ (if b then entry.Time clock ∷ [] else [])) o
-  number_puts b clock past o puts = record {
-    log = puts.log;
-    fly = puts.fly;
-    sent =
-        ap (λ (l : List AirFrame). length l) (shown-append frame_at past (if b then entry.Time clock ∷ [] else []) ∙ (ap (λ (l : List AirFrame). frames past ++ l) (none b) ∙ append-nil (frames past)))
-        ∙ puts.sent;
-    joined = puts.joined;
-  }
-    where
-      none : (b : Bool) → frames (if b then entry.Time clock ∷ [] else []) ≡ []
-      none true = refl
-      none false = refl
+  number_puts b clock past o puts = record { log = puts.log; fly = puts.fly; sent = ap (λ (l : List AirFrame). length l) (number_frames b clock past) ∙ puts.sent; joined = puts.joined }
 
   module _ (did : List Step) (w : Outside) (count : ℕ) (rest : Rest) (ways : List (Item × Option Route)) (may : MayTake w.outer count rest ways) (past : List Entry)
       (agrees : Agrees devices (past ++ ticked_entry w.outer) w.outer) (knows : AirSo devices (AreNow w.outer) did past w.outer.chip.state.port) (puts : Puts past w.outer)

@@ -1,5 +1,5 @@
 -- An item that the chip judges keeps the law of what goes on the air, and what ties the chip to the transcript while it judges: the SendData under way, the clock, joined nodes and ways.
-use Rattle.std.proofs.Common.{◌≡◌, ◌≤◌, ◌⊎◌, ℕ, ◌-◌, ◌==◌, ◌&&◌, max, nat_le, take, Bool, true, false, if◌then◌else◌, List, [], ◌∷◌, ◌++◌, map, length, inl, inr, refl, sym, ap, ap₂, ◌∙◌, subst, append_assoc, arith}
+use Rattle.std.proofs.Common.{◌≡◌, ◌≤◌, ◌⊎◌, ℕ, ◌==◌, ◌&&◌, nat_le, Bool, true, false, if◌then◌else◌, List, [], ◌∷◌, ◌++◌, map, length, inl, inr, refl, sym, ap, ap₂, ◌∙◌, subst, append_assoc, arith}
 use Rattle.std.specs.Prelude.{Option, Some, None, slice_get}
 use Rattle.std.specs.List.{AllByRecursion, flat_map}
 use Rattle.circular_buffer.proofs.Places.{slice_get-append_right}
@@ -26,11 +26,9 @@ use Rattle.chip_sim.specs.declared.out.ChipOut.{ChipOut}
 use Rattle.chip_sim.specs.declared.out.ChipOut.TheVariants.{Write}
 use Rattle.chip_sim.specs.declared.out.Sending.{Sending as SendingParts}
 use Rattle.zw_words.specs.declared.side.Side.TheVariants.{Chip as by_chip}
-use Rattle.zw_text.specs.declared.line.Line.{Line}
 use Rattle.zw_text.specs.declared.entry.Entry.{Entry}
 use Rattle.zw_text.specs.declared.entry.Entry.TheVariants as entry
 use Rattle.law_transcript.specs.Nodes.{controller, is_joined}
-use Rattle.law_transcript.specs.Restarts.{ticks_asked}
 use Rattle.law_wire.specs.Asked.{Course, Sending, acks, clock_of, course_of, in_tick, last_sending, passed_by, sending_after, sending_by, sending_of, takes}
 use Rattle.law_wire.specs.Networks.{chip_network}
 use Rattle.law_wire.specs.Routes.{HasNoRoute}
@@ -40,7 +38,8 @@ use Rattle.outside_model.specs.State.{OuterState, each}
 use Rattle.outside_model.specs.Chip.{put_out}
 use Rattle.proof_host.proofs.Lists.{each-append}
 use Rattle.proof_routes.proofs.Books.{same_joined}
-use Rattle.proof_air.proofs.Untimed.{IsUntimed, same_lines, same_time}
+use Rattle.proof_air.proofs.SentBefore.{same_clock}
+use Rattle.proof_air.proofs.Untimed.{IsUntimed}
 use Rattle.proof_chip.specs.Serving.{GoesOn, Serves}
 use Rattle.proof_chip.specs.Sending.{AreSending, TieAir, TieItems}
 use Rattle.proof_chip.proofs.Airing.{IsNoAck, last_answered, same_last, taken_by}
@@ -74,13 +73,9 @@ put_untimed (entry.Air frame sender receiver repeaters payload) put = tt
 put_untimed entry.ChipFull put = tt
 put_untimed e put = absurd put
 
-gives_no_ack : (e : Entry) → GivesNone e → IsNoAck e
+pub gives_no_ack : (e : Entry) → GivesNone e → IsNoAck e
 gives_no_ack (entry.Written by_chip unit) none = none
 gives_no_ack e none = tt
-
-pub same_clock : (past told : List Entry) → AllByRecursion IsUntimed told → clock_of (past ++ told) ≡ clock_of past
-same_clock past told untimed =
-    ap₂ (λ (n : ℕ) (l : List Line). max n (ticks_asked (take (length l - 1) l))) (same_time past told untimed) (same_lines past told untimed)
 
 -- ---- courses
 

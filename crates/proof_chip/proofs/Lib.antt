@@ -12,7 +12,7 @@ pub mod Airing
 pub mod Quieting
 mod Judging
 pub mod Taking
-mod Turning
+pub mod Turning
 pub mod Standing
 pub mod Replying
 pub mod Reckoning
@@ -72,6 +72,7 @@ pub use Rattle.proof_line.proofs.FactsKept
 pub use Rattle.proof_line.proofs.Notes
 pub use Rattle.proof_line.proofs.ChipAccounts
 pub use Rattle.proof_line.proofs.Parts
+pub use Rattle.proof_line.proofs.Outside
 pub use Rattle.proof_line.proofs.Arrivals
 pub use Rattle.proof_line.proofs.LinkEnds
 pub use Rattle.proof_line.proofs.LinkWalk
@@ -96,3 +97,4 @@ pub use Rattle.proof_air.proofs.Lines
 pub use Rattle.proof_air.proofs.Shown
 pub use Rattle.proof_air.proofs.Alone
 pub use Rattle.proof_air.proofs.Untimed
+pub use Rattle.proof_air.proofs.LandingWalk

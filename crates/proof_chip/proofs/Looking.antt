@@ -2,7 +2,6 @@
 use Rattle.std.proofs.Common.{◌≡◌, ℕ, ◌+◌, ◌||◌, Bool, true, false, if◌then◌else◌, List, [], ◌∷◌, ◌++◌, refl, sym, ap, ◌∙◌, subst, arith}
 use Rattle.std.specs.Prelude.{Option, Some, None}
 use Rattle.std.specs.Option.{is_some}
-use Rattle.serial_frame.specs.Frame.{FrameParts}
 use Rattle.chip_functions.specs.declared.request.Request.{Request}
 use Rattle.chip_functions.specs.declared.request.Request.TheVariants.{GetInitData, GetCapabilities, SendData, GetVersion, SendDataAbort, MemoryGetId, GetNodeProtocolInfo, AddNode, RequestNodeInfo, IsFailedNode, GetRoutingInfo}
 use Rattle.chip_sim.specs.State.{ChipState}
@@ -33,10 +32,6 @@ pub does_clock : (o : OuterState) (e : ChipEvent) → (chip_does o e).outer.cloc
 does_clock o e = ap (λ (t : Bool × Bool × ℕ). t.2) (does_time o e)
 
 -- ---- the SendData under way
-
-given_sending : (r : Option FrameParts) (s : ChipState) → (given_if s r).sending ≡ s.sending
-given_sending None s = refl
-given_sending (Some f) s = refl
 
 stopped_none : (x : Option SendingParts) (s : ChipState) → s.sending ≡ x → is_some (stopped x s).sending ≡ false
 stopped_none None s is = ap (λ (x : Option SendingParts). is_some x) is

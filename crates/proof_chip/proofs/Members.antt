@@ -1,7 +1,6 @@
 -- Chip and air know the same joined nodes at each moment: both learn of a node only where it joins.
-use Rattle.std.proofs.Common.{◌≡◌, ℕ, ◌-◌, ◌==◌, nat_le, Bool, true, false, if◌then◌else◌, List, [], ◌∷◌, ◌++◌, filter, refl, sym, ap, ◌∙◌}
+use Rattle.std.proofs.Common.{◌≡◌, ℕ, ◌-◌, ◌==◌, Bool, true, false, if◌then◌else◌, List, [], ◌∷◌, ◌++◌, refl, sym, ap, ◌∙◌}
 use Rattle.std.specs.Prelude.{Option, Some, None, option_map, slice_get, slice_set}
-use Rattle.std.specs.List.{AllByRecursion, range_with_len}
 use Rattle.s0_crypto.specs.declared.key_pair.Keys.{Keys}
 use Rattle.serial_frame.specs.Stream.{after_tick}
 use Rattle.route_table.specs.declared.route.Route.{Route}
@@ -18,12 +17,12 @@ use Rattle.chip_sim.specs.declared.out.ChipOut.TheVariants.{Write, OnAir, NoRout
 use Rattle.chip_sim.specs.declared.out.Sending.{Sending as SendingParts}
 use Rattle.air_frames.specs.declared.frame.Heading.TheVariants.{Homeward}
 use Rattle.air_frames.specs.Flown.{Flown}
-use Rattle.air_frames.specs.Frames.{next_of, peer_of, remembered}
+use Rattle.air_frames.specs.Frames.{next_of, remembered}
 use Rattle.mesh_sim.specs.declared.event.AirEvent.{AirEvent}
 use Rattle.mesh_sim.specs.declared.event.AirEvent.TheVariants as air_event
 use Rattle.mesh_sim.specs.declared.fate.Fate.{Fate}
 use Rattle.mesh_sim.specs.declared.fate.Fate.TheVariants.{Lost, Dead, Missed, AtChip, AtDevice}
-use Rattle.mesh_sim.specs.Air.{AirState, beginning, departing, is_joined, joining}
+use Rattle.mesh_sim.specs.Air.{AirState, departing, is_joined, joining}
 use Rattle.mesh_sim.specs.Fates.{Mesh, fate_of, listener_of, place_of}
 use Rattle.mesh_sim.specs.Routes.{backwards}
 use Rattle.mesh_sim.specs.Steps.{AirStep, acknowledged, answered, answered_if, arriving, arriving_as, heard_again, heard_at, landed, mesh_after, repeating, repeating_by}
@@ -34,19 +33,20 @@ use Rattle.zw_words.specs.declared.side.Side.TheVariants.{Host as by_host, Chip 
 use Rattle.outside_model.specs.State.{OuterState, Outcome, Outside, first_outer, with_chip}
 use Rattle.outside_model.specs.Chip.{chip_does, put_out}
 use Rattle.outside_model.specs.Results.{device_at}
-use Rattle.outside_model.specs.Nodes.{all_pairs, is_known, links_of, listens_at}
+use Rattle.outside_model.specs.Nodes.{links_of, listens_at}
 use Rattle.outside_model.specs.Air.{deals}
-use Rattle.outside_model.specs.Events.{OuterEvent, Host_writes, Host_takes, Host_notes, Shows, Joins, Discovers, Links, Loses, Loses_acks, Marks_loss, Marks_change, Clears_pipe, Collides_next, Stalls, Cuts, begins, mesh_of, outcome, ticked_entry}
+use Rattle.outside_model.specs.Events.{OuterEvent, Host_writes, Host_takes, Host_notes, Shows, Joins, Discovers, Links, Loses, Loses_acks, Marks_loss, Marks_change, Clears_pipe, Collides_next, Stalls, Cuts, mesh_of, outcome, ticked_entry}
 use Rattle.world_model.specs.State.{first_machine}
 use Rattle.proof_air.proofs.Results.{Gives, IsGiven, ends_go, gives_go, to_chip_goes}
 use Rattle.proof_air.specs.proof_walk.Outside.{IsHearing, IsSimple, Outer}
 use Rattle.proof_air.specs.proof_walk.Walk.{Walk}
 use Rattle.proof_air.proofs.Machines.{machine_keeps}
 use Rattle.proof_air.proofs.Times.{does_chip, each_keeps}
+use Rattle.proof_air.proofs.Airing.{begins_joined}
+use Rattle.proof_air.proofs.Alone.{Any, covers_any}
 use Rattle.proof_chip.specs.Knowing.{AnyEntry, KnownNodes, KnowsNodes, SameNodes}
 use Rattle.proof_chip.proofs.Judged.{judged_nodes}
-use Rattle.proof_chip.proofs.Learning.{Any, any_each, covers_any}
-use Rattle.proof_line.proofs.Colliding.{IsLinked, all_linked, pairs_linked}
+use Rattle.proof_chip.proofs.Learning.{any_each, discovers_keep, joins_keep}
 
 -- ---- the chip
 
@@ -89,19 +89,10 @@ does_same o event none same =
     ∙ same
     ∙ sym (each_keeps (λ (p : OuterState). p.air.joined) put_out put_joined (with_chip o (after o.chip.state event)) (outs o.chip.state event))
 
-linked_joined : (events : List ChipEvent) (s : ChipState) → AllByRecursion IsLinked events → (after_all s events).joined ≡ s.joined
-linked_joined [] s linked = refl
-linked_joined (Linked a b live ∷ events) s linked = linked_joined events (after s (Linked a b live)) linked.1
-linked_joined (event ∷ events) s linked = absurd linked.0
-
 joins_same : (o : OuterState) (node : ℕ) (listening : Bool) → SameNodes o
     → (after_all (after o.chip.state (Joined node listening)) (links_of (joining o.air node listening) node)).joined ≡ (joining o.air node listening).joined
 joins_same o node listening same =
-    linked_joined (links_of (joining o.air node listening) node) (after o.chip.state (Joined node listening)) (all_linked _ (λ n. tt) _) ∙ ap (λ (l : List Bool). slice_set l node true) same
-
-discovers_same : (o : OuterState) → SameNodes o → (after_all o.chip.state (all_pairs o.air)).joined ≡ o.air.joined
-unfolding all_pairs
-discovers_same o same = linked_joined (all_pairs o.air) o.chip.state (pairs_linked o.air (filter (λ (node : ℕ). is_known o.air node) (range_with_len 1 232))) ∙ same
+    joins_keep (λ (s : ChipState). s.joined) (λ s a b live. refl) o node listening ∙ ap (λ (l : List Bool). slice_set l node true) same
 
 given_joins : (event : ChipEvent) → IsGiven event → JoinsNone event
 given_joins (Joined node listening) given = absurd given
@@ -172,13 +163,6 @@ steps_joined there (mesh.Arrives drawn route) hearing = arriving_joined there (n
 steps_joined there (mesh.Repeats number drawn route) hearing = repeating_joined there (remembered there.air.frames number) drawn route
 steps_joined there step hearing = absurd hearing
 
-begins_same : (air : AirState) (node sessions : ℕ) → (begins air node sessions).joined ≡ air.joined
-begins_same air node sessions = by (nat_le (peer_of air.frames node).begun sessions)
-  where
-    by : (b : Bool) → (if b then beginning air node sessions else air).joined ≡ air.joined
-    by true = refl
-    by false = refl
-
 -- ---- simple events
 
 simple_same : (w : Outside) (event : OuterEvent) → IsSimple event → SameNodes w.outer → SameNodes (outcome w event).outer
@@ -188,7 +172,7 @@ simple_same w (Host_takes count) simple same = same
 simple_same w (Host_notes note) simple same = same
 simple_same w (Shows node) simple same = same
 simple_same w (Joins node) simple same = joins_same w.outer node (listens_at (device_at w.devices (place_of node w.devices))) same
-simple_same w Discovers simple same = discovers_same w.outer same
+simple_same w Discovers simple same = discovers_keep (λ (s : ChipState). s.joined) (λ s a b live. refl) w.outer ∙ same
 simple_same w (Links a b live) simple same = same
 simple_same w (Loses count) simple same = same
 simple_same w (Loses_acks count) simple same = same
@@ -212,7 +196,7 @@ members = record {
   number = λ past w same. same;
   stamps = λ awaits stamped past w same. same;
   simple = λ w event simple covers awaits past silent same. (any_each past (outcome w event).entries, simple_same w event simple same);
-  session = λ w node session command awaits past silent same. ((tt, tt), same ∙ sym (begins_same w.outer.air node session));
+  session = λ w node session command awaits past silent same. ((tt, tt), same ∙ sym (begins_joined w.outer.air node session));
   takes = λ w count rest ways may awaits past silent same. (tt, same);
   judges = λ w way ways may awaits past silent same. (any_each past (chip_does w.outer (Judged way.0 way.1)).entries, does_same w.outer (Judged way.0 way.1) tt same);
   judged = λ awaits past w same. same;

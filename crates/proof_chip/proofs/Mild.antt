@@ -1,7 +1,7 @@
 -- Events at which the chip has under way what it had, and the clock stays: all but the beginning of a tick, the chip's taking of bytes, and what comes of frames and results.
-use Rattle.std.proofs.Common.{◌≡◌, ℕ, ◌&&◌, nat_le, Bool, true, false, if◌then◌else◌, List, [], ◌∷◌, ◌++◌, filter, length, refl, ap, ◌∙◌}
+use Rattle.std.proofs.Common.{◌≡◌, ℕ, ◌&&◌, nat_le, Bool, true, false, if◌then◌else◌, List, [], ◌∷◌, ◌++◌, length, refl, ap, ◌∙◌}
 use Rattle.std.specs.Prelude.{Option, Some, None, slice_get}
-use Rattle.std.specs.List.{AllByRecursion, range_with_len}
+use Rattle.std.specs.List.{AllByRecursion}
 use Rattle.serial_frame.specs.Stream.{after_tick}
 use Rattle.serial_frame.specs.declared.unit.Unit.{Unit as LineUnit}
 use Rattle.route_table.specs.declared.route.Route.{Route}
@@ -11,9 +11,7 @@ use Rattle.air_frames.specs.Frames.{remembered}
 use Rattle.air_frames.specs.Ages.{refusal_of}
 use Rattle.air_frames.specs.declared.ages.Refusal.{Refusal as RepeatRefusal}
 use Rattle.chip_sim.specs.State.{ChipState}
-use Rattle.chip_sim.specs.Events.{ChipEvent, Heard as chip_hears, Joined, Linked, Ticked, after}
-use Rattle.chip_sim.specs.Did.{after_all}
-use Rattle.mesh_sim.specs.Air.{joining}
+use Rattle.chip_sim.specs.Events.{Collides, Heard as chip_hears, Joined, Linked, Ticked, after}
 use Rattle.mesh_sim.specs.Fates.{Mesh, place_of}
 use Rattle.mesh_sim.specs.Steps.{mesh_after, mesh_outs}
 use Rattle.mesh_sim.specs.Steps as mesh
@@ -29,10 +27,10 @@ use Rattle.host_model.specs.Outs.{answers}
 use Rattle.outside_model.specs.State.{OuterState, Outside, each, silent}
 use Rattle.outside_model.specs.Chip.{chip_does}
 use Rattle.outside_model.specs.Results.{device_at}
-use Rattle.outside_model.specs.Nodes.{all_pairs, is_known, links_of, listens_at}
+use Rattle.outside_model.specs.Nodes.{listens_at}
 use Rattle.outside_model.specs.Air.{deals}
 use Rattle.outside_model.specs.Devices.{acts_at, acts_by_hand}
-use Rattle.outside_model.specs.Events.{OuterEvent, Begins_line, Begins_tick, Host_writes, Host_takes as host_takes, Host_notes, Host_begins, Chip_takes, Arrives, Gives, Device_ticks, Chip_ticks, Repeats, Wakes_device, Sets_device, Joins, Discovers, Marks_loss, Marks_change, Clears_pipe, has_entered, mesh_of, outcome, repeats, entries as entries_outside, happens as happens_outside}
+use Rattle.outside_model.specs.Events.{OuterEvent, Begins_line, Begins_tick, Host_writes, Host_takes as host_takes, Host_notes, Host_begins, Chip_takes, Arrives, Gives, Device_ticks, Chip_ticks, Repeats, Wakes_device, Sets_device, Joins, Discovers, Marks_loss, Marks_change, Clears_pipe, Collides_next, has_entered, mesh_of, outcome, repeats, entries as entries_outside, happens as happens_outside}
 use Rattle.outside_model.specs.Did.{happens_all as happens_all_outside, entries_all as entries_all_outside}
 use Rattle.world_model.specs.State.{Machine, begun_in, host_does, routed}
 use Rattle.world_model.specs.Events.{Event, Outside_does, Host_does, Host_takes, Decoder_ticks, Refuses, Shows_values, Restarts, happens, notes}
@@ -41,91 +39,99 @@ use Rattle.proof_air.proofs.Machines.{answers_keep, any_told, outs_keep}
 use Rattle.proof_air.proofs.Times.{does_chip, outcome_time}
 use Rattle.proof_chip.specs.Sending.{IsMild}
 use Rattle.proof_chip.proofs.Acting.{repeats_are}
+use Rattle.proof_chip.proofs.Learning.{discovers_keep, joins_keep}
 use Rattle.proof_air.proofs.Machines.{any_units}
-use Rattle.proof_line.proofs.Colliding.{IsLinked, all_linked, pairs_linked}
 
 -- the chip has the same under way, and the clock is the same
 abbrev pub IsAlike : OuterState → OuterState → Type 0
 IsAlike o p = (p.chip.state.sending ≡ o.chip.state.sending) × (p.clock ≡ o.clock)
 
--- ---- what the chip has under way
+-- ---- what none of these events changes of the chip
 
-linked_sending : (events : List ChipEvent) (s : ChipState) → AllByRecursion IsLinked events → (after_all s events).sending ≡ s.sending
-linked_sending [] s linked = refl
-linked_sending (Linked a b live ∷ events) s linked = linked_sending events (after s (Linked a b live)) linked.1
-linked_sending (event ∷ events) s linked = absurd linked.0
-
-joins_sending : (o : OuterState) (node : ℕ) (listening : Bool) → (after_all (after o.chip.state (Joined node listening)) (links_of (joining o.air node listening) node)).sending ≡ o.chip.state.sending
-joins_sending o node listening = linked_sending (links_of (joining o.air node listening) node) (after o.chip.state (Joined node listening)) (all_linked _ (λ n. tt) _)
-
-discovers_sending : (o : OuterState) → (after_all o.chip.state (all_pairs o.air)).sending ≡ o.chip.state.sending
-unfolding all_pairs
-discovers_sending o = linked_sending (all_pairs o.air) o.chip.state (pairs_linked o.air (filter (λ (node : ℕ). is_known o.air node) (range_with_len 1 232)))
+-- something of it that stays where a node joins, and where it learns of a link, ticks, hears a payload, or is to collide
+pub record IsKept {S : Type 0} (of : ChipState → S) : Type 0 where
+  pub joined : (s : ChipState) (node : ℕ) (listening : Bool) → of (after s (Joined node listening)) ≡ of s
+  pub linked : (s : ChipState) (a b : ℕ) (live : Bool) → of (after s (Linked a b live)) ≡ of s
+  pub ticked : (s : ChipState) → of (after s Ticked) ≡ of s
+  pub heard : (s : ChipState) (node : ℕ) (payload : List ℕ) → of (after s (chip_hears node payload)) ≡ of s
+  pub collides : (s : ChipState) → of (after s Collides) ≡ of s
 
 -- no frame of the chip ends
 abbrev IsNoEnd : AirEvent → Type 0
 IsNoEnd (air_event.Done frame status dead) = ⊥
 IsNoEnd event = Unit {0}
 
-deal_sending : (there : List State) (o : OuterState) (event : AirEvent) → IsNoEnd event → (deals there o event).outer.chip.state.sending ≡ o.chip.state.sending
-deal_sending there o (air_event.Heard frame) no_end = refl
-deal_sending there o (air_event.Lost frame) no_end = refl
-deal_sending there o (air_event.Unheard frame) no_end = refl
-deal_sending there o (air_event.Sent frame from to route payload) no_end = refl
-deal_sending there o (air_event.Changed node at) no_end = refl
-deal_sending there o (air_event.ToChip frame from payload) no_end = by (nat_le 1 (length payload) && nat_le (length payload) 46)
-  where
-    by : (b : Bool) → (if b then chip_does o (chip_hears from payload) else silent o).outer.chip.state.sending ≡ o.chip.state.sending
-    by true = ap (λ (s : ChipState). s.sending) (does_chip o (chip_hears from payload))
-    by false = refl
-deal_sending there o (air_event.Done frame status dead) no_end = absurd no_end
-
-all_sending : (there : List State) (events : List AirEvent) (o : OuterState) → AllByRecursion IsNoEnd events → (each (deals there) o events).outer.chip.state.sending ≡ o.chip.state.sending
-all_sending there [] o no_end = refl
-all_sending there (event ∷ events) o no_end = all_sending there events (deals there o event).outer no_end.1 ∙ deal_sending there o event no_end.0
-
 repeats_end : (there : Mesh) (number : ℕ) (drawn : List ℕ) (route : Option Route) → AllByRecursion IsNoEnd (mesh_outs there (mesh.Repeats number drawn route))
 unfolding mesh_outs
 repeats_end there number drawn route =
     repeats_are IsNoEnd (λ node. Unit {0}) (λ n. tt) (λ node at. tt) (λ n from payload. tt) (λ air node way reply ok. tt) there number (remembered there.air.frames number) drawn route (λ node joins. tt)
 
-repeats_sending : (w : Outside) (refused : Option RepeatRefusal) (number : ℕ) (drawn : List ℕ) (route : Option Route)
-    → (repeats w refused (mesh.Repeats number drawn route)).outer.chip.state.sending ≡ w.outer.chip.state.sending
-repeats_sending w (Some refused) number drawn route = refl
-repeats_sending w None number drawn route =
-    let step = mesh.Repeats number drawn route in
-    all_sending (mesh_after (mesh_of w) step).devices (mesh_outs (mesh_of w) step) (record w.outer { air = (mesh_after (mesh_of w) step).air }) (repeats_end (mesh_of w) number drawn route)
+module _ {S : Type 0} (of : ChipState → S) (kept : IsKept of) where
+  abbrev KeepsIt : OuterState → OuterState → Type 0
+  KeepsIt o p = of p.chip.state ≡ of o.chip.state
 
-at_sending : (o : OuterState) (device : Option State) (event : DeviceEvent) (route : Option Route) → (acts_at o device event route).outer.chip.state.sending ≡ o.chip.state.sending
-at_sending o None event route = refl
-at_sending o (Some device) event route = refl
+  deal_keeps : (there : List State) (o : OuterState) (event : AirEvent) → IsNoEnd event → KeepsIt o (deals there o event).outer
+  deal_keeps there o (air_event.Heard frame) no_end = refl
+  deal_keeps there o (air_event.Lost frame) no_end = refl
+  deal_keeps there o (air_event.Unheard frame) no_end = refl
+  deal_keeps there o (air_event.Sent frame from to route payload) no_end = refl
+  deal_keeps there o (air_event.Changed node at) no_end = refl
+  deal_keeps there o (air_event.ToChip frame from payload) no_end = by (nat_le 1 (length payload) && nat_le (length payload) 46)
+    where
+      by : (b : Bool) → KeepsIt o (if b then chip_does o (chip_hears from payload) else silent o).outer
+      by true = ap of (does_chip o (chip_hears from payload)) ∙ kept.heard o.chip.state from payload
+      by false = refl
+  deal_keeps there o (air_event.Done frame status dead) no_end = absurd no_end
 
-hand_sending : (o : OuterState) (devices : List State) (place : Option ℕ) (event : DeviceEvent) (route : Option Route) → (acts_by_hand o devices place event route).outer.chip.state.sending ≡ o.chip.state.sending
-hand_sending o devices None event route = refl
-hand_sending o devices (Some place) event route = at_sending o (slice_get devices place) event route
+  all_keep : (there : List State) (events : List AirEvent) (o : OuterState) → AllByRecursion IsNoEnd events → KeepsIt o (each (deals there) o events).outer
+  all_keep there [] o no_end = refl
+  all_keep there (event ∷ events) o no_end = all_keep there events (deals there o event).outer no_end.1 ∙ deal_keeps there o event no_end.0
+
+  repeats_keep : (w : Outside) (refused : Option RepeatRefusal) (number : ℕ) (drawn : List ℕ) (route : Option Route) → KeepsIt w.outer (repeats w refused (mesh.Repeats number drawn route)).outer
+  repeats_keep w (Some refused) number drawn route = refl
+  repeats_keep w None number drawn route =
+      let step = mesh.Repeats number drawn route in
+      all_keep (mesh_after (mesh_of w) step).devices (mesh_outs (mesh_of w) step) (record w.outer { air = (mesh_after (mesh_of w) step).air }) (repeats_end (mesh_of w) number drawn route)
+
+  at_keeps : (o : OuterState) (device : Option State) (event : DeviceEvent) (route : Option Route) → KeepsIt o (acts_at o device event route).outer
+  at_keeps o None event route = refl
+  at_keeps o (Some device) event route = refl
+
+  hand_keeps : (o : OuterState) (devices : List State) (place : Option ℕ) (event : DeviceEvent) (route : Option Route) → KeepsIt o (acts_by_hand o devices place event route).outer
+  hand_keeps o devices None event route = refl
+  hand_keeps o devices (Some place) event route = at_keeps o (slice_get devices place) event route
+
+  pub outcome_keeps : (w : Outside) (event : OuterEvent) → IsMild event → KeepsIt w.outer (outcome w event).outer
+  unfolding outcome
+  outcome_keeps w (Chip_takes count rest ways) mild = absurd mild
+  outcome_keeps w (Arrives drawn route) mild = absurd mild
+  outcome_keeps w (Gives route) mild = absurd mild
+  outcome_keeps w (Device_ticks place drawn route) mild = at_keeps w.outer (slice_get w.devices place) (Ticks drawn) route
+  outcome_keeps w Chip_ticks mild =
+      ap of (does_chip (record w.outer { chip = record { decoder = after_tick w.outer.chip.decoder; state = w.outer.chip.state } }) Ticked) ∙ kept.ticked w.outer.chip.state
+  outcome_keeps w (Repeats number drawn route) mild = repeats_keep w (refusal_of w.outer.air.frames number) number drawn route
+  outcome_keeps w (Wakes_device node route) mild = hand_keeps w.outer w.devices (place_of node w.devices) Wakes route
+  outcome_keeps w (Sets_device node value route) mild = hand_keeps w.outer w.devices (place_of node w.devices) (Sets value) route
+  outcome_keeps w (Joins node) mild =
+      let listening : Bool = listens_at (device_at w.devices (place_of node w.devices)) in
+      joins_keep of kept.linked w.outer node listening ∙ kept.joined w.outer.chip.state node listening
+  outcome_keeps w Discovers mild = discovers_keep of kept.linked w.outer
+  outcome_keeps w (Marks_loss by_host) mild = refl
+  outcome_keeps w (Marks_loss by_chip) mild = refl
+  outcome_keeps w (Marks_change by_host garble) mild = refl
+  outcome_keeps w (Marks_change by_chip garble) mild = refl
+  outcome_keeps w (Clears_pipe by_host) mild = refl
+  outcome_keeps w (Clears_pipe by_chip) mild = refl
+  outcome_keeps w Collides_next mild = kept.collides w.outer.chip.state
+  outcome_keeps w event mild = refl
 
 -- ---- events outside the host
 
+-- the chip has under way what it had
 pub outcome_sending : (w : Outside) (event : OuterEvent) → IsMild event → (outcome w event).outer.chip.state.sending ≡ w.outer.chip.state.sending
-unfolding outcome
-outcome_sending w (Chip_takes count rest ways) mild = absurd mild
-outcome_sending w (Arrives drawn route) mild = absurd mild
-outcome_sending w (Gives route) mild = absurd mild
-outcome_sending w (Device_ticks place drawn route) mild = at_sending w.outer (slice_get w.devices place) (Ticks drawn) route
-outcome_sending w Chip_ticks mild =
-    ap (λ (s : ChipState). s.sending) (does_chip (record w.outer { chip = record { decoder = after_tick w.outer.chip.decoder; state = w.outer.chip.state } }) Ticked)
-outcome_sending w (Repeats number drawn route) mild = repeats_sending w (refusal_of w.outer.air.frames number) number drawn route
-outcome_sending w (Wakes_device node route) mild = hand_sending w.outer w.devices (place_of node w.devices) Wakes route
-outcome_sending w (Sets_device node value route) mild = hand_sending w.outer w.devices (place_of node w.devices) (Sets value) route
-outcome_sending w (Joins node) mild = joins_sending w.outer node (listens_at (device_at w.devices (place_of node w.devices)))
-outcome_sending w Discovers mild = discovers_sending w.outer
-outcome_sending w (Marks_loss by_host) mild = refl
-outcome_sending w (Marks_loss by_chip) mild = refl
-outcome_sending w (Marks_change by_host garble) mild = refl
-outcome_sending w (Marks_change by_chip garble) mild = refl
-outcome_sending w (Clears_pipe by_host) mild = refl
-outcome_sending w (Clears_pipe by_chip) mild = refl
-outcome_sending w event mild = refl
+outcome_sending w event mild =
+    outcome_keeps (λ (s : ChipState). s.sending)
+    (record { joined = λ s node listening. refl; linked = λ s a b live. refl; ticked = λ s. refl; heard = λ s node payload. refl; collides = λ s. refl }) w event mild
 
 outcome_clock : (w : Outside) (event : OuterEvent) → IsMild event → (outcome w event).outer.clock ≡ w.outer.clock
 unfolding outcome

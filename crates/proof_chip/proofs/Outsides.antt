@@ -1,5 +1,5 @@
 -- The count of the frames for the host goes on with each event outside the host.
-use Rattle.std.proofs.Common.{◌≡◌, ◌⊎◌, ℕ, suc, ◌+◌, ◌-◌, ◌&&◌, not, Bool, true, false, if◌then◌else◌, inl, inr, List, [], ◌∷◌, ◌++◌, length, refl, sym, ap, ◌∙◌, subst, append-nil, append_assoc, arith}
+use Rattle.std.proofs.Common.{◌≡◌, ℕ, suc, ◌+◌, ◌-◌, ◌&&◌, not, Bool, true, false, if◌then◌else◌, List, [], ◌∷◌, ◌++◌, length, refl, sym, ap, ◌∙◌, subst, append-nil, append_assoc, arith}
 use Rattle.std.specs.Prelude.{Option}
 use Rattle.serial_frame.specs.Stream.{Rest, after_tick}
 use Rattle.serial_frame.specs.declared.item.Item.{Item}
@@ -8,13 +8,12 @@ use Rattle.route_table.specs.declared.route.Route.{Route}
 use Rattle.air_frames.specs.Ages.{refusal_of}
 use Rattle.air_frames.specs.Flown.{Flown}
 use Rattle.chip_sim.specs.Waiting.{PortState}
-use Rattle.chip_sim.specs.Events.{ChipEvent, Collides, Ticked as ticked_event, collides}
+use Rattle.chip_sim.specs.Events.{Collides, Ticked as ticked_event, collides}
 use Rattle.chip_sim.specs.Link.{link_steps}
 use Rattle.mesh_sim.specs.Steps as mesh
 use Rattle.zw_text.specs.declared.entry.Entry.{Entry}
 use Rattle.zw_text.specs.declared.entry.Entry.TheVariants as entry
-use Rattle.zw_text.specs.Transcript.{AirFrame, frame_at, frames}
-use Rattle.zw_text.proofs.Views.{shown-append}
+use Rattle.zw_text.specs.Transcript.{frames}
 use Rattle.law_transcript.specs.Fates.{first_fates}
 use Rattle.law_transcript.specs.Restarts.{repeats as answers_repeat}
 use Rattle.outside_model.specs.Devices.{State}
@@ -25,7 +24,7 @@ use Rattle.outside_model.specs.Events.{OuterEvent, Begins_line, Begins_tick, Chi
 use Rattle.proof_air.specs.proof_walk.Outside.{awaits_number, nothing}
 use Rattle.proof_air.specs.Logs.{Tie}
 use Rattle.proof_air.proofs.Fated.{arrival_fates}
-use Rattle.proof_air.proofs.LandingWalk.{number_apart}
+use Rattle.proof_air.proofs.LandingWalk.{number_apart, sent_frames}
 use Rattle.proof_air.proofs.Times.{outcome_time, same_number}
 use Rattle.proof_line.specs.proof_traffic.OnAir.{on_air}
 use Rattle.proof_line.specs.proof_traffic.OutsideTraffic.{outward}
@@ -38,14 +37,14 @@ use Rattle.proof_chip.specs.Tally.{IsOfLine, Outlook, TallyBefore, TallyNow, Tal
 use Rattle.proof_chip.proofs.Asides.{IsSteady, IsStill, still_apart, still_port}
 use Rattle.proof_chip.proofs.Calling.{flying}
 use Rattle.proof_chip.proofs.Giving.{gives_t}
-use Rattle.proof_chip.proofs.Items.{takes_tally}
+use Rattle.proof_chip.proofs.Items.{takes_tally, number_frames}
 use Rattle.proof_chip.proofs.Landed.{arrives_tally, repeats_tally}
-use Rattle.proof_chip.proofs.Quieting.{IsUnanswered}
+use Rattle.proof_chip.proofs.Quieting.{unanswered}
 use Rattle.proof_chip.proofs.Stamped.{aside_now_t, entered_outlook, no_more, stamp_t}
 use Rattle.proof_chip.proofs.Steady.{steady_awaits, steady_looks}
 use Rattle.proof_chip.proofs.Tallied.{before_number_t, none_so, now_number_t, now_stays, quiet_t}
 use Rattle.proof_chip.proofs.Opening.{now_ticks}
-use Rattle.proof_chip.proofs.Hosted.{BeforeSo, NowSo, many_sent}
+use Rattle.proof_chip.proofs.Hosted.{BeforeSo, NowSo}
 
 -- ---- other events outside the host
 
@@ -81,11 +80,6 @@ kind_of Chip_ticks is = Ticks_chip refl
 kind_of Collides_next is = Collides_it refl
 kind_of event is = Stays_still tt tt
 
-pub unanswered : (b : Bool) (event : ChipEvent) → (event ≡ ticked_event) ⊎ (event ≡ Collides) → IsUnanswered b event
-unanswered true event is = tt
-unanswered false event (inl is) = subst (λ (e : ChipEvent). IsUnanswered false e) (sym is) tt
-unanswered false event (inr is) = subst (λ (e : ChipEvent). IsUnanswered false e) (sym is) tt
-
 module _ (devices : List State) (laws : Laws) (none : NoNexting) (did : List Step) (past : List Entry) (w : Outside) (tie : Tie nothing past w) where
   abbrev After : OuterEvent → Type 0
   After event = NowSo devices (did ++ outer_steps w event) (past ++ entries_outside w event) (happens_outside w event).outer
@@ -116,14 +110,14 @@ module _ (devices : List State) (laws : Laws) (none : NoNexting) (did : List Ste
       let fed : OuterState = record w.outer { chip = record { decoder = after_tick w.outer.chip.decoder; state = w.outer.chip.state } } in
       quiet_goes (outcome w Chip_ticks) (did ++ link_steps w.outer.chip.state ticked_event) (steady_looks laws none past w tie Chip_ticks tt) (steady_awaits laws none past w tie Chip_ticks tt)
       (λ b here silent was.
-      quiet_t devices b (TallyNow devices (outlook w.outer) b 0) (now_stays devices (outlook w.outer) b 0) did here fed ticked_event (unanswered (collides w.outer.chip.state) ticked_event (inl refl)) refl silent was) so
+      quiet_t devices b (TallyNow devices (outlook w.outer) b 0) (now_stays devices (outlook w.outer) b 0) did here fed ticked_event (unanswered (collides w.outer.chip.state) ticked_event tt) refl silent was) so
 
   pub collides_go : NowSo devices did past w.outer → After Collides_next
   unfolding outcome outer_steps chip_does
   collides_go so =
       quiet_goes (outcome w Collides_next) (did ++ link_steps w.outer.chip.state Collides) (steady_looks laws none past w tie Collides_next tt) (steady_awaits laws none past w tie Collides_next tt)
       (λ b here silent was.
-      quiet_t devices b (TallyNow devices (outlook w.outer) b 0) (now_stays devices (outlook w.outer) b 0) did here w.outer Collides (unanswered (collides w.outer.chip.state) Collides (inr refl)) refl (λ is. refl) was) so
+      quiet_t devices b (TallyNow devices (outlook w.outer) b 0) (now_stays devices (outlook w.outer) b 0) did here w.outer Collides (unanswered (collides w.outer.chip.state) Collides tt) refl (λ is. refl) was) so
 
   -- a frame is heard again, where no tick runs
   entered_still : (p : OuterState) (told : List Entry) (now : List Step) → p.in_tick ≡ false → TallySo (TallyNow devices (outlook p) false 0) now (past ++ told) p.chip.state.port
@@ -167,7 +161,7 @@ module _ (devices : List State) (laws : Laws) (none : NoNexting) (did : List Ste
   unfolding MayOutside outer_steps
   takes_go count rest ways may agrees knows so =
       takes_tally devices laws did w count rest ways may past agrees knows
-      (record { log = tie.log; fly = flying tie.log w.outer.air.frames tie.kept; sent = many_sent past w tie; joined = tie.chip }) so
+      (record { log = tie.log; fly = flying tie.log w.outer.air.frames tie.kept; sent = sent_frames past w tie; joined = tie.chip }) so
 
   -- ---- the next frame arrives
 
@@ -177,13 +171,6 @@ module _ (devices : List State) (laws : Laws) (none : NoNexting) (did : List Ste
   arrives_entered p (first ∷ told) left now some so =
       subst (λ (b : Bool). TallySo (TallyBefore devices (outlook p) true left b 0) now (past ++ (ticked_entry p ++ first ∷ told)) p.chip.state.port) (sym (no_more p.in_tick p.stamped))
       (subst (λ (l : List Entry). TallySo (TallyBefore devices (outlook p) true left false 0) now l p.chip.state.port) (append_assoc past (ticked_entry p) (first ∷ told)) so)
-
-  pub same_frames : (b : Bool) (clock : ℕ) → frames (past ++ (if b then entry.Time clock ∷ [] else [])) ≡ frames past
-  same_frames b clock = shown-append frame_at past (if b then entry.Time clock ∷ [] else []) ∙ (ap (λ (l : List AirFrame). frames past ++ l) (by b) ∙ append-nil (frames past))
-    where
-      by : (c : Bool) → frames (if c then entry.Time clock ∷ [] else []) ≡ []
-      by true = refl
-      by false = refl
 
   pub apart_here : (b : Bool) (clock : ℕ) → (b ≡ false → answers_repeat past ≡ false) → answers_repeat (past ++ (if b then entry.Time clock ∷ [] else [])) ≡ false
   apart_here true clock apart = number_apart past clock
@@ -199,7 +186,7 @@ module _ (devices : List State) (laws : Laws) (none : NoNexting) (did : List Ste
       let calm = apart_here (awaits_number w.outer) w.outer.clock apart in
       let fates = arrival_fates past w drawn route may calm in
       let numbered = before_number_t devices (outlook w.outer) true (suc left) (awaits_number w.outer) (λ is. absurd (let no : true ≡ false = is in cc)) did past w.outer.chip.state.port so in
-      let got = arrives_tally devices laws past w tie waits flight flights left did here on (same_frames (awaits_number w.outer) w.outer.clock) calm numbered drawn route fates.1 in
+      let got = arrives_tally devices laws past w tie waits flight flights left did here on (number_frames (awaits_number w.outer) w.outer.clock past) calm numbered drawn route fates.1 in
       let number : ticked_entry x.outer ≡ ticked_entry w.outer = same_number w.outer x.outer (outcome_time w (Arrives drawn route) tt) in
       arrives_entered x.outer x.entries left (did ++ steps_by (steps_account w (mesh.Arrives drawn route)))
       (λ is. let none_more = ap (λ (l : List Entry). length (first_fates (past ++ stamp x.outer l))) is ∙ ap (λ (l : List Entry). length (first_fates l)) (append-nil past) in let one = fates.0 in omega (arith, none_more, one))

@@ -20,7 +20,6 @@ use Rattle.zw_text.specs.declared.entry.Entry.{Entry}
 use Rattle.zw_text.specs.declared.entry.Entry.TheVariants as entry
 use Rattle.zw_text.specs.Transcript.{AirFrame, frame_at, frames}
 use Rattle.zw_text.proofs.Views.{shown-append}
-use Rattle.law_transcript.specs.Lists.{EachAfter}
 use Rattle.outside_model.specs.State.{OuterState}
 use Rattle.proof_line.specs.proof_traffic.Flights.{Fly, flown_now}
 use Rattle.proof_line.specs.proof_traffic.OnAir.{on_air}
@@ -99,10 +98,6 @@ module _ (laws : Laws) where
             ∙ (numbers_both (o.air.frames.landed + 1) flights (one ∷ [])
             ∙ ap (λ (n : ℕ). (outlook o).numbers ++ n ∷ []) (omega (arith, count, order, sent)));
       }
-
-pub each_front : {A : Type 0} (Allowed : List A → A → Type 0) (past xs ys : List A) → EachAfter Allowed past (xs ++ ys) → EachAfter Allowed past xs
-each_front Allowed past [] ys all = tt
-each_front Allowed past (x ∷ xs) ys all = (all.0, each_front Allowed (past ++ x ∷ []) xs ys all.1)
 
 pub frames_more : (past rest : List Entry) → AllByRecursion IsMore rest → frames (past ++ answer ∷ rest) ≡ frames past
 frames_more past rest more = shown-append frame_at past (answer ∷ rest) ∙ (ap (λ (l : List AirFrame). frames past ++ l) (more_frames rest more) ∙ append-nil (frames past))

@@ -31,6 +31,7 @@ use Rattle.law_wire.specs.Taking.{goes_on}
 use Rattle.outside_model.specs.State.{OuterState, each}
 use Rattle.outside_model.specs.Chip.{put_out}
 use Rattle.proof_chip.proofs.Airing.{IsMore}
+use Rattle.proof_air.proofs.Judging.{JudgesNone}
 
 -- ---- outputs
 
@@ -95,6 +96,12 @@ quiet_none (Full ∷ puts) quiet = quiet
 abbrev pub IsUnanswered : Bool → ChipEvent → Type 0
 IsUnanswered false (Judged (Good (Framed f)) way) = ⊥
 IsUnanswered collided event = Unit {0}
+
+-- so is each but an item that is judged
+pub unanswered : (b : Bool) (event : ChipEvent) → JudgesNone event → IsUnanswered b event
+unanswered true event none = tt
+unanswered false (Judged item way) none = absurd none
+unanswered false event none = tt
 
 served_quiet : (s : ChipState) (item : Item) → AreQuiet (written (next_at (heard s item).port.side.turn s.port.waiting))
 served_quiet s item = written_quiet (next_at (heard s item).port.side.turn s.port.waiting)

@@ -46,13 +46,7 @@ pub record TieNodes (devices : List State) (course : Course) (past : List Entry)
 
 same_filter : (f g : ℕ → Bool) → ((node : ℕ) → f node ≡ g node) → (nodes : List ℕ) → filter f nodes ≡ filter g nodes
 same_filter f g same [] = refl
-same_filter f g same (node ∷ nodes) = by (f node) (g node) (same node) (same_filter f g same nodes)
-  where
-    by : (a b : Bool) → a ≡ b → filter f nodes ≡ filter g nodes → (if a then node ∷ filter f nodes else filter f nodes) ≡ (if b then node ∷ filter g nodes else filter g nodes)
-    by true true is rest = ap (λ (l : List ℕ). node ∷ l) rest
-    by true false is rest = absurd cc
-    by false true is rest = absurd cc
-    by false false is rest = rest
+same_filter f g same (node ∷ nodes) = ap₂ (λ (b : Bool) (l : List ℕ). if b then node ∷ l else l) (same node) (same_filter f g same nodes)
 
 marked_same : (f g : ℕ → Bool) → ((node : ℕ) → f node ≡ g node) → nodes_marked f ≡ nodes_where g
 unfolding nodes_marked

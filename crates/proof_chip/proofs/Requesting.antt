@@ -116,9 +116,6 @@ module _ (devices : List State) (steps : List Step) (frames : List FrameParts) (
     has_front : (before rest : List Entry) → is_answered.rest ≡ before ++ rest → HasGiven devices later grown (past ++ answer ∷ before)
     has_front before rest is = has_more devices later frames (posts s e) past (past ++ answer ∷ before) (given_front before rest is) has
 
-    pub has_after : HasGiven devices later grown (past ++ entered)
-    has_after = subst (λ (l : List Entry). HasGiven devices later grown (past ++ l)) (sym is_answered.is) (has_front is_answered.rest [] (sym (append-nil is_answered.rest)))
-
     -- the answer is no first copy
     steps_first : firsts_of (link_steps s e) ≡ false ∷ firsts_of (submits (begun_at s e))
     steps_first =

@@ -198,7 +198,7 @@ own_later past told numbers are = all-weaker (λ (n : ℕ). is_outward past n �
 
 -- ---- at a number
 
-abbrev found_in : List AirFrame → ℕ → Option AirFrame
+abbrev pub found_in : List AirFrame → ℕ → Option AirFrame
 found_in all number = if nat_lt 0 number then slice_get all (number - 1) else None
 
 at_number : (all : List AirFrame) (at : ℕ) → found_in all (at + 1) ≡ slice_get all at

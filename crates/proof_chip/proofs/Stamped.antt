@@ -1,5 +1,5 @@
 -- The count of the frames for the host goes on with what an event enters, with the number of the tick that may stand before it.
-use Rattle.std.proofs.Common.{◌≡◌, ℕ, ◌&&◌, ◌||◌, not, Bool, true, false, if◌then◌else◌, List, [], ◌∷◌, ◌++◌, refl, sym, subst, append-nil, append_assoc}
+use Rattle.std.proofs.Common.{◌≡◌, ◌&&◌, ◌||◌, not, Bool, true, false, if◌then◌else◌, List, [], ◌∷◌, ◌++◌, refl, sym, subst, append-nil, append_assoc}
 use Rattle.serial_link.specs.Rules.{Step}
 use Rattle.chip_sim.specs.Waiting.{PortState}
 use Rattle.zw_text.specs.declared.entry.Entry.{Entry}
@@ -8,9 +8,9 @@ use Rattle.outside_model.specs.Devices.{State}
 use Rattle.outside_model.specs.State.{OuterState, Outcome}
 use Rattle.outside_model.specs.Events.{has_entered, stamp, ticked_entry}
 use Rattle.proof_air.specs.proof_walk.Outside.{awaits_number}
-use Rattle.proof_chip.specs.Tally.{Counting, Outlook, TallyBefore, TallyNow, TallySo, outlook}
+use Rattle.proof_chip.specs.Tally.{Counting, Outlook, TallyNow, TallySo, outlook}
 use Rattle.proof_chip.proofs.Asides.{AreUnrelated}
-use Rattle.proof_chip.proofs.Tallied.{Stays, apart_t, before_number_t, before_stays, now_number_t, now_stays}
+use Rattle.proof_chip.proofs.Tallied.{Stays, apart_t, now_number_t, now_stays}
 
 pub no_more : (b c : Bool) → (b && not (b || c)) ≡ false
 no_more true c = refl
@@ -59,8 +59,3 @@ module _ (devices : List State) (o : OuterState) (x : Outcome) (did : List Step)
   pub aside_now_t : TallySo (TallyNow devices (outlook o) (awaits_number o) 0) did past o.chip.state.port
       → TallySo (TallyNow devices (outlook later) (awaits_number later) 0) did (past ++ stamp x.outer x.entries) later.chip.state.port
   aside_now_t so = aside_t (λ v b. TallyNow devices v b 0) (λ v b. now_stays devices v b 0) (λ v b port was. now_number_t devices v b did past port was) so
-
-  pub aside_before_t : (arriving : Bool) (left : ℕ) → (arriving ≡ false → left ≡ 0) → TallySo (TallyBefore devices (outlook o) arriving left (awaits_number o) 0) did past o.chip.state.port
-      → TallySo (TallyBefore devices (outlook later) arriving left (awaits_number later) 0) did (past ++ stamp x.outer x.entries) later.chip.state.port
-  aside_before_t arriving left none so =
-      aside_t (λ v b. TallyBefore devices v arriving left b 0) (λ v b. before_stays devices v arriving left b 0) (λ v b port was. before_number_t devices v arriving left b none did past port was) so

@@ -26,11 +26,11 @@ use Rattle.proof_air.proofs.Linking.{of_link}
 use Rattle.proof_air.proofs.Machines.{machine_keeps}
 use Rattle.proof_air.proofs.Untimed.{AreUntimed, IsUntimed, untimed_law, untimed_line}
 use Rattle.proof_line.specs.Linked.{◌⊕◌, began, did_at, flags_of, rounds_in, said, BeginsLast, BeginsSaid, Did, IsTickLine, KnowCuts}
-use Rattle.proof_line.specs.Times.{GoesWithin}
 use Rattle.proof_line.proofs.ChipAccounts.{event_steps}
 use Rattle.proof_line.proofs.LinkEvents.{none_more}
 use Rattle.proof_line.proofs.LinkWalk.{IsOneLine, line_none, said_begins, tick_begins, tick_later}
-use Rattle.proof_line.proofs.Telling.{hosts}
+use Rattle.proof_air.proofs.LandingWalk.{hosts}
+use Rattle.proof_air.proofs.Times.{IsWithin}
 use Rattle.proof_chip.specs.Knowing.{AnyEntry}
 use Rattle.proof_chip.specs.Staying.{AreBegun, BeganSo, KnowStays, SaidSo, Started, Stays, TieStays}
 use Rattle.proof_chip.specs.Tally.{IsOfLine, KnowTally, Outlook, TallyNow, TallySo, outlook}
@@ -85,17 +85,17 @@ module _ (devices : List State) (did : Did) where
     apart = λ waits says. subst IsTickLine (last_is past (entry.Time w.outer.clock)) says;
   }
 
-  stays_law : Link AnyEntry (TieStays devices did) GoesWithin
-  stays_law = untimed_law AnyEntry (TieStays devices did) GoesWithin untimed_stays (λ covers. covers) (λ covers. absurd covers) number_stays
+  stays_law : Link AnyEntry (TieStays devices did) IsWithin
+  stays_law = untimed_law AnyEntry (TieStays devices did) IsWithin untimed_stays (λ covers. covers) (λ covers. absurd covers) number_stays
 
-  stays_keeps : (past : List Entry) (m : Machine) (event : Event) → CoversOuter GoesWithin event → May m event → TieStays devices did (awaits_number m.outside.outer) past m.outside
+  stays_keeps : (past : List Entry) (m : Machine) (event : Event) → CoversOuter IsWithin event → May m event → TieStays devices did (awaits_number m.outside.outer) past m.outside
       → TieStays devices did (awaits_number (happens m event).outside.outer) (past ++ entries m event) (happens m event).outside
   stays_keeps past m event covers may tie =
-      (machine_keeps AnyEntry (λ pending. TieStays devices did) GoesWithin (of_link AnyEntry (TieStays devices did) GoesWithin stays_law) hosts m event covers may past
+      (machine_keeps AnyEntry (λ pending. TieStays devices did) IsWithin (of_link AnyEntry (TieStays devices did) IsWithin stays_law) hosts m event covers may past
       (tie, any_each past (ticked_entry m.outside.outer))).1.0
 
 -- the effect of a line begins neither a line nor a tick
-covers_within : (event : Event) → CoversOuter IsOfLine event → CoversOuter GoesWithin event
+pub covers_within : (event : Event) → CoversOuter IsOfLine event → CoversOuter IsWithin event
 covers_within (Outside_does Begins_line) of_line = absurd of_line
 covers_within (Outside_does Begins_tick) of_line = absurd of_line
 covers_within event of_line = tt
@@ -186,7 +186,7 @@ module _ (devices : List State) (did : Did) where
       subst (λ (e : Event). Steps here next past m e) (sym event_same) (subst (λ (q : Phase). Steps here q past m is) (sym next_same) known)
 
   -- one that begins none
-  stays : (past : List Entry) (m : Machine) (event is : Event) → event ≡ is → CoversOuter GoesWithin is → May m event → TieStays devices did (awaits_number m.outside.outer) past m.outside
+  stays : (past : List Entry) (m : Machine) (event is : Event) → event ≡ is → CoversOuter IsWithin is → May m event → TieStays devices did (awaits_number m.outside.outer) past m.outside
       → TieStays devices (did ⊕ event_steps m is) (awaits_number (happens m is).outside.outer) (past ++ entries m is) (happens m is).outside
   stays past m event is event_same covers may tie =
       tie_so devices did (did ⊕ event_steps m is) (started_more (event_steps m is)) (awaits_number (happens m is).outside.outer) (past ++ entries m is) (happens m is).outside

@@ -33,7 +33,7 @@ use Rattle.proof_chip.proofs.Growing.{serves_aside, serves_event, told as put_by
 use Rattle.proof_chip.proofs.Judged.{goes_back}
 use Rattle.proof_chip.proofs.Owing.{not_none, owes_some, no_route_quiet, call_quiet, without_call, without_due}
 use Rattle.proof_chip.proofs.Passing.{IsOther, puts_other}
-use Rattle.proof_chip.proofs.Quieting.{IsUnanswered, event_none}
+use Rattle.proof_chip.proofs.Quieting.{IsUnanswered, event_none, unanswered}
 use Rattle.proof_chip.proofs.Settling.{AreIdle, IsIdle}
 use Rattle.proof_chip.proofs.Standing.{few_stand}
 use Rattle.proof_chip.proofs.Tallying.{apart_waits, before_number, before_still, chip_waits, now_number, now_still}
@@ -172,10 +172,6 @@ module _ (devices : List State) where
 
   -- ---- results
 
-  done_answers : (b : Bool) (status : TransmitStatus) → IsUnanswered b (Done status)
-  done_answers true status = tt
-  done_answers false status = tt
-
   abbrev CallsTo : Counting → List Step → List Entry → OuterState → TransmitStatus → Bool → Type 0
   CallsTo Are did past o status b =
       TallySo Are (did ++ steps_by (call_if b o status)) (past ++ (if b then chip_does (without_call o) (Done status) else silent (without_call o)).entries)
@@ -190,7 +186,7 @@ module _ (devices : List State) where
       where
         by : (b : Bool) → owes_call o.chip.state ≡ b → CallsTo Are did past o status b
         by true is =
-            quiet_t awaits Are stays did past (without_call o) (Done status) (done_answers (collides o.chip.state) status)
+            quiet_t awaits Are stays did past (without_call o) (Done status) (unanswered (collides o.chip.state) (Done status) tt)
             (ap (λ (b : Bool). if b then ended_posts o.chip.state.sending status else []) (not_none o.chip.state some))
             (λ waits. ap (λ (x : Outcome). x.entries) (sym (ap (λ (b : Bool). if b then chip_does (without_call o) (Done status) else silent (without_call o)) is) ∙ call_quiet o status some)) so
         by false is = absurd (let no : true ≡ false = sym (owes_some o.chip.state some) ∙ is in cc)
@@ -241,5 +237,5 @@ module _ (devices : List State) where
       by : (b : Bool) → b ≡ true → (awaits ≡ true → (if b then chip_does (without_call o) (Done status) else silent (without_call o)).entries ≡ []) → CallsTo After did past o status b
       by false is quiet = absurd (let no : false ≡ true = is in cc)
       by true is quiet =
-          post_t awaits Before After stays did past (without_call o) (Done status) _ (done_answers (collides o.chip.state) status)
+          post_t awaits Before After stays did past (without_call o) (Done status) _ (unanswered (collides o.chip.state) (Done status) tt)
           (ap₂ (λ (n : ℕ) (x : Option SendingParts). if n == 0 then ended_posts x status else []) none own) quiet above step so

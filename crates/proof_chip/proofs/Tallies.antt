@@ -18,10 +18,9 @@ use Rattle.law_transcript.specs.Lists.{EachAfter}
 use Rattle.law_wire.specs.Asked.{Course, clock_of, course_of}
 use Rattle.law_wire.specs.Answering.{MayWait}
 use Rattle.host_model.specs.Ticking.{tick_events}
-use Rattle.outside_model.specs.declared.waits.Due.{Due}
 use Rattle.outside_model.specs.Devices.{State}
 use Rattle.outside_model.specs.State.{OuterState, first_outer}
-use Rattle.outside_model.specs.Events.{OuterEvent, Begins_line, Begins_tick, Chip_takes, Arrives, Gives, Chip_ticks, Repeats, Collides_next, Device_ticks, outcome, May as MayOutside, entries as entries_outside, happens as happens_outside}
+use Rattle.outside_model.specs.Events.{OuterEvent, Begins_line, Begins_tick, Chip_takes, Arrives, Gives, Chip_ticks, Repeats, Collides_next, Device_ticks, outcome, entries as entries_outside, happens as happens_outside}
 use Rattle.world_model.specs.State.{Machine, first_machine}
 use Rattle.world_model.specs.Events.{Event, Outside_does, Host_does, Host_takes, Decoder_ticks, Refuses, Shows_values, Restarts, May, entries, happens}
 use Rattle.proof_host.proofs.Lists.{each-append}
@@ -30,11 +29,13 @@ use Rattle.proof_air.specs.proof_walk.Outside.{CoversOuter, awaits_number}
 use Rattle.proof_air.specs.proof_walk.Phases.{Phase, Between, Said_line, Begun, Doing, To_tick, Ticked, Arriving, Giving, Ticking_devices, Ticking_chip, Ticking_decoder, Ticking_host, Sleeping, Submitting, Moving, Moved, Goes, Turns}
 use Rattle.proof_air.specs.Landing.{KnowLanding, Landed}
 use Rattle.proof_air.proofs.ByLine.{effect_covered}
+use Rattle.proof_air.proofs.LandingWalk.{sent_frames}
 use Rattle.proof_line.specs.proof_traffic.Facts.{one_if}
 use Rattle.proof_line.specs.proof_traffic.OnAir.{on_air}
 use Rattle.proof_line.proofs.Arrivals.{NoNexting}
 use Rattle.proof_line.proofs.ChipAccounts.{event_steps, outer_steps}
 use Rattle.proof_line.proofs.Parts.{Laws}
+use Rattle.proof_line.proofs.Outside.{may_outside}
 use Rattle.proof_chip.specs.Calling.{AreLanding, KnowCalls}
 use Rattle.proof_chip.specs.Sending.{GroundAir, KnowAir}
 use Rattle.proof_chip.specs.Serving.{GoesOn}
@@ -44,8 +45,9 @@ use Rattle.proof_chip.proofs.Giving.{map_t}
 use Rattle.proof_chip.proofs.Standing.{few_stand}
 use Rattle.proof_chip.proofs.Coming.{before_next}
 use Rattle.proof_chip.proofs.Opening.{before_over, now_said}
-use Rattle.proof_chip.proofs.Hosted.{BeforeSo, IsOfHost, NowSo, host_goes, many_sent}
+use Rattle.proof_chip.proofs.Hosted.{BeforeSo, IsOfHost, NowSo, host_goes}
 use Rattle.proof_chip.proofs.Outsides.{Kind, Collides_it, Repeats_one, Stays_still, Ticks_chip, arrives_go, collides_go, gives_go, kind_of, line_goes, repeats_go, still_goes, takes_go, tick_goes, ticks_go}
+use Rattle.proof_chip.proofs.Finishing.{no_length}
 
 -- ---- each phase
 
@@ -80,10 +82,6 @@ module _ (devices : List State) (laws : Laws) (none : NoNexting) (Ground : Phase
       → BeforeSo devices arriving left (did ++ event_steps m (Outside_does event)) (past ++ entries m (Outside_does event)) (happens m (Outside_does event)).outside.outer
   unfolding happens entries event_steps
   outside_before past m event arriving left so = so
-
-  may_outside : (m : Machine) (event : OuterEvent) → May m (Outside_does event) → MayOutside m.outside event
-  unfolding May
-  may_outside m event may = may.1
 
   host_now : (past : List Entry) (m : Machine) (event : Event) → IsOfHost event → May m event → NowSo devices did past m.outside.outer → NowAfter past m event
   host_now past m event is may so = host_goes devices did m event is may past so
@@ -157,7 +155,7 @@ module _ (devices : List State) (laws : Laws) (none : NoNexting) (Ground : Phase
       let tie = law.history (To_tick (suc ticks)) past m ground in
       let landed : Landed past m = lands (To_tick (suc ticks)) past m ground in
       let fated = landed.fated in
-      let sent = many_sent past m.outside tie in
+      let sent = sent_frames past m.outside tie in
       let order = tie.kept.order in
       (tick_goes devices laws none did past m.outside tie (omega (arith, fated, sent, order)) so, tt)
 
@@ -215,14 +213,10 @@ module _ (devices : List State) (laws : Laws) (none : NoNexting) (Ground : Phase
       (λ count course all was. before_next devices course all (outlook o) (outlook o) true false (awaits_number o) 0 0 count 0 count refl refl (λ many is. omega (arith, is)) was.numbered (λ entries own. own) was)
       did past o.chip.state.port so
 
-  none_due : (due : List Due) → length due ≡ 0 → infos_in due ≡ 0
-  none_due [] is = refl
-  none_due (first ∷ due) is = absurd (omega (arith, is))
-
   -- and all results have come
   given_all : (o : OuterState) (past : List Entry) → length o.due ≡ 0 → o.chip.state.sending ≡ None → BeforeSo devices false 0 did past o → NowSo devices did past o
   given_all o past due sending so =
-      let infos = none_due o.due due in
+      let infos = ap infos_in (no_length o.due due) in
       let flag : one_if ((outlook o).sending && not (outlook o).by_frame) ≡ 0 = ap (λ (x : Option SendingParts). one_if (is_some x && not (outlook o).by_frame)) sending in
       map_t devices (TallyBefore devices (outlook o) false 0 (awaits_number o) 0) (TallyNow devices (outlook o) (awaits_number o) 0)
       (λ count course all was. before_over devices course all (outlook o) false (awaits_number o) count (omega (arith, infos, flag)) was) did past o.chip.state.port so

@@ -50,7 +50,7 @@ use Rattle.outside_model.specs.Results.{call_back, device_at, forgets, frame_end
 use Rattle.outside_model.specs.Nodes.{all_pairs}
 use Rattle.outside_model.specs.Air.{change_at, change_entries, deals, sent_entries}
 use Rattle.outside_model.specs.Devices.{acts}
-use Rattle.outside_model.specs.Events.{OuterEvent, Begins_line, Begins_tick, Host_notes, Chip_takes, Arrives, Gives, Device_ticks, Chip_ticks, Repeats, Wakes_device, Sets_device, Marks_loss, Marks_change, Clears_pipe, Collides_next, is_own, mesh_of, outcome, ticked_entry}
+use Rattle.outside_model.specs.Events.{OuterEvent, Begins_line, Begins_tick, Host_notes, Chip_takes, Arrives, Gives, Device_ticks, Chip_ticks, Repeats, Wakes_device, Sets_device, Marks_loss, Marks_change, Clears_pipe, Collides_next, mesh_of, outcome, ticked_entry}
 use Rattle.world_model.specs.State.{Machine}
 use Rattle.world_model.specs.Events.{Event, May, entries, happens}
 use Rattle.proof_host.proofs.Over.{each-right}
@@ -61,6 +61,7 @@ use Rattle.proof_air.proofs.Machines.{machine_keeps}
 use Rattle.proof_air.proofs.SentBefore.{number_clock, same_clock}
 use Rattle.proof_air.proofs.Times.{IsWithin, does_chip, does_time, outcome_time}
 use Rattle.proof_air.proofs.Untimed.{AreUntimed, IsUntimed, note_untimed, outcome_untimed}
+use Rattle.proof_air.proofs.LandingWalk.{hosts}
 use Rattle.proof_chip.specs.Knowing.{AnyEntry}
 use Rattle.proof_chip.specs.Told.{IsTold, NoneWaits, TakesNone, Tells, ToldBefore}
 use Rattle.proof_chip.proofs.Answered.{answered_outs}
@@ -472,13 +473,8 @@ told_law = record {
 
 -- ---- an event of the machine
 
-hosts_within : (event : OuterEvent) → is_own event ≡ false → IsWithin event
-hosts_within Begins_line own = absurd (let no : true ≡ false = own in cc)
-hosts_within Begins_tick own = absurd (let no : true ≡ false = own in cc)
-hosts_within event own = tt
-
 pub event_told : (past : List Entry) (m : Machine) (event : Event) → CoversOuter IsWithin event → May m event → Clocked (awaits_number m.outside.outer) past m.outside.outer.clock
     → IsTold past m.outside.outer → IsTold (past ++ entries m event) (happens m event).outside.outer
 event_told past m event covers may clocked told =
-    let known = machine_keeps AnyEntry (λ pending. Knows) IsWithin told_law hosts_within m event covers may past ((clocked, told), any_each past (ticked_entry m.outside.outer)) in
+    let known = machine_keeps AnyEntry (λ pending. Knows) IsWithin told_law hosts m event covers may past ((clocked, told), any_each past (ticked_entry m.outside.outer)) in
     known.1.0.1

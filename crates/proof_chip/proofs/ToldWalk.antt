@@ -7,7 +7,7 @@ use Rattle.zw_text.specs.declared.entry.Entry.TheVariants as entry
 use Rattle.host_model.specs.Ticking.{tick_events}
 use Rattle.outside_model.specs.Devices.{State}
 use Rattle.outside_model.specs.State.{first_outer}
-use Rattle.outside_model.specs.Events.{Begins_line, Begins_tick, OuterEvent, outcome}
+use Rattle.outside_model.specs.Events.{Begins_line, Begins_tick, outcome}
 use Rattle.world_model.specs.State.{Machine, first_machine}
 use Rattle.world_model.specs.Events.{Event, Outside_does, May, entries, happens}
 use Rattle.proof_air.specs.proof_walk.Outside.{CoversOuter, awaits_number}
@@ -25,6 +25,7 @@ use Rattle.proof_chip.proofs.Finishing.{no_length}
 use Rattle.proof_chip.proofs.Learning.{any_each}
 use Rattle.proof_chip.proofs.Tallies.{covers_line}
 use Rattle.proof_chip.proofs.Told.{Clocked, event_told}
+use Rattle.proof_chip.proofs.Staying.{covers_within}
 
 -- ---- the clock
 
@@ -41,15 +42,6 @@ clocked (Arriving left ticks) past m landing = of_sent landing.before m.outside.
 clocked here past m landed = of_sent landed.before m.outside.outer.clock false (awaits_number m.outside.outer) past landed.sent.0
 
 -- ---- events
-
-of_line : (event : OuterEvent) → IsOfLine event → IsWithin event
-of_line Begins_line is = absurd is
-of_line Begins_tick is = absurd is
-of_line event is = tt
-
-line_within : (event : Event) → CoversOuter IsOfLine event → CoversOuter IsWithin event
-line_within (Outside_does event) covers = of_line event covers
-line_within event covers = tt
 
 begun_told : (past : List Entry) (m : Machine) → IsTold past m.outside.outer → IsTold (past ++ entries m (Outside_does Begins_line)) (happens m (Outside_does Begins_line)).outside.outer
 unfolding happens entries outcome
@@ -71,7 +63,7 @@ goes here next to event is past m event_is next_is covers may ground told so =
 event_goes : (here next : Phase) (past : List Entry) (m : Machine) (event : Event) → Goes here m event next → May m event → KnowResults here past m → KnowTold here past m → Keeps next past m event
 event_goes (Said_line line) next past m event (event_is, next_is) may ground known = leads next (Begun line) event (Outside_does Begins_line) past m event_is next_is (begun_told past m known.0, tt)
 event_goes (Doing line (first ∷ left)) next past m event (event_is, next_is) may ground known =
-    goes (Doing line (first ∷ left)) next (Doing line left) event first past m event_is next_is (line_within first known.1.0) may ground known.0 (λ told. (told, known.1.1))
+    goes (Doing line (first ∷ left)) next (Doing line left) event first past m event_is next_is (covers_within first known.1.0) may ground known.0 (λ told. (told, known.1.1))
 event_goes (To_tick (suc ticks)) next past m event (event_is, next_is) may ground known = leads next (Ticked ticks) event (Outside_does Begins_tick) past m event_is next_is (tt, tt)
 event_goes (Arriving (suc left) ticks) next past m event (drawn, route, event_is, next_is) may ground known = leads next (Arriving left ticks) event _ past m event_is next_is (tt, tt)
 event_goes (Giving (suc left) ticks) next past m event (route, event_is, next_is) may ground known = leads next (Giving left ticks) event _ past m event_is next_is (tt, tt)

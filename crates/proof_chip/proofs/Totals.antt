@@ -71,7 +71,7 @@ totals_same later past sendings same (one ∷ all) =
 abbrev pub IsApartFrom : List Entry → Asked → Sending → Type 0
 IsApartFrom past one s = stays_out past one s ≡ false
 
-none_out : (past : List Entry) (one : Asked) (sendings : List Sending) → AllByRecursion (IsApartFrom past one) sendings → filter (stays_out past one) sendings ≡ []
+pub none_out : (past : List Entry) (one : Asked) (sendings : List Sending) → AllByRecursion (IsApartFrom past one) sendings → filter (stays_out past one) sendings ≡ []
 none_out past one [] apart = refl
 none_out past one (s ∷ sendings) apart = ap₂ (λ (b : Bool) (l : List Sending). if b then s ∷ l else l) apart.0 (none_out past one sendings apart.1)
 

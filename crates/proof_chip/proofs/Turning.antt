@@ -236,7 +236,7 @@ mute_rests (step ∷ steps) all mute = ap (λ (b : Bool). busy b steps) one ∙ 
 
 -- ---- accounts
 
-none_busy : (turn : Turn) → is_busy turn ≡ false → turn ≡ Idle
+pub none_busy : (turn : Turn) → is_busy turn ≡ false → turn ≡ Idle
 none_busy Idle is = refl
 none_busy (Copied f copies ticks) is = absurd (let no : true ≡ false = is in cc)
 none_busy (Paused f copies ticks) is = absurd (let no : true ≡ false = is in cc)

@@ -3,10 +3,7 @@ use Rattle.std.proofs.Common.{◌≡◌, ℕ, zero, suc, ◌-◌, ◌==◌, ◌&
 use Rattle.std.specs.Prelude.{Option, Some, None, drop}
 use Rattle.std.specs.List.{AllByRecursion, range_with_len}
 use Rattle.std.specs.Option.{unwrap_or, is_some, option_to_list}
-use Rattle.serial_frame.specs.Frame.{FrameParts}
 use Rattle.serial_link.specs.State.{copy_due}
-use Rattle.serial_link.specs.declared.turn.Turn.{Turn}
-use Rattle.serial_link.specs.declared.turn.Turn.TheVariants.{Idle, Copied, Paused}
 use Rattle.route_table.specs.declared.route.Route.{Route}
 use Rattle.route_table.specs.Network.{linked}
 use Rattle.chip_functions.specs.Notice.{status_of}
@@ -15,10 +12,8 @@ use Rattle.chip_functions.specs.declared.notice.TransmitStatus.TheVariants.{Fail
 use Rattle.chip_sim.specs.State.{ChipState}
 use Rattle.chip_sim.specs.Events.{ChipEvent, Judged, Ticked, Done, Heard as chip_hears, Informed, Forgets, Joined, Linked, Collides, after, outs, May, ended_outs}
 use Rattle.chip_sim.specs.Did.{after_all}
-use Rattle.chip_sim.specs.Waiting.{PortState, is_full, queued_outs, queued_outs_at, served_outs, next_at, written, ticked}
+use Rattle.chip_sim.specs.Waiting.{served_outs, written, ticked}
 use Rattle.chip_sim.specs.declared.out.Sending.{Sending}
-use Rattle.chip_sim.specs.declared.out.ChipOut.{ChipOut}
-use Rattle.chip_sim.specs.declared.out.ChipOut.TheVariants as chip_out
 use Rattle.device_sim.specs.State.{State}
 use Rattle.mesh_sim.specs.Air.{is_joined, joining}
 use Rattle.mesh_sim.specs.Fates.{place_of}
@@ -28,62 +23,17 @@ use Rattle.zw_text.specs.declared.entry.Entry.TheVariants.{Forget}
 use Rattle.outside_model.specs.declared.waits.Due.{Due}
 use Rattle.outside_model.specs.declared.waits.Due.TheVariants.{Info, NoRoute as no_route_due}
 use Rattle.outside_model.specs.State.{OuterState, silent, tells, each, with_chip}
-use Rattle.outside_model.specs.Chip.{put_out, chip_does}
+use Rattle.outside_model.specs.Chip.{chip_does}
 use Rattle.outside_model.specs.Results.{owes_call, call_back, no_route, no_routes, leading, forgets, frame_ends, gives, without_no_route, profile_for, device_at}
 use Rattle.outside_model.specs.Air.{to_chip, deals}
 use Rattle.outside_model.specs.Nodes.{discovers, links_of, all_pairs, is_known}
+use Rattle.proof_traffic.proofs.Mild.{AreMild, each_mild, mild-append, queued_mild, served_mild, written_mild}
 use Rattle.proof_world.specs.proof_serial.Chip.{ChipDoes}
 use Rattle.proof_world.proofs.ChipWays.{does_both, does_one, IsStill, still_does, owes, quiet_one as quiet_does, fits_for, short_payload, SetsTable, sets_map, all_pairs_set}
 use Rattle.proof_course_plain.specs.Ways.{Beside, Thinned}
 use Rattle.proof_course_plain.specs.Mesh.{labels, brought, BringsAs}
 use Rattle.proof_course_plain.specs.Chip.{GivesAs}
 use Rattle.proof_course_plain.proofs.WayLabels.{beside-both, labels-append, thinned_same, thinned_both}
-
--- ---- outputs that put nothing on the air
-
-abbrev pub IsMild : ChipOut → Type 0
-IsMild (chip_out.Write unit) = Unit {0}
-IsMild (chip_out.OnAir to route payload) = ⊥
-IsMild chip_out.NoRoute = Unit {0}
-IsMild (chip_out.AskInfo node) = Unit {0}
-IsMild chip_out.Full = Unit {0}
-
-abbrev pub AreMild : List ChipOut → Type 0
-AreMild outs = AllByRecursion IsMild outs
-
-pub mild-append : (a b : List ChipOut) → AreMild a → AreMild b → AreMild (a ++ b)
-mild-append [] b first later = later
-mild-append (out ∷ a) b first later = (first.0, mild-append a b first.1 later)
-
-put_mild : (o : OuterState) (out : ChipOut) → IsMild out → (put_out o out).outer.air ≡ o.air
-put_mild o (chip_out.Write unit) mild = refl
-put_mild o (chip_out.OnAir to route payload) mild = absurd mild
-put_mild o chip_out.NoRoute mild = refl
-put_mild o (chip_out.AskInfo node) mild = refl
-put_mild o chip_out.Full mild = refl
-
-pub each_mild : (o : OuterState) (outs : List ChipOut) → AreMild outs → (each put_out o outs).outer.air ≡ o.air
-each_mild o [] mild = refl
-each_mild o (out ∷ outs) mild = each_mild (put_out o out).outer outs mild.1 ∙ put_mild o out mild.0
-
-full_mild : (b : Bool) → AreMild (if b then chip_out.Full ∷ [] else [])
-full_mild true = (tt, tt)
-full_mild false = tt
-
-queued_at_mild : (turn : Turn) (p : PortState) (f : FrameParts) → AreMild (queued_outs_at turn p f)
-queued_at_mild Idle p f = (tt, tt)
-queued_at_mild (Copied g copies ticks) p f = full_mild (is_full p.waiting)
-queued_at_mild (Paused g copies ticks) p f = full_mild (is_full p.waiting)
-
-pub queued_mild : (p : PortState) (f : FrameParts) → AreMild (queued_outs p f)
-queued_mild p f = queued_at_mild p.side.turn p f
-
-written_mild : (f : Option FrameParts) → AreMild (written f)
-written_mild None = tt
-written_mild (Some f) = (tt, tt)
-
-pub served_mild : (p : PortState) → AreMild (served_outs p)
-served_mild p = written_mild (next_at p.side.turn p.waiting)
 
 -- events of the chip at which it sends nothing
 abbrev pub IsCalm : ChipEvent → Type 0
@@ -144,7 +94,7 @@ module _ {L : Type 0} (Holds : List ℕ → Option L → Type 0) (node : ℕ) wh
     marks = mark ∷ [];
     gives = (is, tt);
     are = subst (λ l. Thinned (option_to_list mark) l) (sym (append-nil (option_to_list mark))) (thinned_same (option_to_list mark));
-    air = each_mild (with_chip o (after o.chip.state e)) (outs o.chip.state e) (calm_mild o.chip.state e calm);
+    air = (each_mild (with_chip o (after o.chip.state e)) (outs o.chip.state e) (calm_mild o.chip.state e calm)).air;
   }
 
   tells_from : (o p q : OuterState) (given : List L) → p.chip ≡ o.chip → p.to_host ≡ o.to_host → p.to_chip ≡ o.to_chip → p.air ≡ o.air → ChipTells Holds node given p q → ChipTells Holds node given o q

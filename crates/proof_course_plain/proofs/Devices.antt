@@ -33,12 +33,11 @@ use Rattle.proof_once.specs.proof_messages.Asking.{message_in, takes_openly, ver
 use Rattle.proof_once.specs.proof_messages.Landing.{HasLanded, IsOf, LandsAs}
 use Rattle.proof_once.specs.proof_messages.Others.{IsOther}
 use Rattle.proof_once.specs.proof_messages.Reporting.{TellsOwn, TellsTrue, CanSay}
-use Rattle.device_stack.specs.Hearing.{hears_in_segments}
 use Rattle.proof_once.specs.proof_messages.Segments.{KeepsPart, IsWhole, KeepsSegment, MakesWhole}
 use Rattle.proof_course_plain.specs.Meaning.{Asked, IsMessageOf, IsSegmentOf, IsMessage, HostMeans}
 use Rattle.proof_course_plain.specs.Making.{KeepsNext, Makes, NamesNext, Names}
 use Rattle.proof_course_plain.specs.Device.{AtDevice, finishes, Says, GoesAs, HearsAs}
-use Rattle.proof_once.proofs.SessionMessages.{knows_supervision}
+use Rattle.proof_once.proofs.SessionMessages.{awake_after, knows_supervision, openly_by}
 use Rattle.proof_course_plain.proofs.Segments.{Laws as SegmentLaws, message_whole, part_of, IsNext, IsAnother, segment_heard}
 use Rattle.proof_course_plain.proofs.DevicePayloads.{IsBare, AllOwnTaken, in_segments_bare, none_own, openly_bare, AllTaken, get_taken, later, openly_same, never_own, all_said, all_taken, weaken_taken, ticks_bare, wakes_bare, wakes_same, sets_bare_all, sets_same}
 
@@ -54,7 +53,7 @@ one_more ends (x ∷ []) at status e is n = sym (numbered_last ends x) ∙ (ap (
 one_more ends (x ∷ y ∷ more) at status e is n = let long = length-append ends (x ∷ y ∷ more) in absurd (omega (arith, e, is, long))
 
 -- how many statuses there are
-at_work : (device : State) (ends : List ℕ) → HasEnded device ends → device.sessions.status ≡ WORKING → length ends + 1 ≡ device.sessions.taken
+pub at_work : (device : State) (ends : List ℕ) → HasEnded device ends → device.sessions.status ≡ WORKING → length ends + 1 ≡ device.sessions.taken
 at_work device ends is busy = by device.work_left refl
   where
     by : (left : ℕ) → device.work_left ≡ left → length ends + 1 ≡ device.sessions.taken
@@ -188,21 +187,6 @@ fresh_at laws node kind key plain = record {
 }
 
 -- ---- a payload is heard
-
-openly_by : (kind : Kind) (device : State) (payload drawn : List ℕ) → takes_openly kind ≡ true → is_segment payload ≡ false → hears_by kind device payload drawn ≡ hears_openly device payload
-unfolding hears_in_segments
-openly_by Switch device payload drawn is whole = refl
-openly_by Dimmer device payload drawn is whole = refl
-openly_by Sensor device payload drawn is whole = refl
-openly_by Thermostat device payload drawn is whole = refl
-openly_by Strip device payload drawn is whole = refl
-openly_by Configurable device payload drawn is whole = rw whole refl
-openly_by Relay device payload drawn is whole = cc
-openly_by Lock device payload drawn is whole = cc
-
-awake_after : (device : State) (payload drawn : List ℕ) → device.awake ≡ true → device_after device (Hears payload drawn) ≡ (hears_by device.kind (active device) payload drawn).device
-unfolding device_after outcome_of device_hears
-awake_after device payload drawn e = rw e refl
 
 hears_kind : (kind : Kind) (device : State) (payload drawn : List ℕ) → takes_openly kind ≡ true → is_segment payload ≡ false → (hears_by kind device payload drawn).replies ≡ (hears_openly device payload).replies
 hears_kind kind device payload drawn plain whole = ap (λ (o : Outcome). o.replies) (openly_by kind device payload drawn plain whole)

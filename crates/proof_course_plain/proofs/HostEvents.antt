@@ -1,5 +1,6 @@
 -- Each event of the host that judges no report of the node and begins no session, in the course of the node.
 use Rattle.std.proofs.Common.{◌≡◌, ◌≢◌, ℕ, zero, suc, ◌+◌, ◌<◌, ◌≤◌, ◌==◌, ◌⊎◌, inl, inr, Bool, true, false, nat_lt, if◌then◌else◌, Option, Some, None, List, [], ◌∷◌, ◌++◌, All, map, length, refl, ap, sym, ◌∙◌, subst, append-nil, arith}
+use Rattle.std.proofs.lemmas.List.{map-append}
 use Rattle.std.specs.Prelude.{slice_get}
 use Rattle.std.specs.List.{AllByRecursion}
 use Rattle.std.proofs.lemmas.Bool.{eqb-true}
@@ -96,10 +97,6 @@ open_is book session e = by book.outcome book.commands refl refl e
     by None (command ∷ more) o are open_is =
         let last : suc (length more) ≡ session = cc in
         let long : begun_of book ≡ suc (length more) = ap length are in (sym last ∙ sym long, omega (arith, long))
-
-pub map_more : (commands : List Command) (command : Command) → map asked_of (commands ++ command ∷ []) ≡ map asked_of commands ++ asked_of command ∷ []
-map_more [] command = refl
-map_more (x ∷ commands) command = ap (λ l. asked_of x ∷ l) (map_more commands command)
 
 pub noted_none : (entries : List Entry) → host_units (noted entries) ≡ []
 noted_none [] = refl
@@ -247,7 +244,7 @@ module _ (nonces : (nonce : List ℕ) → IsOther (nonce_report nonce)) (no_more
       let later : SameHost (plain_course node) put (node_does put order.node node_accepts) = does_same (plain_course node) put order.node node_accepts tt in
       accepts node orders c h at (after_host h (Accepts order carriage)) (record { order = order; carriage = carriage } ∷ []) (record {
         node_as = later.node_as c.host.commands c.host.outcome (first.node_as c.host.commands c.host.outcome at.node_as);
-        orders_are = ap (λ l. l ++ record { order = order; carriage = carriage } ∷ []) at.orders_are ∙ sym (map_more h.commands taken);
+        orders_are = ap (λ l. l ++ record { order = order; carriage = carriage } ∷ []) at.orders_are ∙ sym (map-append asked_of h.commands (taken ∷ []));
         plain = all-append (IsPlainFor node) orders (record { order = order; carriage = carriage } ∷ []) at.plain (plain, tt);
         queue = tasks_more node orders (record { order = order; carriage = carriage } ∷ []) c.host.commands h.requests.queue at.queue;
       }) refl

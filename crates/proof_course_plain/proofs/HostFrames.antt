@@ -1,5 +1,6 @@
 -- Which frames of the host ask to send the node a payload, and which.
 use Rattle.std.proofs.Common.{◌≡◌, ℕ, ◌+◌, ◌&&◌, Bool, true, false, nat_lt, nat_le, if◌then◌else◌, Option, Some, None, List, [], ◌∷◌, ◌++◌, length, take, drop, refl, ap, sym, ◌∙◌, subst, arith}
+use Rattle.std.proofs.Math.Seq.{take-append_seam}
 use Rattle.std.specs.Prelude.{Result, Ok, Err}
 use Rattle.serial_frame.specs.Frame.{FrameParts}
 use Rattle.serial_frame.specs.declared.frame.Kind.{Kind}
@@ -78,10 +79,6 @@ asked_data f n payload options id e = by f.kind e
 
 -- ---- what is read of a body that was written so
 
-take_prefix : (xs ys : List ℕ) → take (length xs) (xs ++ ys) ≡ xs
-take_prefix [] ys = refl
-take_prefix (x ∷ xs) ys = ap (λ l. x ∷ l) (take_prefix xs ys)
-
 some_same : (a b : ℕ) (t : Bool) → (if t then Some a else None) ≡ Some b → a ≡ b
 some_same a b true e = cc
 some_same a b false e = absurd (grind (arith, e))
@@ -101,7 +98,7 @@ body_read to text tail x after e =
     let guarded = guard_ok (nat_lt (length text) 1) (BadField 1) (piece_from (length text) 2 (text ++ tail)) third.0 third.1 in
     let taken = guard_ok (nat_lt (length (text ++ tail)) (length text)) (Short (2 + length text) (2 + length (text ++ tail))) (Ok (take (length text) (text ++ tail), record { before = 2 + length text; rest = drop (length text) (text ++ tail) })) third.0 guarded.1 in
     let text_is : take (length text) (text ++ tail) ≡ third.0.0 = ap (λ (y : List ℕ × Place). y.0) (ok_is _ third.0 taken.1) in
-    (node_is, sym (ap (λ (y : (ℕ × (List ℕ × (ℕ × ℕ))) × Place). y.0.1.0) whole) ∙ (sym piece ∙ (sym text_is ∙ take_prefix text tail)))
+    (node_is, sym (ap (λ (y : (ℕ × (List ℕ × (ℕ × ℕ))) × Place). y.0.1.0) whole) ∙ (sym piece ∙ (sym text_is ∙ take-append_seam text tail)))
 
 -- ---- frames of the host
 

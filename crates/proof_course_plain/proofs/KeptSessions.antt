@@ -1,5 +1,5 @@
 -- What leaves the sessions of a node at the host as they are: those of a node whose commands go unsealed.
-use Rattle.std.proofs.Common.{◌≡◌, ℕ, true, false, None, List, [], ◌∷◌, ◌++◌, refl}
+use Rattle.std.proofs.Common.{◌≡◌, ℕ, true, false, None, List, refl}
 use Rattle.std.specs.List.{AllByRecursion}
 use Rattle.zw_base.proofs.Each.{all-append, all-weaker}
 use Rattle.host_requests.specs.declared.task.Task.{Task}

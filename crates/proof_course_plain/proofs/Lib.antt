@@ -3,6 +3,7 @@ pub mod Flights
 pub mod Segments
 pub mod DevicePayloads
 pub mod Devices
+pub mod AsMade
 pub mod Levels
 mod WorkTold
 pub mod MadeSettings

@@ -11,10 +11,9 @@ use Rattle.serial_frame.specs.Frame.{FrameParts}
 use Rattle.serial_frame.specs.Stream.{Rest}
 use Rattle.serial_frame.specs.declared.frame.Kind.{Kind}
 use Rattle.serial_frame.specs.declared.frame.Kind.TheVariants as kind
-use Rattle.serial_frame.specs.declared.unit.Unit.TheVariants.{Ack, Nak, Can, Framed}
+use Rattle.serial_frame.specs.declared.unit.Unit.TheVariants.{Framed}
 use Rattle.serial_frame.specs.declared.item.Item.{Item}
-use Rattle.serial_frame.specs.declared.item.Item.TheVariants.{Good, Refused}
-use Rattle.serial_frame.specs.declared.item.Refusal.TheVariants.{Stray, BadLength, BadSum, BadKind, Aborted}
+use Rattle.serial_frame.specs.declared.item.Item.TheVariants.{Good}
 use Rattle.serial_link.specs.declared.turn.Turn.{Turn}
 use Rattle.serial_pipes.specs.State.{WayState}
 use Rattle.route_table.specs.declared.route.Route.{Route}
@@ -55,7 +54,7 @@ use Rattle.outside_model.specs.Chip.{put_out, chip_does, chip_takes, MayTake}
 use Rattle.outside_model.specs.Events.{has_entered}
 use Rattle.proof_traffic.specs.OutsideTraffic.{one_outward, outward}
 use Rattle.proof_traffic.proofs.JudgedItems.{passed_item}
-use Rattle.proof_traffic.proofs.Mild.{each-append}
+use Rattle.proof_traffic.proofs.Mild.{answer_mild, each-append, each_mild, given_mild, served_mild}
 use Rattle.proof_traffic.specs.OnAir.{IsFew, StaysFew, fed_chip}
 use Rattle.proof_world.specs.proof_serial.Way.{Carries, items_all}
 use Rattle.proof_world.specs.proof_serial.Chip.{HasFrames, ChipDoes}
@@ -76,7 +75,7 @@ use Rattle.proof_course_plain.proofs.ThinnedWays.{goes_nowhere, goes_on, goes_on
 use Rattle.proof_course_plain.proofs.WayLabels.{thinned_same, thinned_after, thinned_both, thinned_then, first_label}
 use Rattle.proof_course_plain.proofs.ChipSide.{chips_move}
 use Rattle.proof_course_plain.proofs.Replies.{Flying}
-use Rattle.proof_course_plain.proofs.ChipNotices.{AreMild, each_mild, queued_mild, served_mild, ChipTells}
+use Rattle.proof_course_plain.proofs.ChipNotices.{ChipTells}
 
 -- ---- courses with other things on their way
 
@@ -215,22 +214,6 @@ module _ (node : ℕ) (orders : List Asked) where
 
 -- ---- what an item puts on the air
 
-answer_mild : (b : Bool) (item : Item) → AreMild (answer_outs b item)
-answer_mild b (Good Ack) = tt
-answer_mild b (Good Nak) = tt
-answer_mild b (Good Can) = tt
-answer_mild true (Good (Framed f)) = (tt, tt)
-answer_mild false (Good (Framed f)) = (tt, tt)
-answer_mild b (Refused (Stray x)) = tt
-answer_mild b (Refused (BadLength n)) = tt
-answer_mild b (Refused (BadSum want got)) = (tt, tt)
-answer_mild b (Refused (BadKind x)) = (tt, tt)
-answer_mild b (Refused Aborted) = tt
-
-given_mild : (s : ChipState) (f : Option FrameParts) → AreMild (given_outs s f)
-given_mild s None = tt
-given_mild s (Some f) = queued_mild s.port f
-
 -- a payload goes on the air for a frame that asks for it
 pub record Departs (o : OuterState) (item : Item) (air : AirState) : Type 0 where
   pub frame : FrameParts
@@ -270,10 +253,10 @@ requested_air : (o p : OuterState) (item : Item) (f : FrameParts) (s : ChipState
 requested_air o p item f s None found is asks same = inl same
 requested_air o p item f s (Some request) found is asks same =
     subst (λ (q : OuterState). OnAirBy o item q.air) (sym (each-append p (given_outs s (reply_to s request)) (performed_outs request s found)))
-    (performed_air o (each put_out p (given_outs s (reply_to s request))).outer item f s request found is asks (each_mild p (given_outs s (reply_to s request)) (given_mild s (reply_to s request)) ∙ same))
+    (performed_air o (each put_out p (given_outs s (reply_to s request))).outer item f s request found is asks ((each_mild p (given_outs s (reply_to s request)) (given_mild s (reply_to s request))).air ∙ same))
 
 judged_air : (o p : OuterState) (item : Item) (b : Bool) (s : ChipState) (found : Option FrameParts) (route : Option Route) → passed b item ≡ found → p.air ≡ o.air → OnAirBy o item (each put_out p (judged_outs found s route)).outer.air
-judged_air o p item b s None route e same = inl (each_mild p (judged_outs None s route) (served_mild s.port) ∙ same)
+judged_air o p item b s None route e same = inl ((each_mild p (judged_outs None s route) (served_mild s.port)).air ∙ same)
 judged_air o p item b s (Some f) route e same = requested_air o p item f s (asked f) route (passed_item b item f e) refl same
 
 pub item_air : (o : OuterState) (item : Item) (route : Option Route) → OnAirBy o item (chip_does o (Judged item route)).outer.air
@@ -283,7 +266,7 @@ item_air o item route =
     let p : OuterState = with_chip o (chip.after s (Judged item route)) in
     let answer : List ChipOut = answer_outs (collides s) item in
     subst (λ (q : OuterState). OnAirBy o item q.air) (sym (each-append p answer (judged_outs (passed (collides s) item) (heard s item) route)))
-    (judged_air o (each put_out p answer).outer item (collides s) (heard s item) (passed (collides s) item) route refl (each_mild p answer (answer_mild (collides s) item)))
+    (judged_air o (each put_out p answer).outer item (collides s) (heard s item) (passed (collides s) item) route refl (each_mild p answer (answer_mild (collides s) item)).air)
 
 -- the node of a payload is one
 node_within : (p q : Place) (n : ℕ) → node_field.read p ≡ Ok (n, q) → n < 233

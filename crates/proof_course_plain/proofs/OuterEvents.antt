@@ -33,7 +33,7 @@ use Rattle.mesh_sim.specs.declared.event.AirEvent.{AirEvent}
 use Rattle.mesh_sim.specs.Air.{AirState, is_joined, joining}
 use Rattle.mesh_sim.specs.Fates.{Mesh, place_of}
 use Rattle.mesh_sim.specs.Routes.{backwards}
-use Rattle.mesh_sim.specs.Steps.{AirStep, mesh_after, mesh_outs, MayHappen, answered_if}
+use Rattle.mesh_sim.specs.Steps.{mesh_after, mesh_outs, MayHappen, answered_if}
 use Rattle.mesh_sim.specs.Steps as mesh
 use Rattle.outside_model.specs.Results.{device_at, gives}
 use Rattle.outside_model.specs.Air.{deals}

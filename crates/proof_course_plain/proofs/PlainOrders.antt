@@ -50,14 +50,14 @@ other_task node (task.Plain n payload) is = is
 other_task node (task.Segment n payload) is = is
 other_task node asked is = tt
 
-pushes_other : (node : ℕ) (event : RequestsEvent) → PushesNone event → PushesOther (IsOtherTask node) event
-pushes_other node (Pushes pushed) none = absurd none
-pushes_other node event none = tt
+pub pushes_other : (Is : Task → Type 0) (event : RequestsEvent) → PushesNone event → PushesOther Is event
+pushes_other Is (Pushes pushed) none = absurd none
+pushes_other Is event none = tt
 
 asks_plainly : (node : ℕ) (event : HostEvent) → IsOfLine (Unit {0}) IsOther node event → OrderPlain node event → AsksPlainly node event
 asks_plainly node (Accepts order carriage) near plain = λ own. (plain own, near tt)
 asks_plainly node (Queues queued) near plain = other_task node queued (near tt)
-asks_plainly node (Requests_do event moment) is plain = pushes_other node event is
+asks_plainly node (Requests_do event moment) is plain = pushes_other (IsOtherTask node) event is
 asks_plainly node event is plain = tt
 
 event_ends : (Near : Type 0) (Is : List ℕ → Type 0) (node : ℕ) (event : Event) → ComesOfLine Near Is node event → EndsByHearing node event

@@ -1,6 +1,8 @@
 -- Each event of the whole machine, in the course of one node.
 use Rattle.std.proofs.Common.{◌≡◌, ℕ, ◌<◌, true, List, [], ◌∷◌, ◌++◌, drop, refl, ap, sym, ◌∙◌, subst, append-nil}
+use Rattle.std.proofs.lemmas.Grind.{flat_map-append}
 use Rattle.std.specs.List.{AllByRecursion}
+use Rattle.zw_base.proofs.Each.{all-left, all-right}
 use Rattle.supervision.specs.Host.{HostBook}
 use Rattle.proof_course.specs.Sessions.{Course}
 use Rattle.proof_course.specs.SessionFacts.{CourseFacts}
@@ -141,23 +143,13 @@ module _ (node : ℕ) where
 
 -- ---- the host takes bytes out of its pipe
 
-host_units-append : (a b : List HostOut) → host_units (a ++ b) ≡ host_units a ++ host_units b
-host_units-append [] b = refl
-host_units-append (out ∷ a) b = ap (λ l. host_unit out ++ l) (host_units-append a b) ∙ by (host_unit out) (host_units a) (host_units b)
-  where
-    by : (x y z : List LineUnit) → x ++ (y ++ z) ≡ (x ++ y) ++ z
-    by [] y z = refl
-    by (u ∷ x) y z = ap (λ l. u ∷ l) (by x y z)
-
-all_prefix : {A : Type 0} (P : A → Type 0) (xs ys : List A) → AllByRecursion P (xs ++ ys) → AllByRecursion P xs × AllByRecursion P ys
-all_prefix P [] ys all = (tt, all)
-all_prefix P (x ∷ xs) ys all = let later = all_prefix P xs ys all.1 in ((all.0, later.0), later.1)
-
 pub units_each : (h : HostState) (events : List HostEvent) → AllByRecursion IsUnit (host_units (outs_all h events)) → UnitsAll h events
 units_each h [] all = tt
 units_each h (event ∷ events) all =
-    let both = all_prefix IsUnit (host_units (outs h event)) (host_units (outs_all (after_host h event) events)) (subst (λ (us : List LineUnit). AllByRecursion IsUnit us) (host_units-append (outs h event) (outs_all (after_host h event) events)) all) in
-    (both.0, units_each (after_host h event) events both.1)
+    let first : List LineUnit = host_units (outs h event) in
+    let later : List LineUnit = host_units (outs_all (after_host h event) events) in
+    let both : AllByRecursion IsUnit (first ++ later) = subst (λ (us : List LineUnit). AllByRecursion IsUnit us) (flat_map-append host_unit (outs h event) (outs_all (after_host h event) events)) all in
+    (all-left IsUnit first later both, units_each (after_host h event) events (all-right IsUnit first later both))
 
 abbrev pub taken_outside : Outside → ℕ → Outside
 taken_outside w count = record w { outer = record w.outer { to_host = record w.outer.to_host { bytes = drop count w.outer.to_host.bytes } } }

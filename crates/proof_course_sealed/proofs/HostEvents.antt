@@ -1,5 +1,6 @@
 -- Each event of the host that is not what it makes of a payload of the node, and begins no session, in the courses of a lock.
 use Rattle.std.proofs.Common.{◌≡◌, ◌≢◌, ℕ, zero, suc, ◌+◌, ◌*◌, ◌%◌, ◌<◌, ◌≤◌, ◌==◌, inl, inr, Bool, true, false, nat_lt, if◌then◌else◌, Option, Some, None, List, [], ◌∷◌, ◌++◌, map, length, is_some, refl, ap, sym, ◌∙◌, subst, arith}
+use Rattle.std.proofs.lemmas.List.{map-append}
 use Rattle.std.specs.List.{AllByRecursion}
 use Rattle.std.specs.Option.{option_to_list}
 use Rattle.std.proofs.lemmas.Bool.{eqb-true}
@@ -55,7 +56,7 @@ use Rattle.proof_course_plain.specs.Lines.{Moves}
 use Rattle.proof_course_plain.specs.Host.{asked_of}
 use Rattle.proof_course_plain.specs.HostGoing.{IsNoBegin}
 use Rattle.proof_course_plain.proofs.WayLabels.{thinned_same, move_ticked, copies_of}
-use Rattle.proof_course_plain.proofs.HostEvents.{session_numbered, command_numbered, get_map, owned, open_is, map_more, noted_none, copy_units, answered}
+use Rattle.proof_course_plain.proofs.HostEvents.{session_numbered, command_numbered, get_map, owned, open_is, noted_none, copy_units, answered}
 use Rattle.proof_course_sealed.specs.Labels.{Sent, Sealed, Offer, Up}
 use Rattle.proof_course_sealed.specs.Courses.{Courses, CoursesGo, GoUp, with_up}
 use Rattle.proof_course_sealed.specs.Meaning.{Past, Grows, IsSealedMessage, IsNeither, HostMeans}
@@ -219,7 +220,7 @@ module _ (laws : Writing) (past : Past) (node : ℕ) (c : Courses) (carried : Li
         keys = at.keys;
         book = at.book;
         commands = at.commands;
-        orders = ap (λ l. l ++ record { order = order; carriage = carriage } ∷ []) at.orders ∙ sym (map_more h.commands taken);
+        orders = ap (λ l. l ++ record { order = order; carriage = carriage } ∷ []) at.orders ∙ sym (map-append asked_of h.commands (taken ∷ []));
         ends = all-append (NamesEndFor node) past.orders (record { order = order; carriage = carriage } ∷ []) at.ends (end, tt);
         gave = at.gave;
         saw = at.saw;

@@ -29,3 +29,4 @@ pub mod TrueLines
 pub mod OtherAsks
 pub mod Runs
 pub mod Places
+pub use Rattle.proof_course_plain.proofs.AsMade

@@ -6,16 +6,14 @@ use Rattle.zw_text.specs.declared.line.Line.{Line}
 use Rattle.host_orders.specs.Errands.{send_text, get_text}
 use Rattle.host_requests.specs.declared.task.Task.{Task}
 use Rattle.host_requests.specs.declared.task.Task.TheVariants as task
-use Rattle.host_requests.specs.Events.{RequestsEvent}
-use Rattle.host_requests.specs.Events.RequestsEvent.{Pushes}
 use Rattle.host_model.specs.Events.{HostEvent, Accepts, Queues, Requests_do, Finishes, Offers, Gives, Spends, Spends_unread, Takes_nonce, Resends}
 use Rattle.world_model.specs.State.{Machine}
 use Rattle.world_model.specs.Events.{Event, Host_does}
 use Rattle.proof_course_plain.specs.proof_serial.Line.{AreLines}
-use Rattle.proof_course_plain.specs.World.{NamesEnd, IsAskedTask, PushesNone, IsOfLine, ComesOfLine}
+use Rattle.proof_course_plain.specs.World.{NamesEnd, IsAskedTask, IsOfLine, ComesOfLine}
 use Rattle.proof_course_plain.proofs.HeardPayloads.{lines_end}
 use Rattle.proof_course_sealed.specs.Meaning.{IsNeither}
-use Rattle.proof_course_plain.specs.Host.{PushesOther}
+use Rattle.proof_course_plain.proofs.PlainOrders.{pushes_other}
 use Rattle.proof_course_sealed.specs.Host.{IsOtherTask, AsksFitly}
 use Rattle.proof_course_sealed.specs.HostGoing.{IsUnheard}
 use Rattle.proof_course_sealed.specs.World.{IsFitly, HearsInPipe}
@@ -38,14 +36,10 @@ other_task node (task.Offer n nonce) is = is
 other_task node (task.Segment n payload) is = is
 other_task node asked is = tt
 
-pushes_other : (node : ℕ) (event : RequestsEvent) → PushesNone event → PushesOther (IsOtherTask node) event
-pushes_other node (Pushes pushed) none = absurd none
-pushes_other node event none = tt
-
 asks_fitly : (node : ℕ) (event : HostEvent) → IsOfLine (Unit {0}) IsNeither node event → AsksFitly node event
 asks_fitly node (Accepts order carriage) near = λ own. near tt
 asks_fitly node (Queues queued) near = other_task node queued (near tt)
-asks_fitly node (Requests_do event moment) is = pushes_other node event is
+asks_fitly node (Requests_do event moment) is = pushes_other (IsOtherTask node) event is
 asks_fitly node event is = tt
 
 event_hears : (Near : Type 0) (Is : List ℕ → Type 0) (node : ℕ) (event : Event) → ComesOfLine Near Is node event → HearsInPipe node event

@@ -6,7 +6,6 @@ pub mod Unasked
 pub mod Opening
 pub mod Knowing
 pub mod Carrying
-pub mod PlainBeginning
 pub mod PlainTying
 pub mod LockBeginning
 pub mod LockTying

@@ -11,7 +11,7 @@ use Rattle.proof_course_sealed.specs.Plain.{IsIdle}
 use Rattle.proof_course_sealed.specs.Courses.{first_courses}
 use Rattle.proof_course_sealed.specs.Meaning.{first_past}
 use Rattle.proof_course_sealed.specs.Lock.{AtLock}
-use Rattle.proof_headline.proofs.PlainBeginning.{stand_as_made}
+use Rattle.proof_course_sealed.proofs.AsMade.{stand_as_made}
 use Rattle.proof_headline.specs.Locks.{IsLockKind, IsLockNode}
 
 -- the only kind that lists both

@@ -24,7 +24,7 @@ use Rattle.world_lines.specs.Done.{IsRead, events_of}
 use Rattle.proof_headline.specs.Truly.{LinesAreTrue}
 use Rattle.proof_course_sealed.specs.Plain.{HasCourse, NamesEnd}
 use Rattle.proof_course_sealed.proofs.Places.{one_place, one_stands}
-use Rattle.proof_headline.proofs.PlainBeginning.{finds}
+use Rattle.proof_course_sealed.proofs.AsMade.{finds}
 
 -- ---- lines
 

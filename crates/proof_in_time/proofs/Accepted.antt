@@ -39,7 +39,7 @@ use Rattle.proof_answered.proofs.proof_traffic_Parts.{Airs}
 use Rattle.proof_in_time.specs.Coming.{IsKeptFor}
 use Rattle.proof_in_time.specs.InStep.{IsPlainly}
 use Rattle.proof_in_time.specs.InHand.{StandsAt, ticks_blocked, ticks_enough, ticks_of_all}
-use Rattle.proof_in_time.proofs.InHand.{Any, Due, Ends, HandAt, HasTurn, Idles, KeptLaws, Runs, any_kept, ends_kept, event_hand, goes_on, hand_as}
+use Rattle.proof_in_time.proofs.InHand.{Any, Due, Ends, HandAt, HasTurn, Idles, KeptLaws, Runs, any_kept, ends_kept, event_hand, goes_on, hand_as, three_true}
 use Rattle.proof_in_time.proofs.InTurn.{ComesTo, In_turn}
 use Rattle.proof_in_time.proofs.Keeping.{kept_before, none_unkept, told_kept}
 use Rattle.proof_in_time.proofs.Lasting.{in_time, node_within}
@@ -50,12 +50,6 @@ use Rattle.proof_in_time.proofs.Nearing.{IsHeldSoon, IsOverSoon, KnowServed, Run
 -- so many sessions are to be over before its own, at most
 abbrev pub Few : ℕ → Type 0
 Few more = more ≤ 17
-
-three_true : (a b c : Bool) → a ≡ true → b ≡ true → c ≡ true → (a && b && c) ≡ true
-three_true true true true first second third = refl
-three_true false b c first second third = absurd (let wrong : false ≡ true = first in cc)
-three_true true false c first second third = absurd (let wrong : false ≡ true = second in cc)
-three_true true true false first second third = absurd (let wrong : false ≡ true = third in cc)
 
 module _ (command : ℕ) where
   few_kept : KeptLaws (Ends command Few Few Few)

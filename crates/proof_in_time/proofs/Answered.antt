@@ -45,11 +45,9 @@ use Rattle.proof_messages.proofs.DeviceReports.{opened_ends, own_heard, taken_ow
 use Rattle.proof_messages.proofs.SessionMessages.{awake_after, headed_no_segment, knows_supervision, message_headed, openly_by}
 use Rattle.proof_in_time.specs.Answering.{AnswersSession, Goes_on, Ends as Ends_work, IsAtWork, IsDone, IsDoneOrAtWork, IsInStep, IsStill, Last, Next, StaysDone, WorksOn}
 use Rattle.proof_course_plain.proofs.Levels.{works_time}
+use Rattle.proof_answered.proofs.Ending.{both}
 
 -- ---- what a device makes of the id
-
-both : (a b : Bool) → a ≡ true → b ≡ true → (a && b) ≡ true
-both a b one two = rw (one, two) refl
 
 not_true_is : (b : Bool) → (b ≡ true → ⊥) → not b ≡ true
 not_true_is true none = absurd (none refl)

@@ -24,6 +24,7 @@ use Rattle.device_kinds.specs.Effects.{level_in, value_in}
 use Rattle.device_kinds.specs.Values.{level_after, level_by, level_property, value_after, value_by}
 use Rattle.device_kinds.proofs.CacheLemmas.{level_after-append, value_after-append}
 use Rattle.proof_host.specs.Laws.{MayStand}
+use Rattle.proof_walk.proofs.Moving.{both_none}
 use Rattle.proof_spoken.proofs.Others.{made_both}
 
 -- ---- the entries before it
@@ -61,10 +62,6 @@ begun_stays n command (Begin node session number ∷ first) later has = by (numb
 begun_stays n command (entry ∷ first) later has = ap (λ (l : List Entry). entry ∷ l) (begun_stays n command first later has)
 
 -- where nothing is made at all, nothing is made before it
-pub nothing : {A : Type 0} (xs ys : List A) → xs ++ ys ≡ [] → (xs ≡ []) × (ys ≡ [])
-nothing [] ys none = (refl, none)
-nothing (x ∷ xs) ys none = absurd cc
-
 pub none_made_before : (n command : ℕ) (entries : List Entry) → made n entries ≡ [] → made n (before_session command entries) ≡ []
 none_made_before n command [] none = refl
 none_made_before n command (Begin node session number ∷ entries) none = by (number == command) (none_made_before n command entries none)
@@ -73,7 +70,7 @@ none_made_before n command (Begin node session number ∷ entries) none = by (nu
     by true rest = refl
     by false rest = rest
 none_made_before n command (entry ∷ entries) none =
-    let parts = nothing (made_at n entry) (made n entries) none in ap₂ (λ (a b : List Made). a ++ b) parts.0 (none_made_before n command entries parts.1)
+    let parts = both_none (made_at n entry) (made n entries) none in ap₂ (λ (a b : List Made). a ++ b) parts.0 (none_made_before n command entries parts.1)
 
 -- ---- a session begins for a command that waits
 
@@ -106,7 +103,7 @@ begins_once n command past (entry ∷ more) each has =
   where
     by : Has (session_at n entry) command ⊎ Has (sessions n more) command → (Has (sessions n more) command → carried command (past ++ entry ∷ []) ≡ []) → carried command past ≡ []
     by (inl own) rest = own_begin n command past entry each.0 own
-    by (inr later) rest = (nothing (carried command past) (carried command (entry ∷ [])) (sym (shown-append (carried_at command) past (entry ∷ [])) ∙ rest later)).0
+    by (inr later) rest = (both_none (carried command past) (carried command (entry ∷ [])) (sym (shown-append (carried_at command) past (entry ∷ [])) ∙ rest later)).0
 
 -- ---- settings
 

@@ -21,7 +21,8 @@ use Rattle.proof_host.specs.Laws.{HostLaws, MayStand, number_for, numbers_for}
 use Rattle.proof_host.specs.Tables.{nodes_by}
 use Rattle.proof_host.proofs.Over.{each-right}
 use Rattle.proof_spoken.proofs.BegunCommands.{IsStarted, accepted_here, started_has}
-use Rattle.proof_in_time.proofs.BegunBefore.{nothing, same_has, waits_unbegun}
+use Rattle.proof_walk.proofs.Moving.{both_none}
+use Rattle.proof_in_time.proofs.BegunBefore.{same_has, waits_unbegun}
 use Rattle.proof_in_time.proofs.Endings.{accepted_at, is_accepted}
 
 -- ---- before the stretch
@@ -30,12 +31,12 @@ use Rattle.proof_in_time.proofs.Endings.{accepted_at, is_accepted}
 none_carried : (n command : ℕ) (past : List Entry) → carried command past ≡ [] → Has (sessions n past) command → ⊥
 none_carried n command [] none has = has
 none_carried n command (Begin node session number ∷ past) none has =
-    by (has_either (session_at n (Begin node session number)) (sessions n past) command has) (λ later. none_carried n command past (nothing (carried_at command (Begin node session number)) (carried command past) none).1 later)
+    by (has_either (session_at n (Begin node session number)) (sessions n past) command has) (λ later. none_carried n command past (both_none (carried_at command (Begin node session number)) (carried command past) none).1 later)
   where
     by : Has (session_at n (Begin node session number)) command ⊎ Has (sessions n past) command → (Has (sessions n past) command → ⊥) → ⊥
     by (inl own) rest =
         let is : (number == command) ≡ true = eq-eqb number command (same_has (node == n) number command own) in
-        let here : (if number == command then session ∷ [] else []) ≡ [] = (nothing (carried_at command (Begin node session number)) (carried command past) none).0 in
+        let here : (if number == command then session ∷ [] else []) ≡ [] = (both_none (carried_at command (Begin node session number)) (carried command past) none).0 in
         let some : session ∷ [] ≡ [] = subst (λ (b : Bool). (if b then session ∷ [] else []) ≡ []) is here in
         absurd cc
     by (inr later) rest = rest later

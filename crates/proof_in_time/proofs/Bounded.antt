@@ -29,7 +29,6 @@ use Rattle.host_model.specs.After.{after}
 use Rattle.host_model.specs.Events.{HostEvent, Accepts, Line_ticks, Node_ticks, Requests_do, Starts}
 use Rattle.host_model.specs.State.{HostState, node_of}
 use Rattle.host_model.specs.Ticking.{tick_events}
-use Rattle.host_model.proofs.Submitted.{next_is}
 use Rattle.outside_model.specs.Events.{OuterEvent, Begins_line, Begins_tick, Arrives, Device_ticks, Chip_ticks, Wakes_device, Shows, Cuts, devices_after, outcome}
 use Rattle.world_model.specs.Events.{Event, Outside_does, Host_does, Decoder_ticks, Refuses, Shows_values, happens, May, shown_values}
 use Rattle.world_model.specs.State.{Machine}
@@ -62,7 +61,7 @@ use Rattle.proof_answered.proofs.Unheard.{counts_says, decoder_says, device_says
 use Rattle.proof_answered.specs.Outward.{AllListen}
 use Rattle.proof_in_time.specs.Answering.{AnswersSession, Ends as Work_ends, Goes_on as Work_goes_on, IsAtWork, IsDoneOrAtWork, IsInStep, WorksOn}
 use Rattle.proof_in_time.specs.Coming.{AsksFor, Asked, At_work, Coming, Flies, Has, IsAsking, IsBusy, IsMessage, IsReport, IsRequest, Sent, Stands, TellsEnd, Told, WaitsFor, has_ticked, one_later, own_ticks, ticks_left, ticks_of, is_layered}
-use Rattle.proof_in_time.specs.InStep.{HasInStep, HearsInStep, IsPlainly}
+use Rattle.proof_in_time.specs.InStep.{HasInStep, HearsInStep}
 use Rattle.proof_in_time.proofs.Busy.{BusyThere, HearsStill, StayBusy, arrived_devices, arrives_busy, later_ticked, one_most, same_busy, ticked_devices, then_busy, ticks_apart, unless_ticking, wakes_busy}
 use Rattle.proof_in_time.proofs.Carried.{Fits, IsNearEnd, arrives_comes, busy_on, carry, many_on_air, ticks_once}
 use Rattle.proof_in_time.proofs.Grown.{Adds, Arrived, arrives_there, calm_adds, device_adds, same_adds, wakes_add}
@@ -257,20 +256,11 @@ module _ (n most : ℕ) (within : n < 233) where
       }
 
   -- an attempt of its own starts
-  start_book : (state : NodeState) (plan : Plan) → (after_start state plan).book ≡ state.book
-  start_book state Whole = refl
-  start_book state (Segments count) = refl
-  start_book state (Sealed plain) = refl
-
-  start_classes : (state : NodeState) (plan : Plan) → (after_start state plan).classes ≡ state.classes
-  start_classes state Whole = refl
-  start_classes state (Segments count) = refl
-  start_classes state (Sealed plain) = refl
-
-  start_wait : (state : NodeState) (plan : Plan) → (after_start state plan).attempt_wait ≡ state.attempt_wait
-  start_wait state Whole = refl
-  start_wait state (Segments count) = refl
-  start_wait state (Sealed plain) = refl
+  start_kept : (state : NodeState) (plan : Plan)
+      → ((after_start state plan).book ≡ state.book) × ((after_start state plan).classes ≡ state.classes) × ((after_start state plan).attempt_wait ≡ state.attempt_wait)
+  start_kept state Whole = (refl, refl, refl)
+  start_kept state (Segments count) = (refl, refl, refl)
+  start_kept state (Sealed plain) = (refl, refl, refl)
 
   pub start_waits : (here next : Phase) (m : Machine) (plan : Plan) (more : Bool) (payload : List ℕ) → length m.host.state.nodes ≡ 233 → (node_of m.host.state n).attempt_wait ≡ 0 → IsMessage (begun_of (node_of m.host.state n).book) payload → IsAsking next
       → own_ticks n next ≤ 1 → WaitsFor n most here m → WaitsFor n 6 next (happens m (Host_does (Starts n plan more payload)))
@@ -278,9 +268,9 @@ module _ (n most : ℕ) (within : n < 233) where
   start_waits here next m plan more payload places none message asking once w =
       let h : HostState = m.host.state in
       let there : node_of (after h (Starts n plan more payload)) n ≡ after_start (node_of h n) plan = own_start n within h plan more payload places in
-      let begun : begun_of (node_of (after h (Starts n plan more payload)) n).book ≡ begun_of (node_of h n).book = ap (λ (s : NodeState). begun_of s.book) there ∙ ap begun_of (start_book (node_of h n) plan) in
+      let begun : begun_of (node_of (after h (Starts n plan more payload)) n).book ≡ begun_of (node_of h n).book = ap (λ (s : NodeState). begun_of s.book) there ∙ ap begun_of (start_kept (node_of h n) plan).0 in
       record {
-        openly = ap (λ (s : NodeState). is_layered s.classes) there ∙ (ap is_layered (start_classes (node_of h n) plan) ∙ w.openly);
+        openly = ap (λ (s : NodeState). is_layered s.classes) there ∙ (ap is_layered (start_kept (node_of h n) plan).1 ∙ w.openly);
         once = once;
         bounded = λ run. record {
           left = 6;
@@ -289,7 +279,7 @@ module _ (n most : ℕ) (within : n < 233) where
           comes = Asked asking
               (record { request = _; more = more; payload = payload; under_way = refl; purpose = refl; message = subst (λ (s : ℕ). IsMessage s payload) (sym begun) message; frame = refl })
               (omega arith);
-          waits = inl (ap (λ (s : NodeState). s.attempt_wait) there ∙ (start_wait (node_of h n) plan ∙ none));
+          waits = inl (ap (λ (s : NodeState). s.attempt_wait) there ∙ ((start_kept (node_of h n) plan).2 ∙ none));
         };
       }
 
@@ -480,18 +470,6 @@ module _ (airs : Airs) (these : List Bool) (many : length these ≡ 233) (laws :
   within : n < 233
   within = let few = node.1 in omega (arith, few)
 
-  abbrev Leads : Phase → Machine → Event → Type 0
-  Leads next m event = WaitsFor n most next (happens m event)
-
-  as_is : (next to : Phase) (m : Machine) (event is : Event) → event ≡ is → next ≡ to → Leads to m is → Leads next m event
-  as_is next to m event is event_is next_is leads = subst (λ (e : Event). Leads next m e) (sym event_is) (subst (λ (q : Phase). Leads q m is) (sym next_is) leads)
-
-  may_is : (m : Machine) (event is : Event) → event ≡ is → May m event → May m is
-  may_is m event is same may = subst (May m) same may
-
-  plain_is : (m : Machine) (event is : Event) → event ≡ is → IsPlainly these m event → IsPlainly these m is
-  plain_is m event is same plainly = subst (IsPlainly these m) same plainly
-
   -- what stands stays
   stay : (here next : Phase) (m later : Machine) → (IsAsking here → ⊥) → Adds m.outside.outer later.outside.outer → ((x : FrameParts) → Has x (unheard m.outside.outer) → Has x (unheard later.outside.outer))
       → ((left : ℕ) → Fits n (many_on_air m) here left next left) → StayBusy n (session_of n m) m.outside.devices later.outside.devices → ((place : ℕ) → ticks_left next + has_ticked next place ≤ ticks_left here + has_ticked here place)
@@ -628,9 +606,6 @@ module _ (airs : Airs) (these : List Bool) (many : length these ≡ 233) (laws :
       goes run left comes = arrives_comes airs m is drawn route at given later room n alive (session_of n m) left frames ticks (answers run) (arrives_busy laws.still n (session_of n m) m drawn route) comes
 
   -- ---- in a line
-
-  abbrev In : Line → List Event → Phase
-  In line left = Doing line left
 
   effect_fits : (line : Line) (first : Event) (left : List Event) (count k : ℕ) → Fits n count (Doing line (first ∷ left)) k (Doing line left) k
   effect_fits line first left count k = still_fits n count k (Doing line (first ∷ left)) (Doing line left) (λ place. omega arith) (omega arith)

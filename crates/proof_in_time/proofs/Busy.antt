@@ -25,6 +25,7 @@ use Rattle.proof_course_plain.proofs.MadeSettings.{get_other}
 use Rattle.proof_course_plain.proofs.Replies.{one_stands}
 use Rattle.proof_in_time.specs.Answering.{IsStill}
 use Rattle.proof_in_time.specs.Coming.{IsBusy}
+use Rattle.proof_answered.proofs.Ending.{both}
 
 -- ---- it stays at its place, for as long
 
@@ -183,9 +184,6 @@ pub one_most : (b : Bool) → unless_ticking b ≤ 1
 one_most true = omega arith
 one_most false = omega arith
 
-both_are : (a b : Bool) → a ≡ true → b ≡ true → (a && b) ≡ true
-both_are a b one two = rw (one, two) refl
-
 both_of : (a b : Bool) → (a && b) ≡ true → (a ≡ true) × (b ≡ true)
 both_of true true is = (refl, refl)
 both_of true false is = absurd (let wrong : false ≡ true = is in cc)
@@ -207,7 +205,7 @@ later_ticked place count at apart = by (nat_le place at && nat_lt at (place + su
         let below : at < place + 1 + count = omega (arith, less) in
         let a : nat_le (place + 1) at ≡ true = grind (arith, nat_tests, above) in
         let b : nat_lt at (place + 1 + count) ≡ true = grind (arith, nat_tests, below) in
-        let none : unless_ticking (nat_le (place + 1) at && nat_lt at (place + 1 + count)) ≡ 0 = ap unless_ticking (both_are (nat_le (place + 1) at) (nat_lt at (place + 1 + count)) a b) in
+        let none : unless_ticking (nat_le (place + 1) at && nat_lt at (place + 1 + count)) ≡ 0 = ap unless_ticking (both (nat_le (place + 1) at) (nat_lt at (place + 1 + count)) a b) in
         omega (arith, none)
 
 -- all have
@@ -223,7 +221,7 @@ pub none_ticked : (count at : ℕ) → at < count → unless_ticking (nat_le 0 a
 none_ticked count at less =
     let a : nat_le 0 at ≡ true = grind (arith, nat_tests) in
     let b : nat_lt at (0 + count) ≡ true = grind (arith, nat_tests, less) in
-    ap unless_ticking (both_are (nat_le 0 at) (nat_lt at (0 + count)) a b)
+    ap unless_ticking (both (nat_le 0 at) (nat_lt at (0 + count)) a b)
 
 pub place_within : (devices : List State) (place : ℕ) (device : State) → slice_get devices place ≡ Some device → place < length devices
 place_within [] place device there = absurd cc

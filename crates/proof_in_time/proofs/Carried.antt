@@ -24,7 +24,7 @@ use Rattle.proof_answered.specs.proof_calm.Resting.{IsGiven}
 use Rattle.proof_answered.specs.proof_calm.Tied.{unheard}
 use Rattle.proof_answered.proofs.proof_traffic_Parts.{Airs}
 use Rattle.proof_in_time.specs.Coming.{AsksFor, Asked, At_work, Coming, Flies, Has, IsAsking, IsBusy, IsReport, IsRequest, Sent, Stands, TellsEnd, Told, brings, has_ticked, one_later, ticks_left, ticks_of}
-use Rattle.proof_in_time.proofs.Busy.{StayBusy}
+use Rattle.proof_in_time.proofs.Busy.{StayBusy, one_most, unless_ticking}
 use Rattle.proof_in_time.proofs.Grown.{Adds, Arrived, stands_next, stands_on}
 use Rattle.proof_in_time.proofs.Landed.{arrives_has, report_comes}
 
@@ -104,25 +104,18 @@ carry n session left then_left here next m later asks works adds has fits comes 
 
 -- ---- a frame arrives
 
-abbrev unless_one : Bool → ℕ
-unless_one b = if b then 0 else 1
-
-later_once : (place frames : ℕ) → unless_one (nat_lt (suc place) (suc frames)) ≡ unless_one (nat_lt place frames)
+later_once : (place frames : ℕ) → unless_ticking (nat_lt (suc place) (suc frames)) ≡ unless_ticking (nat_lt place frames)
 later_once place frames = by (nat_lt place frames) refl
   where
-    by : (b : Bool) → nat_lt place frames ≡ b → unless_one (nat_lt (suc place) (suc frames)) ≡ unless_one b
-    by true is = ap unless_one (let so : nat_lt (suc place) (suc frames) ≡ true = grind (arith, nat_tests, is) in so)
-    by false is = ap unless_one (let so : nat_lt (suc place) (suc frames) ≡ false = grind (arith, nat_tests, is) in so)
+    by : (b : Bool) → nat_lt place frames ≡ b → unless_ticking (nat_lt (suc place) (suc frames)) ≡ unless_ticking b
+    by true is = ap unless_ticking (let so : nat_lt (suc place) (suc frames) ≡ true = grind (arith, nat_tests, is) in so)
+    by false is = ap unless_ticking (let so : nat_lt (suc place) (suc frames) ≡ false = grind (arith, nat_tests, is) in so)
 
 nothing_more : (x left : ℕ) → x ≤ left → 0 + x ≤ left
 nothing_more x left few = omega (arith, few)
 
 nothing_then : (x left : ℕ) → x + 5 ≤ left → 0 + x + 5 ≤ left
 nothing_then x left few = omega (arith, few)
-
-at_most_one : (b : Bool) → unless_one b ≤ 1
-at_most_one true = omega arith
-at_most_one false = omega arith
 
 module _ (airs : Airs) (m : Machine) (is : Awaits m) (drawn : List ℕ) (route : Option Route) (at : Arrived airs m is drawn route) (given : IsGiven 0 m) (later_given : IsGiven 0 (happens m (Outside_does (Arrives drawn route))))
     (room : length m.outside.outer.chip.state.port.waiting ≤ 31) (n : ℕ) (live : at.frame.node ≡ n → IsLive m.outside.outer.air.network at.frame) (session left frames ticks : ℕ) where
@@ -138,29 +131,29 @@ module _ (airs : Airs) (m : Machine) (is : Awaits m) (drawn : List ℕ) (route :
 
   module _ (hears : IsRequest n session at.frame → Stands (IsReport n session) flights_then ⊎ ComesToWork) (stays : StayBusy n session m.outside.devices then_there.outside.devices) where
     answered : (x : ℕ) → x + 5 ≤ left → Stands (IsReport n session) flights_then ⊎ ComesToWork → Coming n session left (Arriving frames ticks) then_there
-    answered x few (inl answer) = let one = at_most_one (nat_lt (length answer.before) frames) in Flies answer (omega (arith, few, one))
+    answered x few (inl answer) = let one = one_most (nat_lt (length answer.before) frames) in Flies answer (omega (arith, few, one))
     answered x few (inr (busy, five)) = At_work busy (omega (arith, few, five))
 
-    sends : (place : ℕ) → unless_one (nat_lt place (suc frames)) + 5 ≤ left → IsRequest n session at.frame ⊎ ((on : Stands (IsRequest n session) at.rest) × (place ≡ suc (length on.before))) → Coming n session left (Arriving frames ticks) then_there
-    sends place few (inl request) = answered (unless_one (nat_lt place (suc frames))) few (hears request)
+    sends : (place : ℕ) → unless_ticking (nat_lt place (suc frames)) + 5 ≤ left → IsRequest n session at.frame ⊎ ((on : Stands (IsRequest n session) at.rest) × (place ≡ suc (length on.before))) → Coming n session left (Arriving frames ticks) then_there
+    sends place few (inl request) = answered (unless_ticking (nat_lt place (suc frames))) few (hears request)
     sends place few (inr (on, same)) =
         let there = stands_on (IsRequest n session) at.rest flights_then at.grows on in
-        let as_far : unless_one (nat_lt (length on.before) frames) ≡ unless_one (nat_lt place (suc frames)) = sym (ap (λ (k : ℕ). unless_one (nat_lt k (suc frames))) same ∙ later_once (length on.before) frames) in
+        let as_far : unless_ticking (nat_lt (length on.before) frames) ≡ unless_ticking (nat_lt place (suc frames)) = sym (ap (λ (k : ℕ). unless_ticking (nat_lt k (suc frames))) same ∙ later_once (length on.before) frames) in
         Sent there.0
-        (nothing_then (unless_one (nat_lt (length there.0.before) frames)) left
-        (subst (λ (k : ℕ). unless_one (nat_lt k frames) + 5 ≤ left) (sym (ap (λ (fs : List Flown). length fs) there.1))
+        (nothing_then (unless_ticking (nat_lt (length there.0.before) frames)) left
+        (subst (λ (k : ℕ). unless_ticking (nat_lt k frames) + 5 ≤ left) (sym (ap (λ (fs : List Flown). length fs) there.1))
         (subst (λ (k : ℕ). k + 5 ≤ left) (sym as_far) few)))
 
-    flies : (place : ℕ) → unless_one (nat_lt place (suc frames)) ≤ left → IsReport n session at.frame ⊎ ((on : Stands (IsReport n session) at.rest) × (place ≡ suc (length on.before))) → Coming n session left (Arriving frames ticks) then_there
+    flies : (place : ℕ) → unless_ticking (nat_lt place (suc frames)) ≤ left → IsReport n session at.frame ⊎ ((on : Stands (IsReport n session) at.rest) × (place ≡ suc (length on.before))) → Coming n session left (Arriving frames ticks) then_there
     flies place few (inl report) =
         Told at.frame.payload report.tells
         (subst (λ (k : ℕ). Has (brings k at.frame.payload) (unheard then_there.outside.outer)) report.node (report_comes m drawn route at.frame at.next report.home (live report.node) report.tells.some report.tells.few given later_given room)) (omega (arith, few))
     flies place few (inr (on, same)) =
         let there = stands_on (IsReport n session) at.rest flights_then at.grows on in
-        let as_far : unless_one (nat_lt (length on.before) frames) ≡ unless_one (nat_lt place (suc frames)) = sym (ap (λ (k : ℕ). unless_one (nat_lt k (suc frames))) same ∙ later_once (length on.before) frames) in
+        let as_far : unless_ticking (nat_lt (length on.before) frames) ≡ unless_ticking (nat_lt place (suc frames)) = sym (ap (λ (k : ℕ). unless_ticking (nat_lt k (suc frames))) same ∙ later_once (length on.before) frames) in
         Flies there.0
-        (nothing_more (unless_one (nat_lt (length there.0.before) frames)) left
-        (subst (λ (k : ℕ). unless_one (nat_lt k frames) ≤ left) (sym (ap (λ (fs : List Flown). length fs) there.1))
+        (nothing_more (unless_ticking (nat_lt (length there.0.before) frames)) left
+        (subst (λ (k : ℕ). unless_ticking (nat_lt k frames) ≤ left) (sym (ap (λ (fs : List Flown). length fs) there.1))
         (subst (λ (k : ℕ). k ≤ left) (sym as_far) few)))
 
     -- it stands at the same place, with the frames as they were

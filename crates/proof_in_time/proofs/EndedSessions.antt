@@ -10,6 +10,7 @@ use Rattle.proof_course.specs.Parts.{numbered}
 use Rattle.proof_course.specs.Sessions.{Course, Message, Cargo, Command, Of_host, Answer, Of_node, Step, Begins, Attempts, Writes, Up_loses, Up_doubles, Sends, Flies, Reports, Lands, Repeats, Finishes, Down_loses, Down_doubles, Judges, after, after_all, hears, judges, lands, repeats, sends}
 use Rattle.supervision.specs.Ends.{Report}
 use Rattle.proof_messages.specs.Ending.{HasEnded, one_at_work}
+use Rattle.proof_course_plain.proofs.Devices.{at_rest}
 use Rattle.proof_course_plain.specs.Ways.{Goes}
 use Rattle.proof_spoken.proofs.CommandsOfSessions.{session_has, session_within}
 use Rattle.proof_host.specs.law_transcript.Lists.{Has}
@@ -118,30 +119,12 @@ none_at_work left none = by (left == 0) refl none
     by true e n = grind (arith, nat_tests, e)
     by false e n = absurd (omega (arith, n))
 
--- at work or not, by its status
-pub rests_at : (device : State) (ends : List ℕ) → HasEnded device ends → device.sessions.status ≢ WORKING → (device.work_left ≡ 0) × (length ends ≡ device.sessions.taken)
-rests_at device ends ended over = by device.work_left refl
-  where
-    by : (left : ℕ) → device.work_left ≡ left → (device.work_left ≡ 0) × (length ends ≡ device.sessions.taken)
-    by zero e =
-        let count = ended.count in
-        let none : one_at_work device.work_left ≡ 0 = ap one_at_work e in
-        (e, omega (arith, count, none))
-    by (suc k) e = absurd (over (ended.at_work (omega (arith, e))))
-
-pub works_at : (device : State) (ends : List ℕ) → HasEnded device ends → device.sessions.status ≡ WORKING → length ends + 1 ≡ device.sessions.taken
-works_at device ends ended working = by (one_at_work device.work_left) refl
-  where
-    by : (one : ℕ) → one_at_work device.work_left ≡ one → length ends + 1 ≡ device.sessions.taken
-    by zero e = absurd (ended.at_rest (none_at_work device.work_left e) working)
-    by (suc k) e = let count = ended.count in let most = at_most_one device.work_left in omega (arith, count, most, e)
-
 pub few_ended : (device : State) (ends : List ℕ) → HasEnded device ends → (device.sessions.taken ≤ length ends + 1) × (length ends ≤ device.sessions.taken)
 few_ended device ends ended = let count = ended.count in let most = at_most_one device.work_left in (omega (arith, count, most), omega (arith, count, most))
 
 -- the status of its last session, where it is at no work
 pub last_ended : (device : State) (ends : List ℕ) → HasEnded device ends → device.sessions.status ≢ WORKING → 0 < device.sessions.taken → command_at ends device.sessions.taken ≡ Some device.sessions.status
-last_ended device ends ended over some = numbered_at ends device.sessions.taken device.sessions.status (ended.told (rests_at device ends ended over).0 some)
+last_ended device ends ended over some = numbered_at ends device.sessions.taken device.sessions.status (ended.told (at_rest device ends ended over).0 some)
 
 -- a status of a device that took at most one session more: an old one, or that of its last session
 pub old_or_last : (device : State) (ends more : List ℕ) (session status : ℕ) → HasEnded device (ends ++ more) → device.sessions.taken ≤ length ends + 1 → command_at (ends ++ more) session ≡ Some status

@@ -127,7 +127,10 @@ goes_on command D R V W x h = record { listens = h.listens; ends = Goes_on h.end
 abbrev before_attempt : NodeState → NodeState
 before_attempt x = after_again_tick (after_hold_tick x)
 
-same_open : (a b : HostBook) → b.commands ≡ a.commands → b.outcome ≡ a.outcome → open_session b ≡ open_session a
+pub three_true : (a b c : Bool) → a ≡ true → b ≡ true → c ≡ true → (a && b && c) ≡ true
+three_true a b c first second third = rw (first, second, third) refl
+
+pub same_open : (a b : HostBook) → b.commands ≡ a.commands → b.outcome ≡ a.outcome → open_session b ≡ open_session a
 same_open a b commands outcome = ap (λ (o : Option ℕ). open_session (record b { outcome = o })) outcome ∙ ap (λ (cs : List ℕ). open_session (record a { commands = cs })) commands
 
 same_ended : (command : ℕ) (a b : HostBook) → b.commands ≡ a.commands → b.outcome ≡ a.outcome → HasEnded command a → HasEnded command b
@@ -515,12 +518,6 @@ module _ (command : ℕ) (D R V : ℕ → Type 0) (starts : (more : ℕ) → D m
     started_later x y book blocked waiting runs due (Goes_on e) = Goes_on (started_ends x y book blocked waiting runs due e)
     started_later x y book blocked waiting runs due (Rests more session wait opened idle again at w) = absurd (let no : series.Due ≡ series.Idle = sym due ∙ idle in cc)
 
-    both_true : (a b c : Bool) → a ≡ true → b ≡ true → c ≡ true → (a && b && c) ≡ true
-    both_true true true true first second third = refl
-    both_true false b c first second third = absurd (let wrong : false ≡ true = first in cc)
-    both_true true false c first second third = absurd (let wrong : false ≡ true = second in cc)
-    both_true true true false first second third = absurd (let wrong : false ≡ true = third in cc)
-
     again_later : (x : NodeState) → x.listens ≡ true → L x → L (after_again_tick x)
     again_later x listens (Goes_on e) = Goes_on (again_ends x e)
     again_later x listens (Rests more session zero opened idle again at w) =
@@ -531,7 +528,7 @@ module _ (command : ℕ) (D R V : ℕ → Type 0) (starts : (more : ℕ) → D m
         x0 = with_again x 0
 
         up : (is_open x0 && is_up x0 && is_idle x0.series) ≡ true
-        up = both_true (is_open x0) (is_up x0) (is_idle x0.series) (ap (λ (o : Option ℕ). is_some o) opened) (ap (λ (b : Bool). b || x.awake) listens) (ap is_idle idle)
+        up = three_true (is_open x0) (is_up x0) (is_idle x0.series) (ap (λ (o : Option ℕ). is_some o) opened) (ap (λ (b : Bool). b || x.awake) listens) (ap is_idle idle)
     again_later x listens (Rests more session (suc wait) opened idle again at w) =
         let less : x.again_wait - 1 ≡ suc wait = omega (arith, again) in
         subst (λ (b : Bool). L (if b then after_again (with_again x 0) else with_again x (x.again_wait - 1))) (sym (ne_eqb x.again_wait 1 (λ e. absurd (omega (arith, again, e)))))

@@ -44,7 +44,7 @@ use Rattle.proof_host.specs.Laws.{IsUnderWay}
 use Rattle.proof_host.specs.Tables.{outcome_in, recorded}
 use Rattle.proof_course.specs.Sessions.{Course}
 use Rattle.proof_messages.specs.Asking.{message_in as opened_in}
-use Rattle.proof_spoken.specs.proof_device.GoingOn.{AreSame}
+use Rattle.proof_spoken.specs.proof_device.GoingOn.{AreSame, IsSame}
 use Rattle.proof_spoken.specs.proof_once.Tied.{IsToldAs}
 use Rattle.proof_spoken.proofs.CommandsOfSessions.{has_session, session_within}
 use Rattle.proof_course_plain.proofs.TieSteps.{session_prefix}
@@ -178,16 +178,21 @@ device_stands node (first ∷ devices) place device found stood = by (first.node
     by false zero (Some at) found stood more = absurd cc
     by false (suc place) (Some at) found stood more = let same : at ≡ place = cc in more at refl (subst (λ (k : ℕ). slice_get devices k ≡ Some device) (sym same) stood)
 
-pub same_listing : (node : ℕ) (olds news : List State) → AreSame olds news → listing_of news node ≡ listing_of olds node
-same_listing node [] [] same = refl
-same_listing node [] (new ∷ news) same = absurd same
-same_listing node (old ∷ olds) [] same = absurd same
-same_listing node (old ∷ olds) (new ∷ news) same =
-    ap (λ (b : Bool). listed_by (if b then Some new else device_of node news)) (ap (λ (k : ℕ). k == node) same.0.node) ∙ by (old.node == node) (same_listing node olds news same.1)
+-- what the node and the kind of a device decide is so of devices that are the same
+pub same_device : {A : Type 0} (of : Option State → A) → ((old new : State) → IsSame old new → of (Some new) ≡ of (Some old)) → (node : ℕ) (olds news : List State) → AreSame olds news
+    → of (device_of node news) ≡ of (device_of node olds)
+same_device of kind node [] [] same = refl
+same_device of kind node [] (new ∷ news) same = absurd same
+same_device of kind node (old ∷ olds) [] same = absurd same
+same_device of kind node (old ∷ olds) (new ∷ news) same =
+    ap (λ (b : Bool). of (if b then Some new else device_of node news)) (ap (λ (k : ℕ). k == node) same.0.node) ∙ by (old.node == node) (same_device of kind node olds news same.1)
   where
-    by : (b : Bool) → listing_of news node ≡ listing_of olds node → listed_by (if b then Some new else device_of node news) ≡ listed_by (if b then Some old else device_of node olds)
-    by true rest = ap kind_classes same.0.kind
+    by : (b : Bool) → of (device_of node news) ≡ of (device_of node olds) → of (if b then Some new else device_of node news) ≡ of (if b then Some old else device_of node olds)
+    by true rest = kind old new same.0
     by false rest = rest
+
+pub same_listing : (node : ℕ) (olds news : List State) → AreSame olds news → listing_of news node ≡ listing_of olds node
+same_listing node olds news same = same_device listed_by (λ old new is. ap kind_classes is.kind) node olds news same
 
 -- what the laws of messages say
 pub record Laws : Type 0 where

@@ -42,12 +42,14 @@ use Rattle.proof_messages.specs.Ending.{HasEnded}
 use Rattle.proof_spoken.specs.proof_once.Tied.{KeepsOrders}
 use Rattle.proof_spoken.proofs.CommandsOfSessions.{session_within}
 use Rattle.proof_spoken.proofs.Others.{made_both}
+use Rattle.proof_course_plain.proofs.Devices.{at_rest, at_work}
 use Rattle.proof_course_plain.specs.Host.{asked_of}
 use Rattle.proof_course_plain.specs.Judged.{TakesAsAsked, Judges}
 use Rattle.proof_course_plain.specs.Meaning.{Asked}
 use Rattle.proof_course_plain.specs.World.{WorldFollows}
+use Rattle.proof_walk.proofs.Moving.{both_none}
 use Rattle.proof_in_time.proofs.BegunBefore.{begins_once, begun_stays, level_then, made_then, none_begun, none_made_before, settings_of, value_then}
-use Rattle.proof_in_time.proofs.EndedSessions.{behind_first, few_ended, last_ended, numbered_at, old_or_last, rests_at, same_at, within_first, works_at}
+use Rattle.proof_in_time.proofs.EndedSessions.{behind_first, few_ended, last_ended, numbered_at, old_or_last, same_at, within_first}
 
 -- ---- verdicts
 
@@ -202,9 +204,6 @@ module _ (n since : ℕ) (kind : Kind) (start : List Change) (past entries told 
   taken_is : old.sessions.taken ≡ c.device.taken
   taken_is = ap (λ (t : SessionsTaken). t.taken) tie.at.follows.outside.mesh.device.at.sessions
 
-  taken_then : new.sessions.taken ≡ d.device.taken
-  taken_then = ap (λ (t : SessionsTaken). t.taken) goes.next.follows.outside.mesh.device.at.sessions
-
   not_ahead : old.sessions.taken ≤ begun_of c.host
   not_ahead = let ahead = tie.at.follows.course.agree.not_ahead in omega (arith, ahead, taken_is)
 
@@ -283,7 +282,7 @@ module _ (n since : ℕ) (kind : Kind) (start : List Change) (past entries told 
     where
       by : Judges tie.at.orders c.host.commands old new → new.sessions.taken ≤ length c.ends + 1
       by (inl still) = let same = ap (λ (t : SessionsTaken). t.taken) still.sessions in let few = (few_ended old c.ends was_ended).0 in omega (arith, same, few)
-      by (inr (inl takes)) = let same = ap (λ (t : SessionsTaken). t.taken) takes.sessions in let all = (rests_at old c.ends was_ended takes.free).1 in omega (arith, same, all)
+      by (inr (inl takes)) = let same = ap (λ (t : SessionsTaken). t.taken) takes.sessions in let all = (at_rest old c.ends was_ended takes.free).1 in omega (arith, same, all)
       by (inr (inr ends)) = let same = ap (λ (t : SessionsTaken). t.taken) ends.sessions in let few = (few_ended old c.ends was_ended).0 in omega (arith, same, few)
 
   last_session : (session number status : ℕ) → since < session → command_at d.host.commands session ≡ Some number → session ≡ new.sessions.taken → status ≡ new.sessions.status → new.sessions.status ≢ WORKING
@@ -359,13 +358,9 @@ module _ (n since : ℕ) (kind : Kind) (start : List Change) (past entries told 
         behind_first c.host.commands (sessions n told) (begun_of d.host) number (omega (arith, all, many)) (subst (λ (l : List ℕ). command_at l (begun_of d.host) ≡ Some number) more_begun carries) in
         let each : EachAfter MayStand (past ++ entries) told = each-right MayStand [] (past ++ entries) told (subst (λ (l : List Entry). EachAfter MayStand [] l) (sym (append_assoc past entries told)) goes.facts.stand) in
         let none : carried number (past ++ entries) ≡ [] = begins_once n number (past ++ entries) told each has in
-        let none_here : carried number entries ≡ [] = right_nothing (carried number past) (carried number entries) (sym (shown-append (carried_at number) past entries) ∙ none) in
+        let none_here : carried number entries ≡ [] = (both_none (carried number past) (carried number entries) (sym (shown-append (carried_at number) past entries) ∙ none)).1 in
         ap (λ (l : List Entry). settings_made n l) (none_begun number entries told none_here)
         ∙ (made_then n entries (before_session number told) (none_made_before n number told none_made) ∙ sym (made_then n entries told none_made))
-      where
-        right_nothing : (xs ys : List ℕ) → xs ++ ys ≡ [] → ys ≡ []
-        right_nothing [] ys e = e
-        right_nothing (x ∷ xs) ys e = absurd cc
 
   host_same : later.host.state ≡ m.host.state → begun_of d.host ≡ begun_of c.host
   host_same same =
@@ -375,7 +370,7 @@ module _ (n since : ℕ) (kind : Kind) (start : List Change) (past entries told 
   -- a device at work is at the last session that the host began
   at_last : old.sessions.status ≡ WORKING → begun_of c.host ≤ old.sessions.taken
   at_last working =
-      let count = works_at old c.ends was_ended working in
+      let count = at_work old c.ends was_ended working in
       let told_are = tie.at.follows.course.told_are in
       let ends_are : length c.ends ≡ length c.told + length told_are.rest = ap (λ (l : List ℕ). length l) told_are.prefix ∙ length-append c.told told_are.rest in
       by told_are (open_session c.host) refl count ends_are

@@ -5,7 +5,7 @@ use Rattle.std.proofs.lemmas.Bool.{or_parts}
 use Rattle.std.specs.List.{AllByRecursion}
 use Rattle.zw_base.proofs.Each.{all-left, all-right}
 use Rattle.supervision.specs.Session.{wire_id}
-use Rattle.supervision.specs.Host.{HostBook, begun_of, open_session}
+use Rattle.supervision.specs.Host.{begun_of, open_session}
 use Rattle.serial_frame.specs.Frame.{FrameParts}
 use Rattle.serial_frame.specs.declared.item.Item.TheVariants.{Good}
 use Rattle.serial_frame.specs.declared.unit.Unit.{Unit as LineUnit}
@@ -33,6 +33,7 @@ use Rattle.proof_in_time.specs.Coming.{Has, IsKept, TellsEnd, brings, is_layered
 use Rattle.proof_in_time.specs.Reporting.{AwaitsReport, EndsSession, IsOver}
 use Rattle.proof_in_time.proofs.NodeWaits.{IsBeside, OnTable, beside_table}
 use Rattle.proof_in_time.proofs.Reported.{report_ends, session_over}
+use Rattle.proof_in_time.proofs.InHand.{same_open}
 
 -- ---- what the chip tells makes no attempt start, and ticks for no node
 
@@ -96,9 +97,6 @@ pub record Judges (n session wait : ℕ) (Elsewhere : Type 0) (pending : List Fr
 unsecured : (classes : Option (List ℕ)) → is_layered classes ≡ false → is_secure classes ≡ false
 unsecured None openly = refl
 unsecured (Some classes) openly = (or_parts (is_secure (Some classes)) _ openly).0
-
-same_open : (a b : HostBook) → b.commands ≡ a.commands → b.outcome ≡ a.outcome → open_session b ≡ open_session a
-same_open a b commands outcome = ap (λ (o : Option ℕ). open_session (record b { outcome = o })) outcome ∙ ap (λ (cs : List ℕ). open_session (record a { commands = cs })) commands
 
 at_from : (session : ℕ) (old : NodeState) (new : NodeState) → new.book.commands ≡ old.book.commands → new.book.outcome ≡ old.book.outcome → open_session old.book ≡ Some session → begun_of old.book ≡ session
     → (open_session new.book ≡ Some session) × (begun_of new.book ≡ session)

@@ -32,9 +32,9 @@ use Rattle.proof_answered.specs.proof_calm.proof_work.proof_walk.Walk.{Walk, Wal
 use Rattle.proof_answered.proofs.proof_traffic_Parts.{Airs}
 use Rattle.proof_answered.specs.proof_calm.Awaited.{Awaits, AwaitsAt}
 use Rattle.proof_answered.specs.proof_calm.Calls.{answer_taken}
-use Rattle.proof_answered.specs.proof_calm.Resting.{LineAt, LineRests}
+use Rattle.proof_answered.specs.proof_calm.Resting.{LineAt}
 use Rattle.proof_answered.specs.proof_calm.Routed.{IsRouted}
-use Rattle.proof_answered.specs.proof_calm.Tied.{Answers, At_chip, Brings, Called, Informs, IsOnWay, IsOf, IsPeopled, LeavesIt, LeaveIt, Nowhere, On_way, RoomAt, Tied, TieAt, TieOf, ends_of, on_line, unheard, unheard_by}
+use Rattle.proof_answered.specs.proof_calm.Tied.{Answers, At_chip, Brings, Called, Informs, IsOnWay, IsOf, IsPeopled, LeavesIt, LeaveIt, Nowhere, On_way, RoomAt, Tied, TieAt, TieOf, ends_of, on_line, unheard}
 use Rattle.proof_answered.specs.proof_calm.Networks.{Members, members}
 use Rattle.proof_answered.proofs.Links.{event_members}
 use Rattle.proof_answered.proofs.Peopled.{covers_of}
@@ -45,6 +45,8 @@ use Rattle.proof_answered.specs.Workers.{IsWorkedFor, KnowStaff, KnowsWorkers}
 use Rattle.proof_answered.proofs.Outwards.{marked_within}
 use Rattle.proof_answered.proofs.Staffing.{sent_on}
 use Rattle.proof_answered.proofs.Walking.{none_given}
+use Rattle.proof_answered.proofs.Speaking.{either_mark}
+use Rattle.proof_answered.proofs.Tying.{rests_unheard}
 use Rattle.proof_in_time.specs.Coming.{AllWaitFor, AreInAir, AreWaiting, AsksFor, Asked, At_work, Coming, Flies, GoWhole, Has, IsAsking, IsBusy, IsKept, IsKeptFor, KnowPlainly, KnowWaits, Sent, Told, WaitsFor, brings, has_ticked, one_later, ticks_left}
 use Rattle.proof_in_time.specs.InStep.{IsPlainly}
 use Rattle.proof_in_time.proofs.Aired.{request_airs}
@@ -99,9 +101,6 @@ sooner place frames less = ap (λ (b : Bool). if b then 0 else 1) (let so : nat_
 never_sooner : (place : ℕ) → ◌≡◌ {A = ℕ} (if nat_lt place 0 then 0 else 1) 1
 never_sooner place = ap (λ (b : Bool). if b then 0 else 1) (let so : nat_lt place 0 ≡ false = grind (arith, nat_tests) in so)
 
-rests_none : (m : Machine) → LineRests m → unheard m.outside.outer ≡ []
-rests_none m line = ap (λ (bs : List ℕ). unheard_by bs m.outside.outer.chip.state.port) line.at_chip.down_bytes ∙ line.at_chip.waiting
-
 to_tick : (x was left : ℕ) → x ≡ 0 → 0 + 0 + was ≤ left → 0 + x + was ≤ left
 to_tick x was left none few = omega (arith, none, few)
 
@@ -112,9 +111,6 @@ last_ticked x one = omega (arith, one)
 abbrev pub KeepsAll : Event → Type 0
 KeepsAll (Host_takes count rest items events) = AllByRecursion IsKept events
 KeepsAll event = Unit {0}
-
-keeps_is : (event is : Event) → event ≡ is → KeepsAll event → KeepsAll is
-keeps_is event is same keeps = subst KeepsAll same keeps
 
 pub keeps : (m : Machine) (event : Event) → list_any is_keeper_fault (entries m event) ≡ false → KeepsAll event
 keeps m (Host_takes count rest items events) none = judged_kept m count rest items events none
@@ -147,15 +143,6 @@ module _ (airs : Airs) (these : List Bool) (many : length these ≡ 233) (laws :
   as_is : (few : ℕ) (next to : Phase) (m : Machine) (event is : Event) → event ≡ is → next ≡ to → Leads few to m is → Leads few next m event
   as_is few next to m event is event_is next_is leads = subst (λ (e : Event). Leads few next m e) (sym event_is) (subst (λ (q : Phase). Leads few q m is) (sym next_is) leads)
 
-  may_is : (m : Machine) (event is : Event) → event ≡ is → May m event → May m is
-  may_is m event is same may = subst (May m) same may
-
-  plain_is : (m : Machine) (event is : Event) → event ≡ is → IsPlainly these m event → IsPlainly these m is
-  plain_is m event is same plainly = subst (IsPlainly these m) same plainly
-
-  sent_is : (m : Machine) (event is : Event) → event ≡ is → IsSentTo these m event → IsSentTo these m is
-  sent_is m event is same sent = subst (IsSentTo these m) same sent
-
   pub event_waits : (here next : Phase) (m : Machine) (event : Event) → Goes here m event next → May m event → IsPlainly these m event → KeepsAll event → GoWhole these m.host.state.commands → LineAt here m → AwaitsAt here m → RoomAt here m → IsRouted m.outside.outer → TieAt here m → IsPeopled these m
       → AllListen these m → IsSentTo these m event → AreInAir these m → WaitsFor n most here m → Leads (most_then most here) next m event
   event_waits (Said_line line) next m event (is, to) may plainly keeps go line_at awaits room routed tie peopled listen sent joined w = as_is most next (Begun line) m event _ is to (λ later. inl (line_waits airs these many laws n most marked node line m w))
@@ -165,7 +152,7 @@ module _ (airs : Airs) (these : List Bool) (many : length these ≡ 233) (laws :
   event_waits (Arriving (suc frames) ticks) next m event (drawn, route, is, to) may plainly keeps go line_at awaits room routed tie peopled listen sent joined w =
       as_is most next (Arriving frames ticks) m event _ is to
       (λ later.
-      inl (arrives_wait airs these many laws n most marked node frames ticks m drawn route (may_is m event _ is may) (plainly n marked).step (joined n marked) (peopled.facts.nodes.facts n) awaits.awaits listen peopled.live line_at later
+      inl (arrives_wait airs these many laws n most marked node frames ticks m drawn route (subst (May m) is may) (plainly n marked).step (joined n marked) (peopled.facts.nodes.facts n) awaits.awaits listen peopled.live line_at later
       (omega (arith, room)) w))
   event_waits (Giving (suc results) ticks) next m event (route, is, to) may plainly keeps go line_at awaits room routed tie peopled listen sent joined w = absurd (none_given m results routed awaits.many)
   event_waits (Ticking_devices place (suc count) ticks) next m event (drawn, route, is, to) may plainly keeps go line_at awaits room routed tie peopled listen sent joined w =
@@ -183,19 +170,19 @@ module _ (airs : Airs) (these : List Bool) (many : length these ≡ 233) (laws :
   event_waits (Submitting passes ticks) next m event (asked, next_is, is, to) may plainly keeps go line_at awaits room routed tie peopled listen sent joined w =
       as_is most next (Submitting passes ticks) m event _ is to
       (λ later.
-      submits_wait airs these many n most marked node below passes ticks m asked next_is (may_is m event _ is may) (plain_start these m asked (may_is m event (Host_does asked) is may) peopled.facts go) peopled.facts.nodes.places
+      submits_wait airs these many n most marked node below passes ticks m asked next_is (subst (May m) is may) (plain_start these m asked (subst (May m) is may) peopled.facts go) peopled.facts.nodes.places
       (peopled.facts.nodes.facts n) w)
   event_waits (Moving passes ticks) next m event (rest, ways, is, to) may plainly keeps go line_at awaits room routed tie peopled listen sent joined w =
       let takes : Event = Outside_does (Chip_takes (length m.outside.outer.to_chip.bytes) rest ways) in
       as_is most next (Moved true passes ticks) m event _ is to
       (λ later.
-      inl (takes_wait airs these many n most marked node below passes ticks m rest ways awaits (may_is m event takes is may) line_at room tie later (sent_is m event takes is sent)
-      (λ asks. request_airs airs m awaits n (session_of n m) below asks these marked passes rest ways (may_is m event takes is may) line_at room tie peopled) w))
+      inl (takes_wait airs these many n most marked node below passes ticks m rest ways awaits (subst (May m) is may) line_at room tie later (subst (IsSentTo these m) is sent)
+      (λ asks. request_airs airs m awaits n (session_of n m) below asks these marked passes rest ways (subst (May m) is may) line_at room tie peopled) w))
   event_waits (Moved b passes ticks) next m event (rest, items, done, is, to) may plainly keeps go line_at awaits room routed tie peopled listen sent joined w =
       let takes : Event = Host_takes (length m.outside.outer.to_host.bytes) rest items done in
       as_is most next (Sleeping passes ticks) m event _ is to
       (λ later.
-      inl (judges_wait airs these many n most marked node below b passes ticks m rest items done (may_is m event takes is may) line_at tie (keeps_is event takes is keeps) peopled.facts.nodes.places (peopled.facts.nodes.facts n) w))
+      inl (judges_wait airs these many n most marked node below b passes ticks m rest items done (subst (May m) is may) line_at tie (subst KeepsAll is keeps) peopled.facts.nodes.places (peopled.facts.nodes.facts n) w))
   event_waits here next m event goes may plainly keeps go line_at awaits room routed tie peopled listen sent joined w = absurd goes
 
   -- ---- and with no event
@@ -222,7 +209,7 @@ module _ (airs : Airs) (these : List Bool) (many : length these ≡ 233) (laws :
       goes left (Sent at few) = Sent at (omega (arith, few))
       goes left (Flies at few) = Flies at (omega (arith, few))
       goes left (At_work at few) = At_work at (omega (arith, few))
-      goes left (Told payload tells has few) = absurd (subst (Has (brings n payload)) (rests_none m rests) has)
+      goes left (Told payload tells has few) = absurd (subst (Has (brings n payload)) (rests_unheard m rests) has)
   pumped_waits (suc passes) ticks m rests w =
       turn_waits n most (Submitting (suc passes) ticks) (Moving passes ticks) (omega arith) m
       (λ left comes.
@@ -291,13 +278,6 @@ module _ (airs : Airs) (these : List Bool) (many : length these ≡ 233) (laws :
 
 -- ---- the walk
 
-marked_or : (these : List Bool) (n : ℕ) → (is_marked these n ≡ true) ⊎ (is_marked these n ≡ false)
-marked_or these n = by (is_marked these n) refl
-  where
-    by : (b : Bool) → is_marked these n ≡ b → (is_marked these n ≡ true) ⊎ (is_marked these n ≡ false)
-    by true is = inl is
-    by false is = inr is
-
 node_in_time : (these : List Bool) (here : Phase) (m : Machine) (n : ℕ) → NodeFacts (node_of m.host.state n) → AllWaitFor these here m → KnowsWorkers these m.host.state → (is_marked these n ≡ true) ⊎ (is_marked these n ≡ false) → (node_of m.host.state n).attempt_wait ≢ 1
 node_in_time these here m n facts all knows (inl marked) = lasts_of n 6 here m facts (all n marked)
 node_in_time these here m n facts all knows (inr other) = idle_lasts (node_of m.host.state n) facts (knows.others n other).idle
@@ -307,7 +287,7 @@ in_time these here past m (Host_does (Node_ticks n)) is known =
     let stretched = is.worked.stretched in
     let at = known.0 is.worked in
     let tied = (at.0.0 stretched).0.0.tied stretched.quiet in
-    node_in_time these here m n (tied.7.facts.nodes.facts n) (known.1 is).waits (at.0.1 stretched) (marked_or these n)
+    node_in_time these here m n (tied.7.facts.nodes.facts n) (known.1 is).waits (at.0.1 stretched) (either_mark these n)
 in_time these here past m (Host_does event) is known = tt
 in_time these here past m event is known = tt
 

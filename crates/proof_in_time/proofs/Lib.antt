@@ -12,7 +12,7 @@ mod Settled
 mod Aired
 pub mod Commands
 mod GoingWhole
-pub mod PlainKinds
+mod PlainKinds
 mod Keeping
 mod Lasting
 pub mod Spoken
@@ -34,6 +34,7 @@ pub mod JudgedOutcomes
 mod HandFree
 mod BegunInside
 pub use Rattle.proof_host.proofs.Over
+pub use Rattle.proof_course_plain.proofs.AsMade
 pub use Rattle.proof_answered.proofs.Living
 pub use Rattle.proof_answered.proofs.Unmarked
 pub use Rattle.proof_spoken.proofs.HostRuns

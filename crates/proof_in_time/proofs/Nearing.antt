@@ -124,38 +124,38 @@ module _ (facts_kept : (h : HostState) (event : HostEvent) → HostFacts h → M
   on_kept : (h : HostState) (event : HostEvent) → LastsAt h event → MayHost h event → On h → On (after h event)
   on_kept h event lasts may on = record {
     facts = facts_kept h event on.facts may;
-    hand = later_hand_as command D1 R o.Held (D (after h event)) R o.Held o.Rests_so o.Rests_so (node_of (after h event) n) due (λ more so r. r) (λ more blocked v. v) (λ more wait idle again w. w) later.hand;
+    hand = later_hand_as command DueSo R o.Held (D (after h event)) R o.Held o.Rests_so o.Rests_so (node_of (after h event) n) due (λ more so r. r) (λ more blocked v. v) (λ more wait idle again w. w) later.hand;
   }
     where
-      D1 : ℕ → Type 0
-      D1 more = (HasTurn (node_of h n) × o.Turns_up more × (turn_of these h.served n ≤ turn)) ⊎ o.Left more
+      DueSo : ℕ → Type 0
+      DueSo more = (HasTurn (node_of h n) × o.Turns_up more × (turn_of these h.served n ≤ turn)) ⊎ o.Left more
 
-      starts : (more : ℕ) → D1 more → R more
+      starts : (more : ℕ) → DueSo more → R more
       starts more (inl (has, a, few)) = inl (inr a)
       starts more (inr left) = inr left
 
-      less : (more : ℕ) → D1 (suc more) → D1 more
+      less : (more : ℕ) → DueSo (suc more) → DueSo more
       less more (inl (has, a, few)) = inr (o.turn_left more a)
       less more (inr left) = inr (o.left_left more left)
 
-      over : (more : ℕ) → R (suc more) → D1 more
+      over : (more : ℕ) → R (suc more) → DueSo more
       over more (inl (inl ran)) = inr (o.ran_left more ran)
       over more (inl (inr a)) = inr (o.turn_left more a)
       over more (inr left) = inr (o.left_left more left)
 
-      as_turn : (more : ℕ) → HasTurn (node_of h n) → D h more → D1 more
+      as_turn : (more : ℕ) → HasTurn (node_of h n) → D h more → DueSo more
       as_turn more has (inl (a, few)) = inl (has, a, few)
       as_turn more has (inr left) = inr left
 
-      laws : KeptLaws (EndsLater command D1 R o.Held o.Rests_so)
+      laws : KeptLaws (EndsLater command DueSo R o.Held o.Rests_so)
       laws =
-          later_kept command D1 R o.Held starts less over o.fewer (λ more v. inr (o.held_left more v)) o.Rests_so o.rests_fall (λ more wait w. inr (o.rests_left more wait w)) (λ more wait w. inr (o.left_left more (o.rests_left more wait w)))
+          later_kept command DueSo R o.Held starts less over o.fewer (λ more v. inr (o.held_left more v)) o.Rests_so o.rests_fall (λ more wait w. inr (o.rests_left more wait w)) (λ more wait w. inr (o.left_left more (o.rests_left more wait w)))
           o.rests_held
 
-      later : HandAt (EndsLater command D1 R o.Held o.Rests_so) laws n (after h event).nodes
+      later : HandAt (EndsLater command DueSo R o.Held o.Rests_so) laws n (after h event).nodes
       later =
-          event_hand (EndsLater command D1 R o.Held o.Rests_so) laws n within h event lasts may
-          (record { places = on.facts.nodes.places; hand = later_hand_as command (D h) R o.Held D1 R o.Held o.Rests_so o.Rests_so (node_of h n) as_turn (λ more so r. r) (λ more blocked v. v) (λ more wait idle again w. w) on.hand })
+          event_hand (EndsLater command DueSo R o.Held o.Rests_so) laws n within h event lasts may
+          (record { places = on.facts.nodes.places; hand = later_hand_as command (D h) R o.Held DueSo R o.Held o.Rests_so o.Rests_so (node_of h n) as_turn (λ more so r. r) (λ more blocked v. v) (λ more wait idle again w. w) on.hand })
 
       turned : HasTurn (node_of h n) → (node_of (after h event) n).series ≢ series.Running → turn_of these h.served n ≤ turn → ((after h event).served ≡ h.served) ⊎ ServesNext h event → turn_of these (after h event).served n ≤ turn
       turned has then_rests few (inl same) = subst (λ (s : ℕ). turn_of these s n ≤ turn) (sym same) few
@@ -167,8 +167,8 @@ module _ (facts_kept : (h : HostState) (event : HostEvent) → HostFacts h → M
               let passed = comes_no_later these h.nodes h.served next.node n has.1 some (omega (arith, within)) (λ e. other (sym e)) next.is_next in
               subst (λ (s : ℕ). turn_of these s n ≤ turn) (sym next.served) (omega (arith, passed, few))
 
-      due : (more : ℕ) → HasTurn (node_of (after h event) n) → D1 more → D (after h event) more
-      due more then_has (inl (has, a, few)) = inl (a, turned has then_has.0 few (served_now h event lasts may))
+      due : (more : ℕ) → HasTurn (node_of (after h event) n) → DueSo more → D (after h event) more
+      due more then_has (inl (has, a, few)) = inl (a, turned has then_has.0 few (served_now h event may))
       due more then_has (inr left) = inr left
 
 -- ---- from phase to phase

@@ -2,35 +2,26 @@
 use Rattle.std.proofs.Common.{◌≡◌, ℕ, Bool, true, false, List, [], ◌∷◌, length, suc, refl, sym, ap, ◌∙◌, subst}
 use Rattle.std.specs.Prelude.{Option, Some, None}
 use Rattle.std.specs.List.{AllByRecursion}
-use Rattle.serial_link.specs.State.{turn_ticked}
+use Rattle.serial_link.specs.State.{Side, turn_ticked}
 use Rattle.chip_sim.specs.Nodes.{is_marked}
 use Rattle.host_requests.specs.Events.{RequestsEvent, end_at, task_begun}
 use Rattle.host_requests.specs.Events.RequestsEvent.{Pushes, PushesInterview, PushesProbe, BeginsAbort, BeginsPrefix, BeginsAttempt, IsSent, Fails, Responds, CallsBack, Updates, Ticks, Forgets}
 use Rattle.host_requests.specs.Next.{next_from}
 use Rattle.host_requests.specs.State.{RequestsState}
-use Rattle.host_requests.specs.declared.end.End.{End}
-use Rattle.host_requests.specs.declared.end.How.{How}
 use Rattle.host_requests.specs.declared.end.How.TheVariants.{LinkFailed}
 use Rattle.host_requests.specs.declared.next.Next.{Next}
 use Rattle.host_requests.specs.declared.next.Next.TheVariants as next
-use Rattle.host_requests.specs.declared.task.Purpose.{Purpose}
-use Rattle.host_requests.specs.declared.task.Purpose.TheVariants.{Housekeeping, Attempt, Abort}
 use Rattle.host_requests.specs.declared.task.Task.{Task}
-use Rattle.host_requests.specs.declared.task.Task.TheVariants.{NoMore}
 use Rattle.host_requests.specs.declared.under_way.UnderWay.{UnderWay}
 use Rattle.host_node.specs.Events.NodeEvent.{Ticks as node_ticks}
 use Rattle.host_node.specs.Search.{first_wanting}
 use Rattle.host_node.specs.State.{NodeState, wants_no_more}
-use Rattle.host_node.specs.Steps.{after_attempt_end, attempt_end, tick_end}
-use Rattle.host_node.specs.declared.attempt.AttemptEnd.{AttemptEnd}
-use Rattle.host_node.specs.declared.attempt.AttemptEnd.TheVariants.{NoneRan, Again, Unanswered}
-use Rattle.host_node.specs.declared.attempt.Moment.{Moment}
-use Rattle.host_model.specs.After.{after, failing_if, finishing, gives_up, holding, is_held, line_ticked, node_does, requests_do}
+use Rattle.host_node.specs.Steps.{tick_end}
+use Rattle.host_model.specs.After.{after, failing_if, finishing, gives_up, is_held, line_ticked, node_does, requests_do}
 use Rattle.host_model.specs.Did.{after_all}
-use Rattle.host_model.specs.Ends.{attempt_ended, PartEnd, Good, Passed_over, Bad, after_end, after_end_if, after_part, after_task, part_end}
 use Rattle.host_model.specs.Events.{HostEvent, Accepts, Queues, Queues_interview, Queues_probe, Requests_do, Interviews, Interview_unkept, Finishes, Offers, Gives, Resends, Line_ticks, Node_ticks, Queues_no_more, Submits_front}
 use Rattle.host_model.specs.Sessions.{open_command}
-use Rattle.host_model.specs.State.{HostState, node_of, with_node}
+use Rattle.host_model.specs.State.{HostState, node_of}
 use Rattle.host_node.proofs.Searches.{what_is_least}
 use Rattle.host_node.specs.TableState.{node_of as node_among}
 use Rattle.host_model.proofs.Submitted.{SubmittedAre, next_is}
@@ -46,6 +37,7 @@ use Rattle.proof_answered.specs.proof_calm.proof_work.proof_walk.Phases.{Phase, 
 use Rattle.proof_answered.specs.Workers.{KnowsWorkers}
 use Rattle.proof_messages.specs.Reporting.{TellsPlainly}
 use Rattle.proof_answered.specs.Workers.{IsFromSaying}
+use Rattle.proof_answered.proofs.Following.{attempt_asks, end_if_asks, held_asks}
 use Rattle.proof_answered.proofs.Peopled.{takes_are}
 use Rattle.proof_answered.proofs.Staffing.{still_wants}
 use Rattle.proof_answered.proofs.proof_traffic_Parts.{Airs}
@@ -81,51 +73,27 @@ request_queue h (Updates update) none empty = next_queue h.requests _ h.requests
 request_queue h Ticks none empty = next_queue h.requests _ h.requests.under_way ∙ empty
 request_queue h Forgets none empty = refl
 
-ended_queue : (h : HostState) (end : AttemptEnd) (command : Option ℕ) → queue_of (attempt_ended h end command) ≡ queue_of h
-ended_queue h NoneRan command = refl
-ended_queue h Again command = refl
-ended_queue h (Unanswered fell) None = refl
-ended_queue h (Unanswered fell) (Some command) = refl
-
-part_queue : (h : HostState) (n : ℕ) (end : PartEnd) (moment : Moment) → queue_of (after_part h n end moment) ≡ queue_of h
-part_queue h n Good moment = refl
-part_queue h n Passed_over moment = refl
-part_queue h n Bad moment = ended_queue (with_node h n (after_attempt_end (node_of h n) moment)) (attempt_end (node_of h n)) (open_command (node_of h n))
-
-task_queue : (h : HostState) (task : Task) → queue_of (after_task h task) ≡ queue_of h
-task_queue h (NoMore n) = refl
-task_queue h task = refl
-
-end_queue : (h : HostState) (purpose : Purpose) (how : How) (moment : Moment) → queue_of (after_end h (record { purpose = purpose; how = how }) moment) ≡ queue_of h
-end_queue h (Attempt n more payload) how moment = part_queue h n (part_end more how) moment
-end_queue h (Housekeeping task) how moment = task_queue h task
-end_queue h Abort how moment = refl
-
-end_if_queue : (h : HostState) (end : Option End) (moment : Moment) → queue_of (after_end_if h end moment) ≡ queue_of h
-end_if_queue h None moment = refl
-end_if_queue h (Some end) moment = end_queue h end.purpose end.how moment
-
-holding_queue : (h : HostState) (n : ℕ) (held : Bool) → queue_of (holding h n held) ≡ queue_of h
-holding_queue h n true = refl
-holding_queue h n false = refl
+-- the requests that wait, of what the end of a request leaves
+abbrev queue_by : Side × RequestsState → List Task
+queue_by p = p.1.queue
 
 failing_queue : (b : Bool) (h : HostState) → queue_of h ≡ [] → queue_of (failing_if b h) ≡ []
-failing_queue true h empty = end_if_queue (requests_do h Fails) (end_at h.requests Fails) BeforeItsTick ∙ request_queue h Fails tt empty
+failing_queue true h empty = ap queue_by (end_if_asks (requests_do h Fails) (end_at h.requests Fails) BeforeItsTick) ∙ request_queue h Fails tt empty
 failing_queue false h empty = empty
 
 pub event_queue : (h : HostState) (event : HostEvent) → QueuesNone event → queue_of h ≡ [] → queue_of (after h event) ≡ []
 event_queue h (Queues task) none empty = absurd none
 event_queue h (Queues_interview n) none empty = absurd none
 event_queue h Queues_probe none empty = absurd none
-event_queue h (Requests_do event moment) none empty = end_if_queue (requests_do h event) (end_at h.requests event) moment ∙ request_queue h event none empty
+event_queue h (Requests_do event moment) none empty = ap queue_by (end_if_asks (requests_do h event) (end_at h.requests event) moment) ∙ request_queue h event none empty
 event_queue h (Interviews n listens classes update) none empty = request_queue h (Updates update) tt empty
 event_queue h (Interview_unkept n update) none empty = request_queue h (Updates update) tt empty
-event_queue h (Finishes n session id command status wake) none empty = holding_queue (finishing h n id command status) n (is_held h n wake) ∙ empty
+event_queue h (Finishes n session id command status wake) none empty = ap queue_by (held_asks (finishing h n id command status) n (is_held h n wake)) ∙ empty
 event_queue h (Offers n) none empty = absurd none
 event_queue h (Gives n drawn) none empty = absurd none
 event_queue h (Resends n payload) none empty = absurd none
 event_queue h Line_ticks none empty = failing_queue (gives_up h.side.turn (turn_ticked h.side.turn)) (line_ticked h) empty
-event_queue h (Node_ticks n) none empty = ended_queue (node_does h n node_ticks) (tick_end (node_of h n)) (open_command (node_of h n)) ∙ empty
+event_queue h (Node_ticks n) none empty = ap queue_by (attempt_asks (node_does h n node_ticks) (tick_end (node_of h n)) (open_command (node_of h n))) ∙ empty
 event_queue h (Queues_no_more n) none empty = absurd none
 event_queue h Submits_front none empty = request_queue h BeginsPrefix tt empty
 event_queue h event none empty = empty

@@ -20,7 +20,6 @@ use Rattle.outside_model.specs.State.{OuterState, Outside}
 use Rattle.world_model.specs.Events.{Event, Outside_does, Host_does, Host_takes, Decoder_ticks, Refuses, Shows_values, Restarts, happens, notes, shown_values}
 use Rattle.world_model.specs.State.{Machine, begun_in, host_does, noted_by, routed, routed_one}
 use Rattle.proof_spoken.proofs.Keeping.{served_same}
-use Rattle.proof_answered.proofs.AttemptEnds.{LastsAt}
 use Rattle.proof_in_time.specs.InHand.{ticks_begun}
 use Rattle.proof_answered.proofs.Times.{IsWithin, outcome_time}
 
@@ -40,11 +39,11 @@ pub record ServesNext (h : HostState) (event : HostEvent) : Type 0 where
   pub served : (after h event).served ≡ node
   pub part : IsPartOf event node
 
-pub served_now : (h : HostState) (event : HostEvent) → LastsAt h event → May h event → ((after h event).served ≡ h.served) ⊎ ServesNext h event
-served_now h (Starts n plan more payload) lasts may = inr (record { node = n; is_next = may.0.next; served = refl; part = refl })
-served_now h (Gives_text n payload) lasts may = inr (record { node = n; is_next = may.0.next; served = refl; part = refl })
-served_now h (Gives_segment n more payload) lasts may = inr (record { node = n; is_next = may.0.next; served = refl; part = refl })
-served_now h event lasts may = inl (served_same h event tt)
+pub served_now : (h : HostState) (event : HostEvent) → May h event → ((after h event).served ≡ h.served) ⊎ ServesNext h event
+served_now h (Starts n plan more payload) may = inr (record { node = n; is_next = may.0.next; served = refl; part = refl })
+served_now h (Gives_text n payload) may = inr (record { node = n; is_next = may.0.next; served = refl; part = refl })
+served_now h (Gives_segment n more payload) may = inr (record { node = n; is_next = may.0.next; served = refl; part = refl })
+served_now h event may = inl (served_same h event tt)
 
 -- ---- how many ticks have begun
 

@@ -7,7 +7,6 @@ use Rattle.world_model.specs.State.{first_machine}
 use Rattle.world_lines.specs.Spoken.{Spoken, after_all, transcript_of}
 use Rattle.world_lines.specs.Done.{AreDone, events_of}
 use Rattle.world_lines.specs.Whole.{AreWhole}
-use Rattle.proof_answered.specs.Few.{AreIdle}
 use Rattle.proof_in_time.specs.Coming.{IsKeptFor, IsReadyFor}
 use Rattle.proof_in_time.specs.InHand.{AllServe}
 use Rattle.proof_in_time.specs.InStep.{ArePlainOver}
@@ -19,7 +18,6 @@ use Rattle.proof_in_time.specs.Plainly.{SpeakPlainly}
 pub record IsStretchFor (these : List Bool) (keys : Keys) (devices : List State) (before lines : List Spoken) : Type 0 where
   pub many : length these ≡ 233
   pub none : is_marked these 0 ≡ false
-  pub idle : AreIdle devices
   pub plain : ArePlainOver these devices (events_of (before ++ lines))
   pub done : AreDone (first_machine keys (Some []) devices) (before ++ lines)
   pub whole : AreWhole (first_machine keys (Some []) devices) (before ++ lines)

@@ -1,4 +1,4 @@
-//! That no attempt of a node that listens is given up over a stretch of quiet lines and ticks, and each command is over in time.
+//! That no attempt of a node that listens is given up over a stretch of quiet lines and ticks, and each command is over in time, with the outcome that is due.
 //!
 //! It promises what devices and host make of the messages and the reports of sessions: a device that takes what is not sealed answers the message of the next
 //! session, or of the last, with one report, and ends its work in five ticks (`messages_are_answered`); and the host ends a session at a final report of it,

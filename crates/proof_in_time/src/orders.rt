@@ -37,8 +37,8 @@ pub fn orders_go_whole()
     the_machine_keeps_facts();
 }
 
-/// So nodes whose devices are of kinds that take commands in sessions, not sealed, whole, and have no levels are what `nodes_stay_in_step` asks of nodes, over
-/// any lines, where all devices are as their makers left them. These are at no work.
+/// So nodes whose devices are of kinds that take commands in sessions, not sealed, whole, are what `nodes_stay_in_step` asks of nodes, over any lines, where all
+/// devices are as their makers left them. These are at no work.
 pub fn nodes_are_plain_by_kind()
     ensures plain { (these : List Bool) (key : List ℕ) (keys : Keys) (devices : List State) (lines : List Spoken) →
         AllByRecursion (IsAsMade key) devices → ArePlainByKind these devices → AreDone (first_machine keys (Some []) devices) lines →

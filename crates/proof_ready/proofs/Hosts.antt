@@ -1,5 +1,5 @@
 -- What a host alone at rest has told by its transcript is so of it.
-use Rattle.std.proofs.Common.{◌≡◌, ℕ, ◌≤◌, not, Bool, true, false, List, [], refl, sym, ap, ◌∙◌, subst, arith}
+use Rattle.std.proofs.Common.{◌≡◌, ℕ, ◌≤◌, not, true, false, List, [], refl, sym, ap, ◌∙◌, subst, arith}
 use Rattle.std.specs.Prelude.{Some}
 use Rattle.s0_crypto.specs.declared.key_pair.Keys.{Keys}
 use Rattle.zw_text.specs.declared.entry.Entry.{Entry}
@@ -25,6 +25,7 @@ use Rattle.proof_rests.specs.proof_attempts.Waking.{KnowsWork}
 use Rattle.proof_rests.specs.proof_requests.Asking.{TieAsked, doing_of}
 use Rattle.proof_rests.proofs.Freeing.{frees}
 use Rattle.proof_ready.specs.Ease.{HostIsDone, NodeIsAsTold, clock_of}
+use Rattle.proof_ready.proofs.Reading.{not_so}
 
 abbrev TellsSleep : Type 0
 TellsSleep = (keys : Keys) → AlongRuns keys KnowsSleep
@@ -38,10 +39,6 @@ idle_is : (s : Series) → not (is_idle s) ≡ false → s ≡ Idle
 idle_is Idle none = refl
 idle_is Due none = absurd (let bad : true ≡ false = none in cc)
 idle_is Running none = absurd (let bad : true ≡ false = none in cc)
-
-none_runs : (b : Bool) → not b ≡ true → b ≡ false
-none_runs true none = absurd (let bad : false ≡ true = none in cc)
-none_runs false none = refl
 
 module _ (keys : Keys) (past : List Entry) (h : HostMachine) (run : Run (first_alone keys (Some [])) Resting past h) (none_left : h.left ≡ 0) (tells : TellsSleep) where
   knows : KnowsSleep Resting past h
@@ -70,7 +67,7 @@ module _ (keys : Keys) (past : List Entry) (h : HostMachine) (run : Run (first_a
   pub series_idle : TellsSeries → (n : ℕ) → 1 ≤ n → n ≤ 232 → is_idle_told past (clock_of past) n ≡ true → (node_of h.state n).series ≡ Idle
   series_idle series n from to idle =
       idle_is (node_of h.state n).series
-      (sym (series keys past h run n from to) ∙ ap (λ (t : ℕ). runs n past t) (sym clock_is) ∙ none_runs (runs n past (clock_of past)) idle)
+      (sym (series keys past h run n from to) ∙ ap (λ (t : ℕ). runs n past t) (sym clock_is) ∙ not_so (runs n past (clock_of past)) idle)
 
   pub series_again : ((keys : Keys) → AlongRuns keys (KnowsSince RunsAsTold)) → (n : ℕ) → 1 ≤ n → n ≤ 232 → wait_end (clock_of past) (node_of h.state n).again_wait ≡ (with_time n past (clock_of past) (series_from n [] no_series past)).again
   series_again along n from to =

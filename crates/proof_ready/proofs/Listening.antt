@@ -23,14 +23,14 @@ use Rattle.proof_chip.specs.proof_line.proof_traffic.OutsideTraffic.{AreNodes}
 use Rattle.proof_in_time.specs.proof_answered.proof_calm.proof_waking.proof_walk.Phases.{Between}
 use Rattle.proof_in_time.specs.Coming.{ListOpenly, WaitsFor, is_layered}
 use Rattle.proof_in_time.specs.InStep.{IsPlainByKind}
-use Rattle.proof_in_time.proofs.PlainKinds.{stands_at}
+use Rattle.proof_in_time.proofs.AsMade.{finds}
 use Rattle.proof_ready.specs.Ready.{AreKnown, AreUp, IsKnown}
 
 -- ---- its device
 
 pub listener_at : (n : ℕ) (devices : List State) → AreUp devices → (device : State) → device_of n devices ≡ Some device → kind_listens device.kind ≡ true → HasListener n devices
 listener_at n devices up device is is_listening =
-    let at = stands_at n devices device is in
+    let at = finds n devices device is in
     record {
       place = at.place;
       device = device;

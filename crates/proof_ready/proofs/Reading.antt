@@ -4,12 +4,12 @@ use Rattle.std.proofs.lemmas.Bool.{and_parts, cases_lt, eqb-true, false≢true}
 use Rattle.std.specs.Prelude.{Option, Some, None, bytes_eq, filter}
 use Rattle.std.specs.List.{AllByRecursion, flat_map, list_all, list_any}
 use Rattle.chip_sim.specs.Nodes.{is_marked}
-use Rattle.device_kinds.specs.Kind.{classes_of, listens as kind_listens}
+use Rattle.device_kinds.specs.Kind.{listens as kind_listens}
 use Rattle.zw_text.specs.declared.entry.Entry.{Entry}
 use Rattle.zw_text.specs.Transcript.{joined, lines_run, shown}
 use Rattle.law_wire.specs.law_transcript.Commands.{classes_for, waiting}
 use Rattle.law_wire.specs.law_transcript.Lists.{Has}
-use Rattle.law_wire.specs.law_transcript.Nodes.{always, controller, device_of, first_node, is_interviewed, is_joined, known_at_first, known_classes, listed_by, listing_of}
+use Rattle.law_wire.specs.law_transcript.Nodes.{always, controller, device_of, first_node, is_interviewed, is_joined, known_at_first, known_classes, listing_of}
 use Rattle.law_wire.specs.Networks.{air_links, air_network, chip_links, chip_network, is_listener, listens_at, network_of, repeaters}
 use Rattle.law_wire.specs.Reach.{CanBeReached}
 use Rattle.law_wire.specs.Routes.{IsRouteTo}
@@ -22,8 +22,9 @@ use Rattle.law_time.specs.Questions.{same_bool}
 use Rattle.law_time.specs.Requests.{are_none}
 use Rattle.law_time.specs.Stretches.{accepted_for, are_listed, are_plain_listeners, commands_in, has_key, is_plain_listener, is_quiet, is_quiet_line, is_woken_so, knows_classes, knows_device, knows_node, open_commands, woken_by, workers}
 use Rattle.proof_rests.specs.proof_attempts.proof_host.device_sim.State.{State}
-use Rattle.proof_rests.specs.proof_attempts.proof_walk.proof_device.GoingOn.{AreSame, IsSame}
+use Rattle.proof_rests.specs.proof_attempts.proof_walk.proof_device.GoingOn.{AreSame}
 use Rattle.proof_in_time.specs.proof_answered.Workers.{IsAway}
+use Rattle.proof_in_time.proofs.JudgedOutcomes.{same_device, same_listing}
 use Rattle.proof_ready.specs.Ease.{clock_of}
 use Rattle.proof_ready.specs.Ready.{AreKnown, AreWorkers, HostIsStill, marks_of}
 use Rattle.proof_ready.proofs.Marks.{marked_is, unmarked_beyond}
@@ -121,21 +122,6 @@ not_joined these past n is apart = by (is_joined past n) refl
     by false unjoined = unjoined
 
 -- ---- devices that are the same
-
-same_device : {A : Type 0} (of : Option State → A) → ((old new : State) → IsSame old new → of (Some new) ≡ of (Some old)) → (n : ℕ) (olds news : List State) → AreSame olds news
-    → of (device_of n news) ≡ of (device_of n olds)
-same_device of kind n [] [] same = refl
-same_device of kind n [] (new ∷ news) same = absurd same
-same_device of kind n (old ∷ olds) [] same = absurd same
-same_device of kind n (old ∷ olds) (new ∷ news) same =
-    ap (λ (b : Bool). of (if b then Some new else device_of n news)) (ap (λ (k : ℕ). k == n) same.0.node) ∙ by (old.node == n) (same_device of kind n olds news same.1)
-  where
-    by : (b : Bool) → of (device_of n news) ≡ of (device_of n olds) → of (if b then Some new else device_of n news) ≡ of (if b then Some old else device_of n olds)
-    by true rest = kind old new same.0
-    by false rest = rest
-
-pub same_listing : (n : ℕ) (olds news : List State) → AreSame olds news → listing_of news n ≡ listing_of olds n
-same_listing n olds news same = same_device listed_by (λ old new is. ap classes_of is.kind) n olds news same
 
 listed_so : (past : List Entry) (n : ℕ) (olds news : List State) → listing_of news n ≡ listing_of olds n
     → are_listed news n (known_classes (always (listing_of news)) past n) ≡ are_listed olds n (known_classes (always (listing_of olds)) past n)

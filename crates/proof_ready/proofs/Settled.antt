@@ -1,5 +1,5 @@
 -- Since a line or tick began, by the events of the serial line, no more units of the host have arrived for the chip than stand since the last line, or the last tick of which there is an entry.
-use Rattle.std.proofs.Common.{◌≡◌, ◌⊎◌, ℕ, zero, suc, ◌+◌, ◌-◌, ◌≤◌, ◌<◌, max, Bool, true, false, if◌then◌else◌, inl, inr, List, [], ◌∷◌, ◌++◌, length, take, replicate, refl, sym, ap, ap₂, ◌∙◌, subst, append-nil, append_assoc, length-append, arith}
+use Rattle.std.proofs.Common.{◌≡◌, ◌⊎◌, ℕ, zero, suc, ◌+◌, ◌-◌, ◌≤◌, ◌<◌, max, Bool, true, false, if◌then◌else◌, inl, inr, List, [], ◌∷◌, ◌++◌, length, take, replicate, refl, sym, ap, ◌∙◌, subst, append-nil, append_assoc, length-append, arith}
 use Rattle.std.specs.Prelude.{Option, Some, None, Result, Ok, Err}
 use Rattle.std.specs.List.{AllByRecursion}
 use Rattle.zw_words.specs.declared.fault.LineFault.{LineFault}
@@ -22,7 +22,7 @@ use Rattle.law_wire.specs.Times.{MayBeTold, TellsTime}
 use Rattle.law_time.specs.Calm.{host_unit_at, since_begun}
 use Rattle.proof_chip.specs.proof_line.proof_walk.Outside.{HasNoWords}
 use Rattle.proof_chip.proofs.Alone.{all_wordless}
-use Rattle.proof_chip.proofs.Untimed.{IsUntimed, same_lines, same_time}
+use Rattle.proof_chip.proofs.Untimed.{IsUntimed, same_lines}
 use Rattle.proof_chip.proofs.Clock.{asked-append, last_of_more}
 use Rattle.proof_chip.proofs.ByLine.{last_is}
 use Rattle.proof_chip.specs.proof_line.Links.{tick_told, told_from}
@@ -34,6 +34,7 @@ use Rattle.proof_chip.specs.proof_world.world_lines.Spoken.{Spoken, after, trans
 use Rattle.proof_chip.specs.proof_world.world_lines.Done.{AreDone}
 use Rattle.proof_chip.proofs.LinkTime.{timed_serials}
 use Rattle.proof_chip.proofs.proof_line_Standing.{but_last}
+use Rattle.proof_chip.proofs.SentBefore.{same_clock}
 use Rattle.proof_ready.specs.Ease.{arrived_from}
 
 -- ---- each words that stand are those of a line
@@ -181,8 +182,7 @@ other_stands : (past following : List Entry) (e : Entry) (now due count new : �
 other_stands past following e now due count new untimed none most stands =
     record {
       asked = stands.asked ∙ sym (ap ticks_asked (same_lines past (e ∷ []) (untimed, tt)));
-      behind = subst (λ (n : ℕ). now ≤ n)
-          (sym (ap₂ (λ (a b : ℕ). max a b) (same_time past (e ∷ []) (untimed, tt)) (ap (λ (l : List Line). ticks_asked (take (length l - 1) l)) (same_lines past (e ∷ []) (untimed, tt))))) stands.behind;
+      behind = subst (λ (n : ℕ). now ≤ n) (sym (same_clock past (e ∷ []) (untimed, tt))) stands.behind;
       few = by stands.few;
     }
   where

@@ -1,6 +1,6 @@
 -- Of a node that is not joined the records keep nothing: no interview, no command and no session.
 use Rattle.std.proofs.Common.{◌≡◌, ◌⊎◌, ◌<◌, ◌≤◌, ℕ, zero, suc, ◌+◌, ◌&&◌, ◌==◌, Bool, true, false, not, List, [], ◌∷◌, length, refl, sym, ap, subst, ◌∙◌, inl, inr}
-use Rattle.std.proofs.lemmas.Bool.{cases_eq, cases_lt}
+use Rattle.std.proofs.lemmas.Bool.{cases_eq, cases_lt, and_parts}
 use Rattle.std.proofs.lemmas.List.{get_or-set_same, get_or-set_other, set_past}
 use Rattle.std.specs.Prelude.{Option, None, is_none, replicate, slice_set, slice_index_or}
 use Rattle.zw_base.specs.declared.order.Order.{Order}
@@ -24,16 +24,6 @@ IsSo s = s.joined ≡ false → IsUntold s
 
 abbrev AllSo : Kept → Type 0
 AllSo kept = (n : ℕ) → IsSo (node_of kept n)
-
-third : (a b c : Bool) → a && b && c ≡ true → c ≡ true
-third true true c all = all
-third true false c all = absurd (let bad : false ≡ true = all in cc)
-third false true c all = absurd (let bad : false ≡ true = all in cc)
-third false false c all = absurd (let bad : false ≡ true = all in cc)
-
-second : (a b : Bool) → a && b ≡ true → b ≡ true
-second true b all = all
-second false b all = absurd (let bad : false ≡ true = all in cc)
 
 -- ---- one record
 
@@ -62,13 +52,13 @@ none_first (oldest ∷ more) command none is = cc
 one_so : (kept : Kept) (one : Record) → is_legal kept one ≡ true → AllSo kept → AllSo (after kept one)
 one_so kept (Accepted command order) legal all =
     set_so kept.nodes order.node _ all
-    (λ apart. absurd (taken_joined (known_of (node_of kept order.node)) (properties_with kept order) order apart (second (command == length kept.commands + 1) _ legal)))
+    (λ apart. absurd (taken_joined (known_of (node_of kept order.node)) (properties_with kept order) order apart (and_parts (command == length kept.commands + 1) _ legal).1))
 one_so kept (Joined node) legal all = set_so kept.nodes node _ all (λ apart. absurd (let bad : true ≡ false = apart in cc))
 one_so kept (Classes node listens classes) legal all = set_so kept.nodes node _ all (λ apart. absurd (let bad : true ≡ false = sym legal ∙ apart in cc))
 one_so kept (Begun node session command) legal all =
     set_so kept.nodes node _ all
     (λ apart. absurd (none_first (node_of kept node).waiting command (all node apart).none_waits
-    (third (session == length (node_of kept node).sessions + 1) (not (is_open (node_of kept node).sessions)) (is_first (node_of kept node).waiting command) legal)))
+    (and_parts (session == length (node_of kept node).sessions + 1 && not (is_open (node_of kept node).sessions)) (is_first (node_of kept node).waiting command) legal).1))
 one_so kept (Final node session status) legal all =
     set_so kept.nodes node _ all
     (λ apart. let none = all node apart in record { unlisted = none.unlisted; none_waits = none.none_waits; none_begun = ap (λ (l : List Session). ending l status) none.none_begun })

@@ -31,19 +31,11 @@ use Rattle.proof_in_time.proofs.Endings.{is_accepted, numbers_grow}
 use Rattle.proof_ready.specs.LetIn.{IsLetIn, MayBeLetIn}
 use Rattle.proof_ready.specs.Ready.{AreWorkers, marks_of}
 use Rattle.proof_rests.specs.proof_attempts.proof_host.Laws.{number_for, numbers_for}
+use Rattle.proof_ready.proofs.Each.{any_that_has}
 use Rattle.proof_ready.proofs.Marks.{marked_is}
 use Rattle.proof_ready.proofs.Reading.{in_filter, of_one, out_filter, some_of}
 
 -- ---- lists of numbers
-
-any_has : (l : List ℕ) (n : ℕ) → Has l n → list_any (λ one. one == n) l ≡ true
-any_has [] n has = absurd has
-any_has (one ∷ more) n (inl is) = ap (λ (b : Bool). b || list_any (λ k. k == n) more) (eq-eqb one n is)
-any_has (one ∷ more) n (inr has) = by (one == n) (any_has more n has)
-  where
-    by : (b : Bool) → list_any (λ k. k == n) more ≡ true → b || list_any (λ k. k == n) more ≡ true
-    by true is = refl
-    by false is = is
 
 has_any : (l : List ℕ) (n : ℕ) → list_any (λ one. one == n) l ≡ true → Has l n
 has_any [] n is = absurd (false≢true is)
@@ -66,7 +58,7 @@ some_not (one ∷ more) c has = refl
 
 none_in : (l : List ℕ) → ((n : ℕ) → list_any (λ one. one == n) l ≡ true → ⊥) → l ≡ []
 none_in [] none = refl
-none_in (n ∷ more) none = absurd (none n (any_has (n ∷ more) n (inl refl)))
+none_in (n ∷ more) none = absurd (none n (any_that_has (n ∷ more) n (inl refl)))
 
 all_true : (so : Entry → Bool) (l : List Entry) → AllByRecursion (λ (entry : Entry). so entry ≡ true) l → list_all so l ≡ true
 all_true so [] all = refl
@@ -298,7 +290,7 @@ waiting_open o is = absurd (false≢true is)
 pub waiting_lists : (devices now : List State) (past : List Entry) (n c : ℕ) → listing_of now n ≡ listing_of devices n → EachAfter (MayBeLetIn (listing_of devices)) [] past → numbers_of (accepted n past) ≡ numbers_for n past
     → list_all (λ number. are_listed now n (Some (classes_for (always (listing_of now)) past n number))) (open_commands n past) ≡ true → Has (waiting n past) c → lists (listing_of devices n) 0x6C ≡ true
 waiting_lists devices now past n c same each numbers listed waits =
-    let both = in_filter (λ number. is_waiting (outcome number past)) (numbers_of (accepted n past)) c (any_has (waiting n past) c waits) in
+    let both = in_filter (λ number. is_waiting (outcome number past)) (numbers_of (accepted n past)) c (any_that_has (waiting n past) c waits) in
     let among : list_any (λ one. one == c) (shown (accepted_for n) past) ≡ true = sym (ap (λ (l : List ℕ). list_any (λ one. one == c) l) (numbers ∙ numbers_are n past)) ∙ both.0 in
     let opened = kept_in (is_open past) (shown (accepted_for n) past) c among (waiting_open (outcome c past) both.1) in
     let so : are_listed now n (Some (classes_for (always (listing_of now)) past n c)) ≡ true =

@@ -8,7 +8,7 @@
 //! on the line; and no result is due to it where it took nothing in the tick of the clock (`calm_chips_rest`, `calm_chips_are_owed_nothing`). It waits for
 //! calls of frames on the air and for results that are due alone (`lines_await_calls`). A node that can be reached by the transcript is reached
 //! (`calm_machines_are_reached`), and the host has its facts (`lines_leave_hosts_fit`). Together these tie the request of the host (`calm_requests_are_tied`),
-//! if the chip rests, and the host knows its members, which is not shown here.
+//! where the host knows nothing of nodes that have not joined (`hosts_know_their_members`).
 //! A joined node has a place in the tables, and is joined in the air (`joined_nodes_are_there`). Nothing is to be done for a node that is not joined, nor in a
 //! calm moment for one that is joined and for which no command waits (`nodes_are_still`). So where these are all nodes for which one does, the host has to do
 //! with these alone (`hosts_are_ready`). It knows of each node what its device lists (`hosts_know_what_devices_list`), and one whose device listens has one

@@ -110,7 +110,6 @@ pub fn still_stretches_begin()
     devices_are_the_same();
     joined_nodes_are_there();
     listeners_hear();
-    nodes_are_plain_by_kind();
     still_machines_are_ready();
     stretches_are_for_their_workers();
     stretches_may_begin();

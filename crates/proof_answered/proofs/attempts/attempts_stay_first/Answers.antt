@@ -16,6 +16,15 @@ use Rattle.proof_answered.proofs.Staffed.{worked_before}
 use Rattle.proof_answered.proofs.Walking.{begins_known}
 use Rattle.proof_answered.proofs.attempts.attempts_stay_first.Goals as goal
 
+airs : goal.After-workers_alone_speak → Airs
+airs c = record {
+  goes = c.frames_fly_in_order.ensures.goes;
+  next = c.frames_fly_in_order.ensures.next;
+  lands = c.frames_fly_in_order.ensures.lands;
+  count = c.frames_fly_in_order.ensures.count;
+  begins = c.frames_fly_in_order.ensures.begins;
+}
+
 worked : (these : List Bool) → IsOfStretch (IsWorkedFor these)
 worked these = record { before = worked_before these; stretched = λ past is. is.stretched }
 
@@ -26,53 +35,17 @@ pub returns-clause-first : goal.returns-clause-first
 returns-clause-first c = first_attempts
 
 pub returns-clause-walk : goal.returns-clause-walk
-returns-clause-walk c = λ these. first_walk airs (IsHeardFor these) IsStretched any_stretch (λ m. these) (KnowHeard these) (c.payloads_are_heard.ensures.walk these) (λ here past m known is. known is)
-  where
-    airs : Airs
-    airs = record {
-      goes = c.frames_fly_in_order.ensures.goes;
-      next = c.frames_fly_in_order.ensures.next;
-      lands = c.frames_fly_in_order.ensures.lands;
-      count = c.frames_fly_in_order.ensures.count;
-      begins = c.frames_fly_in_order.ensures.begins;
-    }
+returns-clause-walk c = λ these. first_walk (airs c) (IsHeardFor these) IsStretched any_stretch (λ m. these) (KnowHeard these) (c.payloads_are_heard.ensures.walk these) (λ here past m known is. known is)
 
 pub returns-clause-listening : goal.returns-clause-listening
-returns-clause-listening c = λ these many. first_walk airs (IsSentTo these) IsStretched any_stretch (λ m. these) (KnowListening these) (c.nodes_hear.ensures.walk these many) (λ here past m known is. (known is).0)
-  where
-    airs : Airs
-    airs = record {
-      goes = c.frames_fly_in_order.ensures.goes;
-      next = c.frames_fly_in_order.ensures.next;
-      lands = c.frames_fly_in_order.ensures.lands;
-      count = c.frames_fly_in_order.ensures.count;
-      begins = c.frames_fly_in_order.ensures.begins;
-    }
+returns-clause-listening c = λ these many. first_walk (airs c) (IsSentTo these) IsStretched any_stretch (λ m. these) (KnowListening these) (c.nodes_hear.ensures.walk these many) (λ here past m known is. (known is).0)
 
 pub returns-clause-network : goal.returns-clause-network
-returns-clause-network c = first_walk_freely airs IsStretched any_stretch (λ m. m.outside.outer.chip.state.joined) KnowNetwork c.networks_hear.ensures.walk (λ here past m known is. (known is).0)
-  where
-    airs : Airs
-    airs = record {
-      goes = c.frames_fly_in_order.ensures.goes;
-      next = c.frames_fly_in_order.ensures.next;
-      lands = c.frames_fly_in_order.ensures.lands;
-      count = c.frames_fly_in_order.ensures.count;
-      begins = c.frames_fly_in_order.ensures.begins;
-    }
+returns-clause-network c = first_walk_freely (airs c) IsStretched any_stretch (λ m. m.outside.outer.chip.state.joined) KnowNetwork c.networks_hear.ensures.walk (λ here past m known is. (known is).0)
 
 pub returns-clause-working : goal.returns-clause-working
 returns-clause-working c = λ these many.
-    first_walk_freely airs (IsWorkedFor these) (worked these) (λ m. these) (KnowStaff these) (c.workers_alone_speak.ensures.walk these many) (λ here past m known is. ((known is).0.0 is.stretched).0)
-  where
-    airs : Airs
-    airs = record {
-      goes = c.frames_fly_in_order.ensures.goes;
-      next = c.frames_fly_in_order.ensures.next;
-      lands = c.frames_fly_in_order.ensures.lands;
-      count = c.frames_fly_in_order.ensures.count;
-      begins = c.frames_fly_in_order.ensures.begins;
-    }
+    first_walk_freely (airs c) (IsWorkedFor these) (worked these) (λ m. these) (KnowStaff these) (c.workers_alone_speak.ensures.walk these many) (λ here past m known is. ((known is).0.0 is.stretched).0)
 
 pub returns-clause-lines : goal.returns-clause-lines
 returns-clause-lines c = λ m lines are whole in_time stretched tied few listen first.

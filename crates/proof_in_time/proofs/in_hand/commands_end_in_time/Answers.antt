@@ -1,14 +1,9 @@
 -- Over the first lines the host may serve each of these nodes; from then on, one walk counts down the ticks of a command.
-use Rattle.std.proofs.Common.{◌≡◌, ◌≤◌, ◌<◌, ℕ, suc, ◌+◌, ◌-◌, Bool, true, false, List, [], ◌++◌, length, Some, sym, ap, ◌∙◌, subst, arith}
+use Rattle.std.proofs.Common.{◌≡◌, ◌≤◌, ◌<◌, ℕ, suc, ◌+◌, ◌-◌, Bool, true, List, [], ◌++◌, length, Some, sym, ap, ◌∙◌, subst, arith}
 use Rattle.chip_sim.specs.Nodes.{is_marked}
 use Rattle.s0_crypto.specs.declared.key_pair.Keys.{Keys}
 use Rattle.device_sim.specs.State.{State}
-use Rattle.host_node.specs.Search.{next_of}
-use Rattle.host_model.specs.After.{after}
-use Rattle.host_model.specs.Events.{HostEvent}
-use Rattle.host_model.specs.Facts.{HostFacts}
-use Rattle.host_model.specs.May.{May as MayHost}
-use Rattle.host_model.specs.State.{Command, HostState, command_at, node_of}
+use Rattle.host_model.specs.State.{Command, command_at, node_of}
 use Rattle.world_model.specs.Did.{AllAlong}
 use Rattle.world_model.specs.Events.{Event}
 use Rattle.world_model.specs.State.{Machine, first_machine}
@@ -17,7 +12,6 @@ use Rattle.world_lines.specs.Done.{AreDone, events_of}
 use Rattle.world_lines.specs.Whole.{AreWhole}
 use Rattle.proof_course_plain.specs.proof_host.Tables.{taken_at, taken_by}
 use Rattle.proof_answered.specs.proof_calm.proof_work.proof_walk.Walk.{WalkWhere}
-use Rattle.proof_answered.specs.Workers.{KnowsWorkers}
 use Rattle.proof_in_time.proofs.Accepted.{KnowAccepted, accepted_walk, none_yet, soon_of}
 use Rattle.proof_spoken.proofs.SpokenLines.{all_after}
 use Rattle.proof_answered.proofs.Where.{along_parts, where_whole}
@@ -27,21 +21,15 @@ use Rattle.proof_answered.proofs.HeardCalls.{rests_heard}
 use Rattle.proof_answered.proofs.Walking.{begins_known}
 use Rattle.proof_answered.proofs.Outwards.{marked_within}
 use Rattle.proof_answered.specs.proof_calm.proof_work.proof_walk.Phases.{Between}
-use Rattle.proof_in_time.specs.Coming.{IsKeptFor, IsReadyFor, KnowPlainly}
+use Rattle.proof_in_time.specs.Coming.{IsKeptFor}
 use Rattle.proof_in_time.specs.InHand.{HasEnded, IsInHand, RestsBefore, ticks_begun, ticks_blocked, ticks_of_all}
-use Rattle.proof_answered.specs.Few.{AreIdle}
-use Rattle.proof_in_time.specs.InStep.{GoesInStep, IsPlainly, IsPlainOver}
+use Rattle.proof_in_time.specs.InStep.{IsPlainly}
 use Rattle.proof_in_time.specs.Stretch.{IsStretchFor}
 use Rattle.proof_in_time.proofs.Bounded.{Devices}
 use Rattle.proof_in_time.proofs.Lasting.{node_within}
-use Rattle.proof_in_time.proofs.Nearing.{AreServed, KnowSoon, Soon, served_walk, soon_past, soon_rested, soon_then, soon_walk}
-use Rattle.proof_in_time.proofs.Plainly.{Tells}
-use Rattle.proof_answered.proofs.Speaking.{Same}
+use Rattle.proof_in_time.proofs.Nearing.{KnowServed, KnowSoon, Soon, served_walk, soon_past, soon_rested, soon_then, soon_walk}
 use Rattle.proof_in_time.proofs.Spoken.{after_both, done_later, each_along, events_both, told_both, whole_parts}
 use Rattle.proof_in_time.proofs.in_hand.commands_end_in_time.Goals as goal
-
-below : (these : List Bool) → length these ≡ 233 → (n : ℕ) → is_marked these n ≡ true → n < 233
-below these many n marked = let less = marked_within these n marked in omega (arith, less, many)
 
 along_later : (Has : Machine → Event → Type 0) (m : Machine) (before lines : List Spoken) → AllAlong Has m (events_of (before ++ lines)) → AllAlong Has (after_all m before) (events_of lines)
 along_later Has m before lines all =
@@ -55,10 +43,27 @@ as_many : (begun more : ℕ) → more ≤ (begun + more) - begun
 as_many begun more = omega arith
 
 -- lines of a stretch, and those behind: at the first moment it is known what waits, and that these nodes are served; in the end the command has ended
-module _ (airs : Airs) (devices_of : Devices) (facts_kept : (h : HostState) (event : HostEvent) → HostFacts h → MayHost h event → HostFacts (after h event)) (these : List Bool) (many : length these ≡ 233) (none : is_marked these 0 ≡ false)
-    (workers : (h : HostState) (k : ℕ) → KnowsWorkers these h → next_of h.nodes h.served ≡ Some k → is_marked these k ≡ true) (same : Same) (tells : Tells) (plainly : WalkWhere (IsPlainly these) AsksNothing (KnowPlainly these)) (start : Machine) (before first lines : List Spoken)
-    (are : AreDone start (before ++ (first ++ lines))) (whole : AreWhole (after_all start before) (first ++ lines)) (all : AllAlong (IsPlainly these) start (events_of (before ++ (first ++ lines))))
-    (kept : IsKeptFor these (transcript_of (after_all start before) (first ++ lines))) (ready : IsReadyFor these (after_all start before)) (served : AreServed these (after_all start before)) where
+module _ (c : goal.After-waits_never_run_out) (these : List Bool) (keys : Keys) (devices : List State) (before first lines : List Spoken) (is : IsStretchFor these keys devices before (first ++ lines)) where
+  abbrev start : Machine
+  start = first_machine keys (Some []) devices
+
+  airs : Airs
+  airs = record {
+    goes = c.frames_fly_in_order.ensures.goes;
+    next = c.frames_fly_in_order.ensures.next;
+    lands = c.frames_fly_in_order.ensures.lands;
+    count = c.frames_fly_in_order.ensures.count;
+    begins = c.frames_fly_in_order.ensures.begins;
+  }
+
+  answers : Devices
+  answers = record { heard = c.messages_are_answered.ensures.heard; still = c.messages_are_answered.ensures.still; works = c.messages_are_answered.ensures.works }
+
+  served : WalkWhere (IsPlainly these) AsksNothing (KnowServed these)
+  served =
+      served_walk airs these is.many is.none c.devices_stay_the_same.ensures.event (record { heard = c.reports_tell.ensures.plainly; works = c.messages_are_answered.ensures.works })
+      (c.waits_never_run_out.ensures.first these is.many is.none)
+
   abbrev ready_at : Machine
   ready_at = after_all start before
 
@@ -66,13 +71,16 @@ module _ (airs : Airs) (devices_of : Devices) (facts_kept : (h : HostState) (eve
   then_at = after_all ready_at first
 
   done : AreDone ready_at (first ++ lines)
-  done = done_later start before (first ++ lines) are
+  done = done_later start before (first ++ lines) is.done
 
   parts : AreDone ready_at first × AreWhole ready_at first × AreWhole then_at lines
-  parts = whole_parts ready_at first lines done whole
+  parts = whole_parts ready_at first lines done (whole_parts start before (first ++ lines) is.done is.whole).2
 
   of_stretch : AllAlong (IsPlainly these) ready_at (events_of (first ++ lines))
-  of_stretch = along_later (IsPlainly these) start before (first ++ lines) all
+  of_stretch =
+      along_later (IsPlainly these) start before (first ++ lines)
+      (each_along these start (events_of (before ++ (first ++ lines)))
+      (λ k marked. c.nodes_stay_in_step.ensures.along k keys devices (before ++ (first ++ lines)) (subst (λ (l : ℕ). k < l) is.many (marked_within these k marked)) (is.plain k marked) is.done))
 
   of_first : AllAlong (IsPlainly these) ready_at (events_of first)
   of_first = (along_parts (IsPlainly these) ready_at (events_of first) (events_of lines) (subst (λ (es : List Event). AllAlong (IsPlainly these) ready_at es) (events_both first lines) of_stretch)).0
@@ -80,12 +88,12 @@ module _ (airs : Airs) (devices_of : Devices) (facts_kept : (h : HostState) (eve
   known : KnowAccepted these (length ready_at.host.state.commands) Between (transcript_of ready_at first) then_at
   known =
       where_whole (IsPlainly these) AsksNothing (KnowAccepted these (length ready_at.host.state.commands))
-      (accepted_walk airs these many none facts_kept (length ready_at.host.state.commands) (served_walk airs these many none same tells plainly)) [] ready_at first parts.0 parts.1 of_first (
+      (accepted_walk airs these is.many is.none c.facts_are_kept.ensures.each (length ready_at.host.state.commands) served) [] ready_at first parts.0 parts.1 of_first (
         (
-          (((λ is. (((λ stretched. ((begins_known ready_at ready.tied ready.few, rests_heard ready_at ready.tied.rests), ready.listen)), λ stretched. ready.knows), record { lines = tt; speak = ready.speak })), λ is. ready.waiting), λ is. ready.first),
-          λ is. served,
+          (((λ worked. (((λ stretched. ((begins_known ready_at is.ready.tied is.ready.few, rests_heard ready_at is.ready.tied.rests), is.ready.listen)), λ stretched. is.ready.knows), record { lines = tt; speak = is.ready.speak })), λ kept. is.ready.waiting), λ kept. is.ready.first),
+          λ kept. record { serve = is.serves; speak = is.speak },
         ),
-        λ is n marked. none_yet n ready_at.host.state,
+        λ kept n marked. none_yet n ready_at.host.state,
       )
 
   there : after_all start (before ++ first) ≡ then_at
@@ -94,10 +102,10 @@ module _ (airs : Airs) (devices_of : Devices) (facts_kept : (h : HostState) (eve
   ended : (n command most : ℕ) → is_marked these n ≡ true → (IsKeptFor these (transcript_of ready_at first) → Soon these n command (most - ticks_begun then_at) Between then_at)
       → most ≤ ticks_begun (after_all start (before ++ (first ++ lines))) → HasEnded command (node_of (after_all start (before ++ (first ++ lines))).host.state n).book
   ended n command most marked soon enough =
-      let node = node_within these many none n marked in
+      let node = node_within these is.many is.none n marked in
       let later : Machine = after_all then_at lines in
-      let told : IsKeptFor these (transcript_of ready_at first ++ transcript_of then_at lines) = subst (IsKeptFor these) (told_both ready_at first lines) kept in
-      let known_then = where_whole (IsPlainly these) AsksNothing (KnowSoon these n command most) (soon_walk airs these many devices_of facts_kept workers n marked node command none most (served_walk airs these many none same tells plainly)) (transcript_of ready_at first) then_at lines
+      let told : IsKeptFor these (transcript_of ready_at first ++ transcript_of then_at lines) = subst (IsKeptFor these) (told_both ready_at first lines) is.kept in
+      let known_then = where_whole (IsPlainly these) AsksNothing (KnowSoon these n command most) (soon_walk airs these is.many answers c.facts_are_kept.ensures.each (c.nodes_are_served_in_turn.ensures.workers these) n marked node command is.none most served) (transcript_of ready_at first) then_at lines
       (done_later ready_at first lines done) parts.2 (along_later (IsPlainly these) ready_at first lines of_stretch)
       (known.0, soon) in
       let last : after_all start (before ++ (first ++ lines)) ≡ later = after_both start before (first ++ lines) ∙ after_both ready_at first lines in
@@ -112,7 +120,7 @@ module _ (airs : Airs) (devices_of : Devices) (facts_kept : (h : HostState) (eve
       let most : ℕ = ticks_begun then_at + few in
       let in_hand : IsInHand command more (node_of then_at.host.state n) = subst (λ (x : Machine). IsInHand command more (node_of x.host.state n)) there hand in
       ended n command most marked
-      (λ is. soon_then these n command more (most - ticks_begun then_at) (transcript_of ready_at first) then_at marked (node_within these many none n marked) known.0 in_hand (as_many (ticks_begun then_at) few) is)
+      (λ kept. soon_then these n command more (most - ticks_begun then_at) (transcript_of ready_at first) then_at marked (node_within these is.many is.none n marked) known.0 in_hand (as_many (ticks_begun then_at) few) kept)
       (subst (λ (x : Machine). ticks_begun x + (ticks_blocked (node_of x.host.state n) + ticks_of_all these (suc more)) ≤ ticks_begun (after_all start (before ++ (first ++ lines)))) there enough)
 
   rested : (n command more : ℕ) → is_marked these n ≡ true → RestsBefore command more (node_of (after_all start (before ++ first)).host.state n)
@@ -121,134 +129,29 @@ module _ (airs : Airs) (devices_of : Devices) (facts_kept : (h : HostState) (eve
   rested n command more marked rests enough =
       let wait : ℕ = (node_of then_at.host.state n).again_wait + (1 + ticks_of_all these (suc (suc more))) in
       ended n command (ticks_begun then_at + wait) marked
-      (λ is. soon_rested these n command more ((ticks_begun then_at + wait) - ticks_begun then_at) (transcript_of ready_at first) then_at marked known.0 (subst (λ (x : Machine). RestsBefore command more (node_of x.host.state n)) there rests)
-      (as_many (ticks_begun then_at) wait) is)
+      (λ kept. soon_rested these n command more ((ticks_begun then_at + wait) - ticks_begun then_at) (transcript_of ready_at first) then_at marked known.0 (subst (λ (x : Machine). RestsBefore command more (node_of x.host.state n)) there rests)
+      (as_many (ticks_begun then_at) wait) kept)
       (subst (λ (x : Machine). ticks_begun x + ((node_of x.host.state n).again_wait + (1 + ticks_of_all these (suc (suc more)))) ≤ ticks_begun (after_all start (before ++ (first ++ lines)))) there enough)
 
   was_accepted : (n command : ℕ) (found : Command) → is_marked these n ≡ true → command_at (after_all start (before ++ first)).host.state.commands command ≡ Some found → found.order.node ≡ n → length ready_at.host.state.commands + 1 ≤ command
       → ticks_begun (after_all start (before ++ first)) + (ticks_blocked (node_of (after_all start (before ++ first)).host.state n) + ticks_of_all these 18) ≤ ticks_begun (after_all start (before ++ (first ++ lines)))
       → HasEnded command (node_of (after_all start (before ++ (first ++ lines))).host.state n).book
-  was_accepted n command found marked is for_node since enough =
+  was_accepted n command found marked found_is for_node since enough =
       let few : ℕ = ticks_blocked (node_of then_at.host.state n) + ticks_of_all these 18 in
       let most : ℕ = ticks_begun then_at + few in
       let taken : taken_at then_at.host.state.commands command ≡ Some (record { order = found.order; carriage = found.carriage }) =
-      ap taken_by (subst (λ (x : Machine). command_at x.host.state.commands command ≡ Some found) there is) in
+      ap taken_by (subst (λ (x : Machine). command_at x.host.state.commands command ≡ Some found) there found_is) in
       ended n command most marked
       (λ kept_first.
-      soon_of these n command (most - ticks_begun then_at) (record { order = found.order; carriage = found.carriage }) (length ready_at.host.state.commands) (transcript_of ready_at first) then_at marked (node_within these many none n marked) known taken
+      soon_of these n command (most - ticks_begun then_at) (record { order = found.order; carriage = found.carriage }) (length ready_at.host.state.commands) (transcript_of ready_at first) then_at marked (node_within these is.many is.none n marked) known taken
       for_node since (as_many (ticks_begun then_at) few) kept_first)
       (subst (λ (x : Machine). ticks_begun x + (ticks_blocked (node_of x.host.state n) + ticks_of_all these 18) ≤ ticks_begun (after_all start (before ++ (first ++ lines)))) there enough)
 
--- what is proved of the machine, of devices and of hosts, for these nodes
-record Proved (these : List Bool) (keys : Keys) (devices : List State) (before lines : List Spoken) : Type 0 where
-  airs : Airs
-  devices_of : Devices
-  facts_kept : (h : HostState) (event : HostEvent) → HostFacts h → MayHost h event → HostFacts (after h event)
-  workers : (h : HostState) (k : ℕ) → KnowsWorkers these h → next_of h.nodes h.served ≡ Some k → is_marked these k ≡ true
-  same : Same
-  tells : Tells
-  plainly : length these ≡ 233 → is_marked these 0 ≡ false → WalkWhere (IsPlainly these) AsksNothing (KnowPlainly these)
-  step : (n : ℕ) → n < 233 → IsPlainOver devices (events_of (before ++ lines)) n → AreIdle devices → AreDone (first_machine keys (Some []) devices) (before ++ lines)
-      → AllAlong (GoesInStep n) (first_machine keys (Some []) devices) (events_of (before ++ lines))
-
-module _ (these : List Bool) (keys : Keys) (devices : List State) (before first lines : List Spoken) (p : Proved these keys devices before (first ++ lines)) (is : IsStretchFor these keys devices before (first ++ lines)) where
-  steps : AllAlong (IsPlainly these) (first_machine keys (Some []) devices) (events_of (before ++ (first ++ lines)))
-  steps = each_along these (first_machine keys (Some []) devices) (events_of (before ++ (first ++ lines))) (λ k marked. p.step k (below these is.many k marked) (is.plain k marked) is.idle is.done)
-
-  whole_then : AreWhole (after_all (first_machine keys (Some []) devices) before) (first ++ lines)
-  whole_then = (whole_parts (first_machine keys (Some []) devices) before (first ++ lines) is.done is.whole).2
-
-  hand_then : (n command more : ℕ) → is_marked these n ≡ true → IsInHand command more (node_of (after_all (first_machine keys (Some []) devices) (before ++ first)).host.state n)
-      → ticks_begun (after_all (first_machine keys (Some []) devices) (before ++ first)) + (ticks_blocked (node_of (after_all (first_machine keys (Some []) devices) (before ++ first)).host.state n) + ticks_of_all these (suc more)) ≤ ticks_begun (after_all (first_machine keys (Some []) devices) (before ++ (first ++ lines)))
-      → HasEnded command (node_of (after_all (first_machine keys (Some []) devices) (before ++ (first ++ lines))).host.state n).book
-  hand_then n command more marked hand enough =
-      was_in_hand p.airs p.devices_of p.facts_kept these is.many is.none p.workers p.same p.tells (p.plainly is.many is.none) (first_machine keys (Some []) devices) before first lines is.done whole_then steps is.kept is.ready
-      (record { serve = is.serves; speak = is.speak }) n command more marked hand enough
-
-  rests_then : (n command more : ℕ) → is_marked these n ≡ true → RestsBefore command more (node_of (after_all (first_machine keys (Some []) devices) (before ++ first)).host.state n)
-      → ticks_begun (after_all (first_machine keys (Some []) devices) (before ++ first)) + ((node_of (after_all (first_machine keys (Some []) devices) (before ++ first)).host.state n).again_wait + (1 + ticks_of_all these (suc (suc more))))
-      ≤ ticks_begun (after_all (first_machine keys (Some []) devices) (before ++ (first ++ lines)))
-      → HasEnded command (node_of (after_all (first_machine keys (Some []) devices) (before ++ (first ++ lines))).host.state n).book
-  rests_then n command more marked rests enough =
-      rested p.airs p.devices_of p.facts_kept these is.many is.none p.workers p.same p.tells (p.plainly is.many is.none) (first_machine keys (Some []) devices) before first lines is.done whole_then steps is.kept is.ready
-      (record { serve = is.serves; speak = is.speak }) n command more marked rests enough
-
-  accepted_then : (n command : ℕ) (found : Command) → is_marked these n ≡ true → command_at (after_all (first_machine keys (Some []) devices) (before ++ first)).host.state.commands command ≡ Some found → found.order.node ≡ n
-      → length (after_all (first_machine keys (Some []) devices) before).host.state.commands + 1 ≤ command
-      → ticks_begun (after_all (first_machine keys (Some []) devices) (before ++ first)) + (ticks_blocked (node_of (after_all (first_machine keys (Some []) devices) (before ++ first)).host.state n) + ticks_of_all these 18) ≤ ticks_begun (after_all (first_machine keys (Some []) devices) (before ++ (first ++ lines)))
-      → HasEnded command (node_of (after_all (first_machine keys (Some []) devices) (before ++ (first ++ lines))).host.state n).book
-  accepted_then n command found marked is_found for_node since enough =
-      was_accepted p.airs p.devices_of p.facts_kept these is.many is.none p.workers p.same p.tells (p.plainly is.many is.none) (first_machine keys (Some []) devices) before first lines is.done whole_then steps is.kept is.ready
-      (record { serve = is.serves; speak = is.speak }) n command found marked is_found for_node since enough
-
 pub returns-clause-in_hand : goal.returns-clause-in_hand
-returns-clause-in_hand c = λ these n command more keys devices before first lines is. hand_then these keys devices before first lines (proved these keys devices before (first ++ lines)) is n command more
-  where
-    airs : Airs
-    airs = record {
-      goes = c.frames_fly_in_order.ensures.goes;
-      next = c.frames_fly_in_order.ensures.next;
-      lands = c.frames_fly_in_order.ensures.lands;
-      count = c.frames_fly_in_order.ensures.count;
-      begins = c.frames_fly_in_order.ensures.begins;
-    }
-
-    proved : (these : List Bool) (keys : Keys) (devices : List State) (before lines : List Spoken) → Proved these keys devices before lines
-    proved these keys devices before lines = record {
-      airs = airs;
-      devices_of = record { heard = c.messages_are_answered.ensures.heard; still = c.messages_are_answered.ensures.still; works = c.messages_are_answered.ensures.works };
-      facts_kept = c.facts_are_kept.ensures.each;
-      workers = c.nodes_are_served_in_turn.ensures.workers these;
-      same = c.devices_stay_the_same.ensures.event;
-      tells = record { heard = c.reports_tell.ensures.plainly; works = c.messages_are_answered.ensures.works };
-      plainly = c.waits_never_run_out.ensures.first these;
-      step = λ n within plain idle done. c.nodes_stay_in_step.ensures.along n keys devices (before ++ lines) within plain done;
-    }
+returns-clause-in_hand c = λ these n command more keys devices before first lines is. was_in_hand c these keys devices before first lines is n command more
 
 pub returns-clause-rests : goal.returns-clause-rests
-returns-clause-rests c = λ these n command more keys devices before first lines is. rests_then these keys devices before first lines (proved these keys devices before (first ++ lines)) is n command more
-  where
-    airs : Airs
-    airs = record {
-      goes = c.frames_fly_in_order.ensures.goes;
-      next = c.frames_fly_in_order.ensures.next;
-      lands = c.frames_fly_in_order.ensures.lands;
-      count = c.frames_fly_in_order.ensures.count;
-      begins = c.frames_fly_in_order.ensures.begins;
-    }
-
-    proved : (these : List Bool) (keys : Keys) (devices : List State) (before lines : List Spoken) → Proved these keys devices before lines
-    proved these keys devices before lines = record {
-      airs = airs;
-      devices_of = record { heard = c.messages_are_answered.ensures.heard; still = c.messages_are_answered.ensures.still; works = c.messages_are_answered.ensures.works };
-      facts_kept = c.facts_are_kept.ensures.each;
-      workers = c.nodes_are_served_in_turn.ensures.workers these;
-      same = c.devices_stay_the_same.ensures.event;
-      tells = record { heard = c.reports_tell.ensures.plainly; works = c.messages_are_answered.ensures.works };
-      plainly = c.waits_never_run_out.ensures.first these;
-      step = λ n within plain idle done. c.nodes_stay_in_step.ensures.along n keys devices (before ++ lines) within plain done;
-    }
+returns-clause-rests c = λ these n command more keys devices before first lines is. rested c these keys devices before first lines is n command more
 
 pub returns-clause-accepted : goal.returns-clause-accepted
-returns-clause-accepted c = λ these n command found keys devices before first lines is. accepted_then these keys devices before first lines (proved these keys devices before (first ++ lines)) is n command found
-  where
-    airs : Airs
-    airs = record {
-      goes = c.frames_fly_in_order.ensures.goes;
-      next = c.frames_fly_in_order.ensures.next;
-      lands = c.frames_fly_in_order.ensures.lands;
-      count = c.frames_fly_in_order.ensures.count;
-      begins = c.frames_fly_in_order.ensures.begins;
-    }
-
-    proved : (these : List Bool) (keys : Keys) (devices : List State) (before lines : List Spoken) → Proved these keys devices before lines
-    proved these keys devices before lines = record {
-      airs = airs;
-      devices_of = record { heard = c.messages_are_answered.ensures.heard; still = c.messages_are_answered.ensures.still; works = c.messages_are_answered.ensures.works };
-      facts_kept = c.facts_are_kept.ensures.each;
-      workers = c.nodes_are_served_in_turn.ensures.workers these;
-      same = c.devices_stay_the_same.ensures.event;
-      tells = record { heard = c.reports_tell.ensures.plainly; works = c.messages_are_answered.ensures.works };
-      plainly = c.waits_never_run_out.ensures.first these;
-      step = λ n within plain idle done. c.nodes_stay_in_step.ensures.along n keys devices (before ++ lines) within plain done;
-    }
+returns-clause-accepted c = λ these n command found keys devices before first lines is. was_accepted c these keys devices before first lines is n command found

@@ -1,6 +1,5 @@
 -- One walk over lines for these nodes, beside the one that these alone speak.
-use Rattle.std.proofs.Common.{◌≡◌, ◌<◌, ℕ, Bool, true, List, [], ◌++◌, length, Some, sym, subst, arith}
-use Rattle.chip_sim.specs.Nodes.{is_marked}
+use Rattle.std.proofs.Common.{◌<◌, ℕ, List, [], ◌++◌, Some, sym, subst}
 use Rattle.world_model.specs.Did.{AllAlong}
 use Rattle.world_model.specs.Events.{Event}
 use Rattle.world_model.specs.State.{Machine, first_machine}
@@ -22,48 +21,33 @@ use Rattle.proof_in_time.proofs.Lasting.{in_time, plainly_walk, waits_walk}
 use Rattle.proof_in_time.proofs.Spoken.{after_both, done_later, each_along, events_both}
 use Rattle.proof_in_time.proofs.in_time.waits_never_run_out.Goals as goal
 
-below : (these : List Bool) → length these ≡ 233 → (n : ℕ) → is_marked these n ≡ true → n < 233
-below these many n marked = let less = marked_within these n marked in omega (arith, less, many)
+airs : goal.After-workers_alone_speak → Airs
+airs c = record {
+  goes = c.frames_fly_in_order.ensures.goes;
+  next = c.frames_fly_in_order.ensures.next;
+  lands = c.frames_fly_in_order.ensures.lands;
+  count = c.frames_fly_in_order.ensures.count;
+  begins = c.frames_fly_in_order.ensures.begins;
+}
+
+answers : goal.After-workers_alone_speak → Devices
+answers c = record { heard = c.messages_are_answered.ensures.heard; still = c.messages_are_answered.ensures.still; works = c.messages_are_answered.ensures.works }
 
 pub returns-clause-walk : goal.returns-clause-walk
-returns-clause-walk c = λ these many none. waits_walk airs these many none devices (c.workers_alone_speak.ensures.walk these many)
-  where
-    airs : Airs
-    airs = record {
-      goes = c.frames_fly_in_order.ensures.goes;
-      next = c.frames_fly_in_order.ensures.next;
-      lands = c.frames_fly_in_order.ensures.lands;
-      count = c.frames_fly_in_order.ensures.count;
-      begins = c.frames_fly_in_order.ensures.begins;
-    }
-
-    devices : Devices
-    devices = record { heard = c.messages_are_answered.ensures.heard; still = c.messages_are_answered.ensures.still; works = c.messages_are_answered.ensures.works }
+returns-clause-walk c = λ these many none. waits_walk (airs c) these many none (answers c) (c.workers_alone_speak.ensures.walk these many)
 
 pub returns-clause-in_time : goal.returns-clause-in_time
 returns-clause-in_time c = in_time
 
 pub returns-clause-first : goal.returns-clause-first
-returns-clause-first c = λ these many none. plainly_walk airs these many none devices (c.workers_alone_speak.ensures.walk these many) (c.attempts_stay_first.ensures.working these many)
-  where
-    airs : Airs
-    airs = record {
-      goes = c.frames_fly_in_order.ensures.goes;
-      next = c.frames_fly_in_order.ensures.next;
-      lands = c.frames_fly_in_order.ensures.lands;
-      count = c.frames_fly_in_order.ensures.count;
-      begins = c.frames_fly_in_order.ensures.begins;
-    }
-
-    devices : Devices
-    devices = record { heard = c.messages_are_answered.ensures.heard; still = c.messages_are_answered.ensures.still; works = c.messages_are_answered.ensures.works }
+returns-clause-first c = λ these many none. plainly_walk (airs c) these many none (answers c) (c.workers_alone_speak.ensures.walk these many) (c.attempts_stay_first.ensures.working these many)
 
 pub returns-clause-lines : goal.returns-clause-lines
 returns-clause-lines c = λ these keys devices before lines many none plain are whole kept ready.
     let first : Machine = first_machine keys (Some []) devices in
     let m : Machine = after_all first before in
     let all : AllAlong (IsPlainly these) first (events_of (before ++ lines)) =
-    each_along these first (events_of (before ++ lines)) (λ n marked. c.nodes_stay_in_step.ensures.along n keys devices (before ++ lines) (below these many n marked) (plain n marked) are) in
+    each_along these first (events_of (before ++ lines)) (λ n marked. c.nodes_stay_in_step.ensures.along n keys devices (before ++ lines) (subst (λ (l : ℕ). n < l) many (marked_within these n marked)) (plain n marked) are) in
     let parts = along_parts (IsPlainly these) first (events_of before) (events_of lines) (subst (λ (es : List Event). AllAlong (IsPlainly these) first es) (events_both before lines) all) in
     let plainly : AllAlong (IsPlainly these) m (events_of lines) = subst (λ (x : Machine). AllAlong (IsPlainly these) x (events_of lines)) (sym (all_after first before)) parts.1 in
     let known = where_whole (IsPlainly these) AsksNothing (KnowPlainly these) (returns-clause-first c these many none) [] m lines (done_later first before lines are) whole plainly

@@ -28,7 +28,6 @@ returns c = λ key keys devices before lines is.
     record {
       many = ready.many;
       none = ready.none;
-      idle = c.nodes_are_plain_by_kind.ensures.idle key devices is.made;
       plain = c.workers_are_plain.ensures key keys devices before lines is;
       done = is.done;
       whole = is.whole;

@@ -16,7 +16,8 @@ use Rattle.proof_in_time.proofs.Spoken.{told_both, whole_parts}
 use Rattle.proof_ready.specs.LetIn.{MayBeLetIn}
 use Rattle.proof_ready.specs.Stretch.{at_work, first_of, moment, told_before, told_in}
 use Rattle.proof_ready.proofs.Listening.{known_list, plain_by_kind}
-use Rattle.proof_ready.proofs.Reading.{command_of, opened_are, same_listing}
+use Rattle.proof_in_time.proofs.JudgedOutcomes.{same_listing}
+use Rattle.proof_ready.proofs.Reading.{command_of, opened_are}
 use Rattle.proof_ready.proofs.Working.{accepted_lists, waiting_lists}
 use Rattle.proof_ready.proofs.stretch.workers_are_plain.Goals as goal
 

@@ -19,14 +19,12 @@ use Rattle.proof_devices.specs.proof_routes.Knowing.{KnowNetworks}
 use Rattle.proof_chip.specs.proof_world.proof_serial.Host.{FitsIn}
 use Rattle.proof_chip.specs.proof_world.world_lines.chip_sim.Nodes.{is_marked}
 use Rattle.proof_ready.specs.Ease.{clock_of}
-use Rattle.serial_link.specs.declared.turn.Turn.{Turn}
-use Rattle.serial_link.specs.declared.turn.Turn.TheVariants.{Copied, Idle, Paused}
-use Rattle.proof_chip.specs.proof_world.host_model.After.{is_busy}
 use Rattle.proof_chip.specs.proof_world.host_model.State.{HostState, node_of}
 use Rattle.proof_chip.specs.proof_line.outside_model.State.{OuterState}
 use Rattle.proof_chip.specs.proof_line.world_model.State.{Machine, first_machine}
 use Rattle.proof_chip.specs.proof_world.world_lines.Spoken.{after_all, transcript_of}
 use Rattle.proof_chip.specs.proof_world.world_lines.chip_sim.Rules.{WaitsWhileBusy}
+use Rattle.proof_chip.proofs.Turning.{none_busy}
 use Rattle.proof_in_time.specs.proof_answered.proof_calm.Homeward.{IsOfMember}
 use Rattle.proof_in_time.specs.proof_answered.proof_calm.Known.{HasShortPlain, IsRequestFor, IsTaskFor}
 use Rattle.proof_in_time.specs.proof_answered.proof_calm.Routed.{IsOfFrame}
@@ -102,7 +100,7 @@ returns c = λ keys devices lines are whole nodes rest none moves empty idle chi
           fit = heard.fit;
           none_given_up = nothing.aborted;
         };
-        at_host = record { decoder = heard.at_rest.host; turn_is = idle_turn h.side.turn done.free.free_line };
+        at_host = record { decoder = heard.at_rest.host; turn_is = none_busy h.side.turn done.free.free_line };
       };
       awaits = c.lines_await_calls.ensures.awaits keys devices lines are whole nodes;
       routed = record { none_due = chip.due; of_frames = subst (AllByRecursion IsOfFrame) (sym nothing.calls) tt };
@@ -129,8 +127,3 @@ returns c = λ keys devices lines are whole nodes rest none moves empty idle chi
     by_member : {A : Type 0} (k : ℕ) (b : Bool) → b ≡ b → (b ≡ false → A) → (b ≡ true → A) → A
     by_member k true is not marked = marked refl
     by_member k false is not marked = not refl
-
-    idle_turn : (turn : Turn) → is_busy turn ≡ false → turn ≡ Idle
-    idle_turn Idle free = refl
-    idle_turn (Copied frame copies ticks) free = absurd cc
-    idle_turn (Paused frame copies ticks) free = absurd cc

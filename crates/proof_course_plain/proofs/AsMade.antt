@@ -1,29 +1,31 @@
 -- A device as its maker left it, and its place in the list.
-use Rattle.std.proofs.Common.{◌≡◌, ℕ, zero, suc, ◌<◌, ◌==◌, Bool, true, false, if◌then◌else◌, List, [], ◌∷◌, Some, option_map, slice_get, refl, sym, ap, subst, ◌∙◌, arith}
+use Rattle.std.proofs.Common.{◌≡◌, ℕ, suc, ◌<◌, ◌==◌, Bool, true, false, if◌then◌else◌, List, [], ◌∷◌, Some, option_map, slice_get, refl, sym, ap, subst, ◌∙◌, arith}
 use Rattle.std.specs.List.{AllByRecursion}
+use Rattle.zw_base.proofs.Each.{all-get}
 use Rattle.proof_course.specs.Sessions.{first_course}
+use Rattle.device_kinds.specs.Kind.{lists}
 use Rattle.device_kinds.specs.declared.kind.Kind.{Kind}
 use Rattle.device_kinds.specs.declared.kind.Kind.TheVariants.{Relay, Switch, Dimmer, Lock, Sensor, Thermostat, Strip, Configurable}
 use Rattle.device_sim.specs.State.{State, fresh}
-use Rattle.proof_spoken.proofs.ChangesOutside.{place_is}
 use Rattle.mesh_sim.specs.Fates.{place_of}
-use Rattle.proof_messages.specs.Asking.{takes_openly}
 use Rattle.law_transcript.specs.Headline.{IsAsMade}
 use Rattle.law_transcript.specs.Nodes.{device_of}
-use Rattle.proof_course_sealed.specs.Plain.{AtDevice, HasDevice, IsIdle, OthersAreIdle}
-use Rattle.proof_headline.specs.Plain.{IsPlainKind}
+use Rattle.proof_traffic.proofs.ChangesOutside.{place_is}
+use Rattle.proof_once.specs.proof_messages.Asking.{takes_openly}
+use Rattle.proof_course_plain.specs.Device.{AtDevice, IsIdle, OthersAreIdle}
+use Rattle.proof_course_plain.specs.Mesh.{HasDevice}
 
 -- ---- kinds
 
-opens : (kind : Kind) → IsPlainKind kind → takes_openly kind ≡ true
-opens Relay plain = let none = plain.supervised in absurd cc
-opens Switch plain = refl
-opens Dimmer plain = refl
-opens Lock plain = let sealed = plain.unsealed in absurd cc
-opens Sensor plain = refl
-opens Thermostat plain = refl
-opens Strip plain = refl
-opens Configurable plain = refl
+pub opens : (kind : Kind) → lists kind 0x6C ≡ true → lists kind 0x98 ≡ false → takes_openly kind ≡ true
+opens Relay supervised unsealed = absurd cc
+opens Lock supervised unsealed = absurd cc
+opens Switch supervised unsealed = refl
+opens Dimmer supervised unsealed = refl
+opens Sensor supervised unsealed = refl
+opens Thermostat supervised unsealed = refl
+opens Strip supervised unsealed = refl
+opens Configurable supervised unsealed = refl
 
 -- ---- the place of a device
 
@@ -47,11 +49,6 @@ finds node (device ∷ devices) found e = by_hit (device.node == node) node devi
 
 -- ---- what its maker left
 
-made_at : (key : List ℕ) (devices : List State) (at : ℕ) (one : State) → AllByRecursion (IsAsMade key) devices → slice_get devices at ≡ Some one → IsAsMade key one
-made_at key [] at one all is = absurd cc
-made_at key (device ∷ devices) zero one all is = let same : device ≡ one = cc in subst (IsAsMade key) same all.0
-made_at key (device ∷ devices) (suc at) one all is = made_at key devices at one all.1 is
-
 within : (key : List ℕ) (one : State) → IsAsMade key one → one.node < 233
 within key one made = let most = made.to_max in omega (arith, most)
 
@@ -66,33 +63,39 @@ pub record StandsAsMade (key : List ℕ) (node : ℕ) (devices : List State) (de
   pub nodes : (other : ℕ) (one : State) → slice_get devices other ≡ Some one → one.node < 233
 
 module _ (idle : (node : ℕ) (kind : Kind) (key : List ℕ) → IsIdle (fresh node kind key)) where
+  pub idle_as_made : (key : List ℕ) (one : State) → IsAsMade key one → IsIdle one
+  idle_as_made key one made = subst IsIdle (sym made.made) (idle one.node one.kind key)
+
   pub stand_as_made : (key : List ℕ) (devices : List State) (node : ℕ) (device : State) → AllByRecursion (IsAsMade key) devices → device_of node devices ≡ Some device → StandsAsMade key node devices device
   stand_as_made key devices node device all found =
       let at = finds node devices device found in
-      let made = made_at key devices at.place device all at.stands in
+      let made = all-get (IsAsMade key) devices at.place device all at.stands in
       record {
         within = subst (λ (n : ℕ). n < 233) (place_is node devices at.place device at.first at.stands) (within key device made);
         place = at.place;
         first = at.first;
         stands = at.stands;
         made = made.made;
-        others = λ other one is own away. subst IsIdle (sym (made_at key devices other one all is).made) (idle one.node one.kind key);
-        nodes = λ other one is. within key one (made_at key devices other one all is);
+        others = λ other one is own away. idle_as_made key one (all-get (IsAsMade key) devices other one all is);
+        nodes = λ other one is. within key one (all-get (IsAsMade key) devices other one all is);
       }
 
   module _ (begins : (node : ℕ) (kind : Kind) (key : List ℕ) → takes_openly kind ≡ true → AtDevice first_course (fresh node kind key)) where
-    pub begins_course : (key : List ℕ) (devices : List State) (node : ℕ) (device : State) → AllByRecursion (IsAsMade key) devices → device_of node devices ≡ Some device → IsPlainKind device.kind
-        → (node < 233) × HasDevice node first_course devices
-    begins_course key devices node device all found plain =
+    pub begins_course : (key : List ℕ) (devices : List State) (node : ℕ) (device : State) → AllByRecursion (IsAsMade key) devices → device_of node devices ≡ Some device
+        → lists device.kind 0x6C ≡ true → lists device.kind 0x98 ≡ false → (node < 233) × ((has : HasDevice node first_course devices) × (has.device ≡ device))
+    begins_course key devices node device all found supervised unsealed =
         let at = stand_as_made key devices node device all found in (
           at.within,
-          record {
-            device = device;
-            place = at.place;
-            first = at.first;
-            stands = at.stands;
-            at = subst (AtDevice first_course) (sym at.made) (begins device.node device.kind key (opens device.kind plain));
-            others = at.others;
-            nodes = at.nodes;
-          },
+          (
+            record {
+              device = device;
+              place = at.place;
+              first = at.first;
+              stands = at.stands;
+              at = subst (AtDevice first_course) (sym at.made) (begins device.node device.kind key (opens device.kind supervised unsealed));
+              others = at.others;
+              nodes = at.nodes;
+            },
+            refl,
+          ),
         )
