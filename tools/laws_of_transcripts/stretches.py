@@ -51,9 +51,19 @@ def is_ready(reading, number):
     return all(world.air.has(*hop) for hop in zip(way, way[1:]))
 
 
+def lists_a_layer(number):
+    """A node lists Transport Service or Security 0."""
+    return 0x55 in listing_of(number) or 0x98 in listing_of(number)
+
+
 def is_plain_listener(number):
-    """A node that listens and lists neither Transport Service nor Security 0."""
-    return listens(number) and 0x55 not in listing_of(number) and 0x98 not in listing_of(number)
+    """A node that listens and lists neither."""
+    return listens(number) and not lists_a_layer(number)
+
+
+def is_plain_sleeper(number):
+    """A node that sleeps and lists neither."""
+    return not listens(number) and not lists_a_layer(number)
 
 
 def judged_like(device):
@@ -106,13 +116,14 @@ class Stretch:
                 and sorted(self.woken) == sleepers)
 
     def is_due(self):
-        """Whether each command must have its answer now: plain listeners alone at work, or one node of any kind."""
+        """Whether each command must have its answer now: plain listeners alone at work, one node that sleeps and is plain, or one of any kind."""
         count = sum(len(commands) for commands in self.commands.values())
         if not count or not self.is_stretch():
             return False
-        if all(is_plain_listener(node) for node in self.commands):
+        is_alone = len(self.commands) == 1
+        if all(is_plain_listener(node) or is_alone and is_plain_sleeper(node) for node in self.commands):
             return self.waited >= TICKS_FOR_ALL
-        return len(self.commands) == 1 and self.waited >= TICKS_FOR_EACH * count
+        return is_alone and self.waited >= TICKS_FOR_EACH * count
 
     def judge(self, commands):
         """Each command has the final outcome that its device's kind says."""

@@ -11,7 +11,7 @@ use Rattle.chip_functions.specs.declared.fault.BodyFault.TheVariants.{UnknownFun
 use Rattle.chip_functions.specs.declared.mask.TheConstants.{MASK_BYTES}
 use Rattle.chip_functions.specs.Mask.{IsBytes, AreNodes, nodes_of, mask_of}
 use Rattle.chip_functions.specs.Place.{Place, Reading, IsFaultFrom, ◌>>=◌, byte_from, piece_from, found_at}
-use Rattle.chip_functions.specs.Field.{Field, byte, piece, ◌then◌, coded, byte_within, node, mark, number, mask, counted, read_as}
+use Rattle.chip_functions.specs.Field.{Field, byte, piece, three_of, triple, ◌then◌, coded, byte_within, node, mark, number, mask, counted, read_as}
 use Rattle.chip_functions.proofs.MaskLemmas.{mask_of-nodes_of, nodes_of-mask_of, are_nodes, mask_len}
 
 -- what was read from p on, up to q
@@ -167,6 +167,28 @@ piece_lawful count = record {
   takes = λ p bytes q fits e. let t = piece_takes count p.before p.rest bytes q fits e in (piece_step count p q bytes t, t.2);
   again = λ bytes p rest long e. record { place = record { before = p.before + count; rest = rest }; is = piece_again count p bytes rest long e; after = refl };
   faults = λ p fault _ e. piece_faults count p.before p.rest fault e;
+}
+
+-- three bytes are their list
+three_back : (bytes : List ℕ) → length bytes ≡ 3 → triple.spell (three_of bytes) ≡ bytes
+three_back [] e = absurd (omega (arith, e))
+three_back (x ∷ []) e = absurd (omega (arith, e))
+three_back (x ∷ y ∷ []) e = absurd (omega (arith, e))
+three_back (x ∷ y ∷ z ∷ []) e = refl
+three_back (x ∷ y ∷ z ∷ more ∷ rest) e = absurd (omega (arith, e))
+
+pub triple_lawful : Lawful triple (λ _. Unit {0})
+triple_lawful = record {
+  takes = λ p x q fits e.
+      let a = bind_ok (piece_from 3 p.before p.rest) (λ y. Ok (three_of y.0, y.1)) (x, q) e in
+      let t = piece_takes 3 p.before p.rest a.0.0 a.0.1 fits a.1 in
+      let made : (ℕ × (ℕ × ℕ)) × Place = (three_of a.0.0, a.0.1) in
+      subst (λ (y : (ℕ × (ℕ × ℕ)) × Place). Takes p y.1 (triple.spell y.0) × Unit {0}) (ok_is made (x, q) a.2)
+      (subst (Takes p a.0.1) (sym (three_back a.0.0 t.2)) (piece_step 3 p a.0.1 a.0.0 t), tt);
+  again = λ x p rest _ e.
+      record { place = record { before = p.before + 3; rest = rest }; is = rw (piece_again 3 p (triple.spell x) rest refl e) refl; after = refl };
+  faults = λ p fault _ e.
+      bind_err (piece_from 3 p.before p.rest) (λ y. Ok (three_of y.0, y.1)) fault e (λ h. piece_faults 3 p.before p.rest fault h) (λ y h f. no_fault {A = (ℕ × (ℕ × ℕ)) × Place} (three_of y.0, y.1) fault f);
 }
 
 -- ---- one field after the other

@@ -10,15 +10,15 @@ use Rattle.chip_functions.specs.Mask.{IsBytes}
 use Rattle.chip_functions.specs.Place.{Place, IsBodyFault, start_of, ended_from}
 use Rattle.chip_functions.specs.Field.{IsNode}
 use Rattle.chip_functions.specs.Request.{send_data, get_routing_info, request_function, request_body, HasRequestRow, IsRequest, IsRequestBody, send_data_at, add_request_at, get_routing_info_at, request_at, request_of}
-use Rattle.chip_functions.proofs.FieldLaws.{Takes, Lawful, bind_ok, bind_err, no_fault, ok_is, byte_lawful, then_lawful, within_lawful, node_lawful, counted_lawful}
+use Rattle.chip_functions.proofs.FieldLaws.{Takes, Lawful, bind_ok, bind_err, no_fault, ok_is, byte_lawful, triple_lawful, then_lawful, within_lawful, node_lawful, counted_lawful}
 use Rattle.chip_functions.proofs.RowLaws.{reads_to, no_row, row_cases, row_takes, ReadsOn, row_again, ended_ok, IsFaultOf, row_faults, unknown, body_fault, ended_err}
 use Rattle.chip_functions.proofs.AddNodeLaws.{add_request_lawful}
 
 send_data_lawful : Lawful send_data (λ x. IsNode x.0 × ((1 ≤ length x.1.0) × (Unit {0} × ((1 ≤ x.1.1.1) × (x.1.1.1 ≤ 255)))))
 send_data_lawful = then_lawful node_lawful (then_lawful (counted_lawful 1) (then_lawful byte_lawful (within_lawful 1 255)))
 
-get_routing_info_lawful : Lawful get_routing_info (λ x. IsNode x.0 × (Unit {0} × (Unit {0} × Unit {0})))
-get_routing_info_lawful = then_lawful node_lawful (then_lawful byte_lawful (then_lawful byte_lawful byte_lawful))
+get_routing_info_lawful : Lawful get_routing_info (λ x. IsNode x.0 × Unit {0})
+get_routing_info_lawful = then_lawful node_lawful triple_lawful
 
 -- the function, the text and the row of what was read from p on, up to q
 record IsRow (func : ℕ) (p q : Place) (v : Request) : Type 0 where
@@ -60,7 +60,7 @@ request_reads (GetNodeProtocolInfo n) p rest row e = row_again node_lawful _ n p
 request_reads (AddNode mode id) p rest row e = row_again add_request_lawful _ (mode, id) p rest (tt, (row.0, row.1)) e
 request_reads (RequestNodeInfo n) p rest row e = row_again node_lawful _ n p rest row e
 request_reads (IsFailedNode n) p rest row e = row_again node_lawful _ n p rest row e
-request_reads (GetRoutingInfo n x y z) p rest row e = row_again get_routing_info_lawful _ (n, (x, (y, z))) p rest (row, (tt, (tt, tt))) e
+request_reads (GetRoutingInfo n x y z) p rest row e = row_again get_routing_info_lawful _ (n, (x, (y, z))) p rest (row, tt) e
 
 -- what is read is spelled so
 pub request_found : (func : ℕ) (body : List ℕ) (v : Request) → IsBytes body → request_of func body ≡ Ok v → IsRequestBody func body v

@@ -1,5 +1,5 @@
 -- The fields that bodies are made of. Each has one spelling, and is read from left to right.
-use Rattle.std.specs.Prelude.{ℕ, ◌≤◌, List, [], ◌∷◌, ◌++◌, length, Option, Some, None, Ok, Err, nat_lt, nat_le, ◌==◌, ◌&&◌, if◌then◌else◌}
+use Rattle.std.specs.Prelude.{ℕ, ◌≤◌, List, [], ◌∷◌, ◌++◌, length, Option, Some, None, Ok, Err, nat_lt, nat_le, slice_index, ◌==◌, ◌&&◌, if◌then◌else◌}
 use Rattle.std.specs.Int.{Width, byte_len, to_be_bytes, from_be_bytes}
 use Rattle.chip_functions.specs.declared.fault.BodyFault.TheVariants.{BadField}
 use Rattle.chip_functions.specs.declared.mask.TheConstants.{MASK_BYTES}
@@ -22,6 +22,17 @@ byte = record { spell = λ b. b ∷ []; read = λ p. byte_from p.before p.rest }
 -- so many bytes
 abbrev pub piece : ℕ → Field (List ℕ)
 piece count = record { spell = λ bytes. bytes; read = λ p. piece_from count p.before p.rest }
+
+-- the first three of some bytes
+abbrev pub three_of : List ℕ → ℕ × (ℕ × ℕ)
+three_of bytes = (slice_index bytes 0, (slice_index bytes 1, slice_index bytes 2))
+
+-- three bytes, as one field
+abbrev pub triple : Field (ℕ × (ℕ × ℕ))
+triple = record {
+  spell = λ x. x.0 ∷ x.1.0 ∷ x.1.1 ∷ [];
+  read = λ p. piece_from 3 p.before p.rest >>= λ x. Ok (three_of x.0, x.1);
+}
 
 -- one field and then another
 infixr 20 ◌then◌

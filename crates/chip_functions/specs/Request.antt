@@ -6,16 +6,16 @@ use Rattle.chip_functions.specs.declared.function.TheConstants.{GET_INIT_DATA, G
 use Rattle.chip_functions.specs.declared.request.Request.{Request}
 use Rattle.chip_functions.specs.declared.request.Request.TheVariants.{GetInitData, GetCapabilities, SendData, GetVersion, SendDataAbort, MemoryGetId, GetNodeProtocolInfo, AddNode, RequestNodeInfo, IsFailedNode, GetRoutingInfo}
 use Rattle.chip_functions.specs.Place.{Place, Reading, ◌>>=◌, start_of, ended_from}
-use Rattle.chip_functions.specs.Field.{Field, byte, byte_within, IsNode, node, counted, ◌then◌, read_as}
+use Rattle.chip_functions.specs.Field.{Field, byte, triple, byte_within, IsNode, node, counted, ◌then◌, read_as}
 use Rattle.chip_functions.specs.AddNode.{add_request}
 
 -- a SendData: the node, a payload of at least one byte after its length, the options and a callback id that is not 0
 abbrev pub send_data : Field (ℕ × (List ℕ × (ℕ × ℕ)))
 send_data = node then counted 1 then byte then byte_within 1 255
 
--- a GetRoutingInfo: the node and three bytes
+-- a GetRoutingInfo: the node, and three bytes as one field
 abbrev pub get_routing_info : Field (ℕ × (ℕ × (ℕ × ℕ)))
-get_routing_info = node then byte then byte then byte
+get_routing_info = node then triple
 
 -- the function of a request
 abbrev pub request_function : Request → ℕ

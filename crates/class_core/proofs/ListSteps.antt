@@ -35,12 +35,6 @@ taken_one size count at bytes prefix i n lt e t =
       all = append_assoc prefix (n ∷ []) _ ∙ ap (λ (x : List ℕ). prefix ++ x) (sym unrolled) ∙ t.all;
     }
 
-pub taken_all : (size : Size) (count at : ℕ) (bytes prefix : List ℕ) (i : ℕ) → count ≤ i → IsTaken size count at bytes prefix i → prefix ≡ numbers_in size count at bytes
-taken_all size count at bytes prefix i le t =
-    let k : count - i ≡ 0 = omega arith in
-    let unrolled : numbers_in size (count - i) (at + i * bytes_in size) bytes ≡ [] = rw k refl in
-    sym (append-nil prefix) ∙ ap (λ (x : List ℕ). prefix ++ x) (sym unrolled) ∙ t.all
-
 -- nodes that are taken already, and what reading gives after them
 abbrev pub following : List ℕ → Result (List ℕ) ClassFault → Result (List ℕ) ClassFault
 following prefix (Ok others) = Ok (prefix ++ others)

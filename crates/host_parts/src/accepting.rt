@@ -13,11 +13,10 @@ ghost use Rattle.host_orders.specs.Refusals.{IsFit, classes_of, first_refusal};
 ghost use Rattle.host_orders.specs.Settings.{settings as settings_by, properties_of as properties_in};
 ghost use Rattle.host_orders.specs.Wrapping.{carriage_of};
 ghost use Rattle.host_model.specs.State.{HostState};
-ghost use Rattle.host_model.specs.Events.{Accepts};
-ghost use Rattle.host_model.specs.After.{after};
-ghost use Rattle.host_model.specs.May.{May, known_of};
-ghost use Rattle.host_model.specs.Asking.{carriage_for, refusal_for};
-ghost use Rattle.host_parts.specs.Choices.{Judges};
+ghost use Rattle.host_model.specs.May.{known_of};
+ghost use Rattle.host_model.specs.Asking.{refusal_for};
+ghost use Rattle.host_parts.specs.Choices.{Judges, MayAccept, accepted};
+ghost use Rattle.host_parts.specs.Within.{with_orders};
 
 use crate::Command;
 use crate::keeping::keep_record;
@@ -50,21 +49,19 @@ pub fn accept<P: Keeper>(
 ) -> Result<u32, Refused>
     ensures number { IfOk result (λ number. number ≡ length commands.old.items + 1) }
     ensures judges { (h : HostState) →
-        Judges result (refusal_for (record h { nodes = nodes.old; commands = commands.old.items; store = store.old }) order.now) }
+        Judges result (refusal_for (with_orders h nodes.old commands.old.items store.old) order.now) }
     ensures may { (h : HostState) →
-        OnOk result (May (record h { nodes = nodes.old; commands = commands.old.items; store = store.old })
-        (Accepts order.now (carriage_for (record h { nodes = nodes.old; commands = commands.old.items; store = store.old }) order.now))) }
+        OnOk result (MayAccept (with_orders h nodes.old commands.old.items store.old) order.now) }
     ensures kept { OnOk result (OptAdds (P.shelf keeper.old).records (P.shelf keeper.new).records
         (record_text (the_accepted (length commands.old.items + 1) order.now) ∷ [])) }
     ensures in_range { OnOk result (IsRecord (the_accepted (length commands.old.items + 1) order.now)) }
     ensures state { (h : HostState) →
-        OnOk result (record h { nodes = nodes.new; commands = commands.new.items; store = store.new } ≡
-        after (record h { nodes = nodes.old; commands = commands.old.items; store = store.old })
-        (Accepts order.now (carriage_for (record h { nodes = nodes.old; commands = commands.old.items; store = store.old }) order.now))) }
+        OnOk result (with_orders h nodes.new commands.new.items store.new ≡
+        accepted (with_orders h nodes.old commands.old.items store.old) order.now) }
     ensures failed { result ≡ Err Refused.KeeperFault → Rose (P.shelf keeper.old).faults (P.shelf keeper.new).faults }
     ensures err { (h : HostState) →
-        OnErr result (record h { nodes = nodes.new; commands = commands.new.items; store = store.new } ≡
-        record h { nodes = nodes.old; commands = commands.old.items; store = store.old }) }
+        OnErr result (with_orders h nodes.new commands.new.items store.new ≡
+        with_orders h nodes.old commands.old.items store.old) }
     ensures no_record { OnErr result (OptAdds (P.shelf keeper.old).records (P.shelf keeper.new).records []) }
     ensures never_falls { (P.shelf keeper.old).faults ≤ (P.shelf keeper.new).faults }
     ensures more { OnOk result (P.number keeper.old < P.number keeper.new) }
@@ -92,21 +89,19 @@ fn accept_judged<P: Keeper>(
     requires missing { judged.now.missing.items ≡ missing_of store.old order.now.node judged.now.properties.items }
     ensures number { IfOk result (λ number. number ≡ length commands.old.items + 1) }
     ensures judges { (h : HostState) →
-        Judges result (refusal_for (record h { nodes = nodes.old; commands = commands.old.items; store = store.old }) order.now) }
+        Judges result (refusal_for (with_orders h nodes.old commands.old.items store.old) order.now) }
     ensures may { (h : HostState) →
-        OnOk result (May (record h { nodes = nodes.old; commands = commands.old.items; store = store.old })
-        (Accepts order.now (carriage_for (record h { nodes = nodes.old; commands = commands.old.items; store = store.old }) order.now))) }
+        OnOk result (MayAccept (with_orders h nodes.old commands.old.items store.old) order.now) }
     ensures kept { OnOk result (OptAdds (P.shelf keeper.old).records (P.shelf keeper.new).records
         (record_text (the_accepted (length commands.old.items + 1) order.now) ∷ [])) }
     ensures in_range { OnOk result (IsRecord (the_accepted (length commands.old.items + 1) order.now)) }
     ensures state { (h : HostState) →
-        OnOk result (record h { nodes = nodes.new; commands = commands.new.items; store = store.new } ≡
-        after (record h { nodes = nodes.old; commands = commands.old.items; store = store.old })
-        (Accepts order.now (carriage_for (record h { nodes = nodes.old; commands = commands.old.items; store = store.old }) order.now))) }
+        OnOk result (with_orders h nodes.new commands.new.items store.new ≡
+        accepted (with_orders h nodes.old commands.old.items store.old) order.now) }
     ensures failed { result ≡ Err Refused.KeeperFault → Rose (P.shelf keeper.old).faults (P.shelf keeper.new).faults }
     ensures err { (h : HostState) →
-        OnErr result (record h { nodes = nodes.new; commands = commands.new.items; store = store.new } ≡
-        record h { nodes = nodes.old; commands = commands.old.items; store = store.old }) }
+        OnErr result (with_orders h nodes.new commands.new.items store.new ≡
+        with_orders h nodes.old commands.old.items store.old) }
     ensures no_record { OnErr result (OptAdds (P.shelf keeper.old).records (P.shelf keeper.new).records []) }
     ensures never_falls { (P.shelf keeper.old).faults ≤ (P.shelf keeper.new).faults }
     ensures more { OnOk result (P.number keeper.old < P.number keeper.new) }

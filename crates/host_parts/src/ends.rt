@@ -20,6 +20,7 @@ ghost use Rattle.host_model.specs.Ends.{
 ghost use Rattle.host_model.specs.Outs.{noted};
 ghost use Rattle.host_parts.specs.Ending.{Lists, ListsEnd, ListsHow};
 ghost use Rattle.host_parts.specs.Parts.{part_as};
+ghost use Rattle.host_parts.specs.Within.{with_commands};
 
 use crate::Command;
 use crate::command::set_outcome;
@@ -69,10 +70,10 @@ pub(crate) fn end_request(
     requires listed { ListsEnd end list }
     requires room { 2 ≤ out.old.room }
     ensures state { (h : HostState) →
-        record h { nodes = nodes.new; commands = commands.new.items } ≡
-        after_end_if (record h { nodes = nodes.old; commands = commands.old.items }) end moment }
+        with_commands h nodes.new commands.new.items ≡
+        after_end_if (with_commands h nodes.old commands.old.items) end moment }
     ensures outs { (h : HostState) →
-        out.new.items ≡ out.old.items ++ noted (end_entries_if (record h { nodes = nodes.old; commands = commands.old.items }) end) }
+        out.new.items ≡ out.old.items ++ noted (end_entries_if (with_commands h nodes.old commands.old.items) end) }
 {
     let Some(end) = end else {
         return;
@@ -99,10 +100,10 @@ fn end_part(
 )
     requires { 2 ≤ out.old.room }
     ensures state { (h : HostState) →
-        record h { nodes = nodes.new; commands = commands.new.items } ≡
-        after_part (record h { nodes = nodes.old; commands = commands.old.items }) node (part_end more how.now) moment }
+        with_commands h nodes.new commands.new.items ≡
+        after_part (with_commands h nodes.old commands.old.items) node (part_end more how.now) moment }
     ensures outs { (h : HostState) →
-        out.new.items ≡ out.old.items ++ noted (part_entries (record h { nodes = nodes.old; commands = commands.old.items }) node (part_end more how.now)) }
+        out.new.items ≡ out.old.items ++ noted (part_entries (with_commands h nodes.old commands.old.items) node (part_end more how.now)) }
 {
     match part_end(how, more) {
         Part::Good => nodes.succeeded(node),
@@ -149,10 +150,10 @@ fn end_running(
 )
     requires { 2 ≤ out.old.room }
     ensures state { (h : HostState) →
-        record h { nodes = nodes.new; commands = commands.new.items } ≡
-        without_report (record h { nodes = nodes.old; commands = commands.old.items }) node moment }
+        with_commands h nodes.new commands.new.items ≡
+        without_report (with_commands h nodes.old commands.old.items) node moment }
     ensures outs { (h : HostState) →
-        out.new.items ≡ out.old.items ++ noted (without_report_entries (record h { nodes = nodes.old; commands = commands.old.items }) node) }
+        out.new.items ≡ out.old.items ++ noted (without_report_entries (with_commands h nodes.old commands.old.items) node) }
 {
     let command = open_command(nodes.of(node));
     let end = nodes.end_attempt(node, moment);

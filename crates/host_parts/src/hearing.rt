@@ -7,6 +7,7 @@ ghost use Rattle.host_model.specs.Events.{Requests_do};
 ghost use Rattle.host_model.specs.After.{after};
 ghost use Rattle.host_model.specs.Outs.{outs};
 ghost use Rattle.host_parts.specs.Heard.{ListsHeard, heard_as};
+ghost use Rattle.host_parts.specs.Within.{with_requests};
 
 use crate::Command;
 use crate::ends::{MOST_ENTRIES, end_request, nodes_in};
@@ -45,14 +46,14 @@ pub fn request_hears(
     out: &mut List<HostOut>,
 ) -> Result<(), NoMemory>
     ensures state { (h : HostState) →
-        OnOk result (record h { requests = requests.new; nodes = nodes.new; commands = commands.new.items } ≡
-        after (record h { requests = requests.old; nodes = nodes.old; commands = commands.old.items }) (Requests_do (heard_as heard) moment)) }
+        OnOk result (with_requests h requests.new nodes.new commands.new.items ≡
+        after (with_requests h requests.old nodes.old commands.old.items) (Requests_do (heard_as heard) moment)) }
     ensures outs { (h : HostState) →
         OnOk result (out.new.items ≡ out.old.items ++
-        outs (record h { requests = requests.old; nodes = nodes.old; commands = commands.old.items }) (Requests_do (heard_as heard) moment)) }
+        outs (with_requests h requests.old nodes.old commands.old.items) (Requests_do (heard_as heard) moment)) }
     ensures err { (h : HostState) →
-        OnErr result ((record h { requests = requests.new; nodes = nodes.new; commands = commands.new.items } ≡
-        record h { requests = requests.old; nodes = nodes.old; commands = commands.old.items }) × (out.new.items ≡ out.old.items)) }
+        OnErr result ((with_requests h requests.new nodes.new commands.new.items ≡
+        with_requests h requests.old nodes.old commands.old.items) × (out.new.items ≡ out.old.items)) }
 {
     out.reserve(MOST_ENTRIES)?;
     let list = nodes_heard(alloc, &heard)?;

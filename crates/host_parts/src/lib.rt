@@ -3,8 +3,9 @@
 //! Each function borrows the parts that it changes, and says in the words of `host_model` what any host with these
 //! parts is then. It promises that an order is accepted whole or leaves nothing, that the end of a request is told to
 //! its node and its command with everything that is entered then, and how an attempt of a command starts. The host
-//! itself, which has its facts after each event, is in `host_step` above. `specs/` has `Choices` for the answer to an
-//! order, `Heard` and `Parts` for what the calls distinguish, `Ending` for lists that are made beforehand.
+//! itself, which has its facts after each event, is in `host_step` above. `specs/` has `Within` for a host that has
+//! these parts, `Choices` for the answer to an order, `Heard` and `Parts` for what the calls distinguish, `Ending` for
+//! lists that are made beforehand.
 #![tactic(auto)]
 
 mod accepting;

@@ -6,6 +6,7 @@ ghost use Rattle.host_model.specs.State.{HostState};
 ghost use Rattle.host_model.specs.Events.{Line_ticks, Node_ticks};
 ghost use Rattle.host_model.specs.After.{after};
 ghost use Rattle.host_model.specs.Outs.{outs, copy_out};
+ghost use Rattle.host_parts.specs.Within.{with_commands, with_line};
 
 use crate::Command;
 use crate::ends::{MOST_ENTRIES, end_attempt, end_request, open_command};
@@ -30,15 +31,15 @@ pub fn tick_line(
 ) -> Result<(), NoMemory>
     ensures decoder { OnOk result (link.new.decoder ≡ after_tick link.old.decoder) }
     ensures state { (h : HostState) →
-        OnOk result (record h { side = link.new.side; requests = requests.new; nodes = nodes.new; commands = commands.new.items } ≡
-        after (record h { side = link.old.side; requests = requests.old; nodes = nodes.old; commands = commands.old.items }) Line_ticks) }
+        OnOk result (with_line h link.new.side requests.new nodes.new commands.new.items ≡
+        after (with_line h link.old.side requests.old nodes.old commands.old.items) Line_ticks) }
     ensures outs { (h : HostState) →
         OnOk result (out.new.items ≡ out.old.items ++
-        outs (record h { side = link.old.side; requests = requests.old; nodes = nodes.old; commands = commands.old.items }) Line_ticks) }
+        outs (with_line h link.old.side requests.old nodes.old commands.old.items) Line_ticks) }
     ensures stays { OnErr result (link.new.decoder ≡ link.old.decoder) }
     ensures err { (h : HostState) →
-        OnErr result ((record h { side = link.new.side; requests = requests.new; nodes = nodes.new; commands = commands.new.items } ≡
-        record h { side = link.old.side; requests = requests.old; nodes = nodes.old; commands = commands.old.items }) × (out.new.items ≡ out.old.items)) }
+        OnErr result ((with_line h link.new.side requests.new nodes.new commands.new.items ≡
+        with_line h link.old.side requests.old nodes.old commands.old.items) × (out.new.items ≡ out.old.items)) }
 {
     out.reserve(1 + MOST_ENTRIES)?;
     let copy = link.next_copy()?;
@@ -62,13 +63,13 @@ pub fn tick_node(
     out: &mut List<HostOut>,
 ) -> Result<(), NoMemory>
     ensures state { (h : HostState) →
-        OnOk result (record h { nodes = nodes.new; commands = commands.new.items } ≡
-        after (record h { nodes = nodes.old; commands = commands.old.items }) (Node_ticks node)) }
+        OnOk result (with_commands h nodes.new commands.new.items ≡
+        after (with_commands h nodes.old commands.old.items) (Node_ticks node)) }
     ensures outs { (h : HostState) →
-        OnOk result (out.new.items ≡ out.old.items ++ outs (record h { nodes = nodes.old; commands = commands.old.items }) (Node_ticks node)) }
+        OnOk result (out.new.items ≡ out.old.items ++ outs (with_commands h nodes.old commands.old.items) (Node_ticks node)) }
     ensures err { (h : HostState) →
-        OnErr result ((record h { nodes = nodes.new; commands = commands.new.items } ≡
-        record h { nodes = nodes.old; commands = commands.old.items }) × (out.new.items ≡ out.old.items)) }
+        OnErr result ((with_commands h nodes.new commands.new.items ≡
+        with_commands h nodes.old commands.old.items) × (out.new.items ≡ out.old.items)) }
 {
     out.reserve(MOST_ENTRIES)?;
     let command = open_command(nodes.of(node));

@@ -41,9 +41,6 @@ module _ (air new whole : AirState) (node : ℕ) (heading : Heading) (replies : 
       ∙ (ap (λ (a : AirState). out ++ air_entry air node heading reply ∷ sent_entries a node heading (drop (i + 1) replies)) went
       ∙ (sym (ap (λ rs. out ++ sent_entries air node heading rs) (rest_at replies i reply at)) ∙ so_far)))
 
-pub sent_all : (air whole : AirState) (node : ℕ) (heading : Heading) (replies : List (List ℕ)) (i : ℕ) → length replies ≤ i → sending air node heading (drop i replies) ≡ whole → air ≡ whole
-sent_all air whole node heading replies i past so_far = sym (ap (λ rs. sending air node heading rs) (rest_none replies i past)) ∙ so_far
-
 pub told_all : (air : AirState) (out all : List IncludeEntry) (node : ℕ) (heading : Heading) (replies : List (List ℕ)) (i : ℕ) → length replies ≤ i
     → out ++ sent_entries air node heading (drop i replies) ≡ all → out ≡ all
 told_all air out all node heading replies i past so_far = sym (append-nil out) ∙ (sym (ap (λ rs. out ++ sent_entries air node heading rs) (rest_none replies i past)) ∙ so_far)

@@ -5,8 +5,8 @@ use Rattle.zw_base.specs.declared.order.What.TheVariants.{Value}
 use Rattle.host_keep.specs.Kept.{kept_of}
 use Rattle.host_keep.specs.Legal.{Give, first_illegal}
 use Rattle.host_keep.specs.RecordText.{record_text}
-use Rattle.law_transcript.proofs.Computing.{computing_devices}
-use Rattle.law_wire.proofs.ShownRecords.{begun_in, bytes_are, ended_in, gives, node_2, node_5, on_in, order_in}
+use Rattle.law_time.proofs.law_transcript_Computing.{computing_devices}
+use Rattle.law_time.proofs.ShownRecords.{begun_in, bytes_are, ended_in, gives, node_2, node_5, on_in, order_in}
 use Rattle.law_host.specs.Worked.{life_records}
 
 pub gives_life : Give (map record_text life_records) (kept_of life_records)

@@ -5,7 +5,7 @@ use Rattle.std.specs.List.{AllByRecursion}
 use Rattle.zw_text.specs.declared.entry.Entry.{Entry}
 use Rattle.law_time.specs.Heeds.{Heeds}
 use Rattle.law_time.specs.Requests.{are_none}
-use Rattle.law_transcript.proofs.Deciding.{first_of, second_of, not_true}
+use Rattle.law_time.proofs.Deciding.{first_of, second_of, not_true}
 use Rattle.law_host.specs.Course.{Choices, Course}
 use Rattle.law_host.specs.Following.{ended_whole}
 use Rattle.law_host.specs.Notes.{NotesWhatHappens, Start, course_of}

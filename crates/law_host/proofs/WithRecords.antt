@@ -2,7 +2,7 @@
 use Rattle.std.proofs.Common.{◌≡◌, ℕ, Bool, true, List, ◌++◌, Option}
 use Rattle.std.specs.Prelude.{IfSome}
 use Rattle.zw_text.specs.declared.entry.Entry.{Entry}
-use Rattle.law_transcript.specs.Records.{KeepsRecords}
+use Rattle.law_time.specs.law_transcript.Records.{KeepsRecords}
 use Rattle.law_host.specs.HostLegal.{IsLegalAlone}
 use Rattle.law_host.specs.Notes.{Start}
 

@@ -4,7 +4,7 @@ use Rattle.std.specs.Prelude.{ℕ, ◌==◌, Bool, true, false, if◌then◌else
 use Rattle.host_heard.specs.declared.told.Told.{Told}
 use Rattle.zw_text.specs.declared.entry.Entry.{Entry}
 use Rattle.zw_text.specs.declared.entry.Entry.TheVariants.{Unkept}
-use Rattle.law_transcript.specs.Units.{Carried}
+use Rattle.law_time.specs.law_transcript.Units.{Carried}
 
 -- ---- nonces
 

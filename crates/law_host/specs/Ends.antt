@@ -12,7 +12,7 @@ use Rattle.zw_text.specs.declared.entry.Done.TheVariants as done
 use Rattle.zw_text.specs.declared.entry.Ended.TheVariants.{Unanswered}
 use Rattle.zw_text.specs.declared.entry.Entry.{Entry}
 use Rattle.zw_text.specs.declared.entry.Entry.TheVariants.{Done, Neighbours, Failed, Asleep, Interviewed, InterviewFailed, Out}
-use Rattle.law_transcript.specs.Units.{Carried, sending_in}
+use Rattle.law_time.specs.law_transcript.Units.{Carried, sending_in}
 use Rattle.law_time.specs.Heeds.{Heeds}
 use Rattle.law_time.specs.Moments.{clock}
 use Rattle.law_time.specs.Judged.{responses_here}

@@ -5,7 +5,7 @@ use Rattle.host_heard.specs.Telling.{heard_at}
 use Rattle.host_heard.specs.declared.payload.Heard.{Heard}
 use Rattle.host_heard.specs.declared.payload.Heard.TheVariants.{Messages, Sealed, Unread}
 use Rattle.zw_text.specs.declared.entry.Entry.{Entry}
-use Rattle.law_transcript.specs.Units.{Carried, bringing_in}
+use Rattle.law_time.specs.law_transcript.Units.{Carried, bringing_in}
 use Rattle.law_time.specs.Heeds.{Heeds}
 use Rattle.law_time.specs.Judged.{acknowledged, frames_come}
 use Rattle.law_host.specs.Course.{Course, Giver, each_in_turn, giver_of, if_kept, with_giver, with_heeded}

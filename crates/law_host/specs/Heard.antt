@@ -11,9 +11,9 @@ use Rattle.zw_text.specs.declared.line.Line.TheVariants as lines
 use Rattle.zw_text.specs.declared.entry.Entry.{Entry}
 use Rattle.zw_text.specs.declared.entry.Entry.TheVariants.{Refused, Written, Dropped, Garbled, Overrun, Device, Interviewed}
 use Rattle.zw_text.specs.Transcript.{line_of, where_same}
-use Rattle.law_transcript.specs.Lists.{last_or, shown_after}
+use Rattle.law_time.specs.law_transcript.Lists.{last_or, shown_after}
 use Rattle.host_heard.specs.declared.told.Told.{Told}
-use Rattle.law_transcript.specs.Units.{Carried}
+use Rattle.law_time.specs.law_transcript.Units.{Carried}
 use Rattle.law_time.specs.Heeds.{Heeds}
 use Rattle.law_time.specs.Judged.{is_of_air, is_of_chip, notices_here}
 

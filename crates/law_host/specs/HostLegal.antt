@@ -10,17 +10,17 @@ use Rattle.zw_text.specs.declared.line.Line.TheVariants as lines
 use Rattle.zw_text.specs.declared.entry.Entry.{Entry}
 use Rattle.zw_text.specs.declared.entry.Entry.TheVariants.{Json, TableValue}
 use Rattle.zw_text.specs.Transcript.{line_last}
-use Rattle.law_transcript.specs.Answers.{AnswersAfter, MayCancel, refusals_by_host}
-use Rattle.law_transcript.specs.Lists.{EachAfter}
-use Rattle.law_transcript.specs.Once.{CarriesOnce}
-use Rattle.law_transcript.specs.Payloads.{MayRequest}
-use Rattle.law_transcript.specs.Records.{KeepsRecords}
-use Rattle.law_transcript.specs.Sessions.{MayBegin}
-use Rattle.law_transcript.specs.Stores.{StoresConfirmed}
-use Rattle.law_transcript.specs.Table.{value_lines}
-use Rattle.law_transcript.specs.Units.{Carried}
-use Rattle.law_wire.specs.Links.{KeepsLink}
-use Rattle.law_wire.specs.Serial.{ended}
+use Rattle.law_time.specs.law_transcript.Answers.{AnswersAfter, MayCancel, refusals_by_host}
+use Rattle.law_time.specs.law_transcript.Lists.{EachAfter}
+use Rattle.law_time.specs.law_transcript.Once.{CarriesOnce}
+use Rattle.law_time.specs.law_transcript.Payloads.{MayRequest}
+use Rattle.law_time.specs.law_transcript.Records.{KeepsRecords}
+use Rattle.law_time.specs.law_transcript.Sessions.{MayBegin}
+use Rattle.law_time.specs.law_transcript.Stores.{StoresConfirmed}
+use Rattle.law_time.specs.law_transcript.Table.{value_lines}
+use Rattle.law_time.specs.law_transcript.Units.{Carried}
+use Rattle.law_time.specs.law_wire.Links.{KeepsLink}
+use Rattle.law_time.specs.law_wire.Serial.{ended}
 use Rattle.law_time.specs.Heeds.{Heeds}
 use Rattle.law_time.specs.Prompt.{IsPromptAfter}
 use Rattle.law_host.specs.Course.{Heeding}

@@ -1,29 +1,29 @@
 -- Whether a run of `sim` is legal (this project's own rule): the laws of lines, devices, air, serial line, chip and host that every run keeps,
 -- as one.
 use Rattle.std.specs.Prelude.{◌≡◌, ℕ, Bool, true, false, List, [], Option, Some, IfSome}
-use Rattle.law_transcript.specs.device_stack.State.{State}
+use Rattle.law_time.specs.law_transcript.device_stack.State.{State}
 use Rattle.zw_text.specs.declared.entry.Entry.{Entry}
-use Rattle.law_transcript.specs.Answers.{AnswersLines, CancelsWhenAsked}
-use Rattle.law_transcript.specs.Carrying.{BringsWhatWasHeard, CarriesUnits}
-use Rattle.law_transcript.specs.Devices.{RanAsShown}
-use Rattle.law_transcript.specs.Fates.{FaresInTurn, LosesMarked, NumbersFrames}
-use Rattle.law_transcript.specs.Lists.{EachAfter}
-use Rattle.law_transcript.specs.Nodes.{always, device_of, listing_of}
-use Rattle.law_transcript.specs.Payloads.{SendsWhatIsDue}
-use Rattle.law_transcript.specs.Records.{KeepsRecords}
-use Rattle.law_transcript.specs.Stores.{StoresConfirmed}
-use Rattle.law_wire.specs.Answering.{ServesHost}
-use Rattle.law_wire.specs.Arriving.{ForgetsDeadHops, LandsInTime, MeetsWhatIsDue, RepeatsWhatIsAsked}
-use Rattle.law_wire.specs.Clearing.{ClearsLine}
-use Rattle.law_wire.specs.Doings.{DoesAtOnce, DoneByDevices}
-use Rattle.law_wire.specs.Halted.{RanAsFar}
-use Rattle.law_wire.specs.Links.{KeepsLinks}
-use Rattle.law_wire.specs.Marks.{CollidesWhenAsked, MarksUnits}
-use Rattle.law_wire.specs.Pipes.{OverrunsWhenFull}
-use Rattle.law_wire.specs.Routes.{GoesByRoute}
-use Rattle.law_wire.specs.Serial.{ended}
-use Rattle.law_wire.specs.Shown.{ShowsDevices}
-use Rattle.law_wire.specs.Times.{TellsTime}
+use Rattle.law_time.specs.law_transcript.Answers.{AnswersLines, CancelsWhenAsked}
+use Rattle.law_time.specs.law_transcript.Carrying.{BringsWhatWasHeard, CarriesUnits}
+use Rattle.law_time.specs.law_transcript.Devices.{RanAsShown}
+use Rattle.law_time.specs.law_transcript.Fates.{FaresInTurn, LosesMarked, NumbersFrames}
+use Rattle.law_time.specs.law_transcript.Lists.{EachAfter}
+use Rattle.law_time.specs.law_transcript.Nodes.{always, device_of, listing_of}
+use Rattle.law_time.specs.law_transcript.Payloads.{SendsWhatIsDue}
+use Rattle.law_time.specs.law_transcript.Records.{KeepsRecords}
+use Rattle.law_time.specs.law_transcript.Stores.{StoresConfirmed}
+use Rattle.law_time.specs.law_wire.Answering.{ServesHost}
+use Rattle.law_time.specs.law_wire.Arriving.{ForgetsDeadHops, LandsInTime, MeetsWhatIsDue, RepeatsWhatIsAsked}
+use Rattle.law_time.specs.law_wire.Clearing.{ClearsLine}
+use Rattle.law_time.specs.law_wire.Doings.{DoesAtOnce, DoneByDevices}
+use Rattle.law_time.specs.law_wire.Halted.{RanAsFar}
+use Rattle.law_time.specs.law_wire.Links.{KeepsLinks}
+use Rattle.law_time.specs.law_wire.Marks.{CollidesWhenAsked, MarksUnits}
+use Rattle.law_time.specs.law_wire.Pipes.{OverrunsWhenFull}
+use Rattle.law_time.specs.law_wire.Routes.{GoesByRoute}
+use Rattle.law_time.specs.law_wire.Serial.{ended}
+use Rattle.law_time.specs.law_wire.Shown.{ShowsDevices}
+use Rattle.law_time.specs.law_wire.Times.{TellsTime}
 use Rattle.law_host.specs.Heard.{heard_by_host}
 use Rattle.law_host.specs.HostLegal.{IsLegalAlone, ShowsValues}
 use Rattle.law_host.specs.Notes.{first_start}

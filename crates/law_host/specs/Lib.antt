@@ -12,7 +12,7 @@ pub mod Starting
 pub mod Legal
 pub mod Worked
 pub use Rattle.law_time.specs as law_time
-pub use Rattle.law_transcript.specs as law_transcript
-pub use Rattle.law_wire.specs as law_wire
-pub use Rattle.law_transcript.specs.device_sim as device_sim
-pub use Rattle.law_transcript.specs.device_stack as device_stack
+pub use Rattle.law_time.specs.law_transcript
+pub use Rattle.law_time.specs.law_wire
+pub use Rattle.law_time.specs.law_transcript.device_sim
+pub use Rattle.law_time.specs.law_transcript.device_stack

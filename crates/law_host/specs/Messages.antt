@@ -17,9 +17,9 @@ use Rattle.zw_text.specs.declared.entry.Ended.TheVariants as endings
 use Rattle.zw_text.specs.declared.entry.Entry.{Entry}
 use Rattle.zw_text.specs.declared.entry.Entry.TheVariants.{Written, Out, Report, Unstored, Old, Unread, Awake, QueueFull, Held}
 use Rattle.zw_text.specs.Transcript.{sessions}
-use Rattle.law_transcript.specs.Answers.{properties_kept}
-use Rattle.law_transcript.specs.Nodes.{host_list}
-use Rattle.law_transcript.specs.Stores.{stores_asked_at}
+use Rattle.law_time.specs.law_transcript.Answers.{properties_kept}
+use Rattle.law_time.specs.law_transcript.Nodes.{host_list}
+use Rattle.law_time.specs.law_transcript.Stores.{stores_asked_at}
 use Rattle.law_time.specs.Heeds.{Heeds}
 use Rattle.law_time.specs.Requests.{are_none}
 use Rattle.law_time.specs.Sessions.{is_open, last_command}

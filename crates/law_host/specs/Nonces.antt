@@ -5,9 +5,9 @@ use Rattle.std.specs.List.{list_any, list_all, AllByRecursion}
 use Rattle.s0_crypto.specs.Sealing.{keys_of, sealed_text, unsealed_at}
 use Rattle.encap.specs.Opening.{begins_with}
 use Rattle.zw_text.specs.declared.entry.Entry.{Entry}
-use Rattle.law_transcript.specs.Nodes.{controller}
-use Rattle.law_transcript.specs.Payloads.{nonce_get}
-use Rattle.law_transcript.specs.Units.{Carried, sending_in}
+use Rattle.law_time.specs.law_transcript.Nodes.{controller}
+use Rattle.law_time.specs.law_transcript.Payloads.{nonce_get}
+use Rattle.law_time.specs.law_transcript.Units.{Carried, sending_in}
 use Rattle.law_time.specs.Heeds.{Heeds}
 use Rattle.law_time.specs.Moments.{clock}
 use Rattle.law_time.specs.Requests.{are_none}

@@ -4,9 +4,9 @@ use Rattle.std.specs.Prelude.{◌≡◌, ℕ, is_some, Bool, false, List, [], Op
 use Rattle.host_keep.specs.Kept.{Interview, Kept, KeptNode, classes_said, node_of}
 use Rattle.host_keep.specs.Legal.{Give}
 use Rattle.zw_text.specs.declared.entry.Entry.{Entry}
-use Rattle.law_transcript.specs.Nodes.{known_classes}
-use Rattle.law_transcript.specs.Records.{Shows}
-use Rattle.law_transcript.specs.Restarts.{since_restart}
+use Rattle.law_time.specs.law_transcript.Nodes.{known_classes}
+use Rattle.law_time.specs.law_transcript.Records.{Shows}
+use Rattle.law_time.specs.law_transcript.Restarts.{since_restart}
 use Rattle.law_time.specs.Interviews.{listens}
 use Rattle.law_host.specs.Course.{Book, book_of}
 use Rattle.law_host.specs.Heard.{listing_heard}

@@ -11,7 +11,7 @@ use Rattle.law_time.specs.Moments.{clock}
 use Rattle.law_time.specs.Judged.{acknowledged}
 use Rattle.law_time.specs.Requests.{are_none, asked, failing}
 use Rattle.law_time.specs.Ends.{giving_up, silence}
-use Rattle.law_transcript.specs.Table.{in_order}
+use Rattle.law_time.specs.law_transcript.Table.{in_order}
 use Rattle.law_host.specs.Course.{Course, each_in_turn}
 use Rattle.law_host.specs.Ends.{ends_without, gives_up_late}
 

@@ -6,7 +6,7 @@ use Rattle.zw_base.specs.declared.order.Word.TheVariants.{On, Off}
 use Rattle.zw_base.specs.declared.order.What.TheVariants.{Value}
 use Rattle.zw_base.specs.declared.property.Name.TheVariants as names
 use Rattle.class_info.specs.declared.report_status.ReportStatus.TheVariants.{Working}
-use Rattle.law_transcript.specs.device_stack.State.{State}
+use Rattle.law_time.specs.law_transcript.device_stack.State.{State}
 use Rattle.host_heard.specs.declared.told.Told.{Told}
 use Rattle.host_heard.specs.declared.told.Told.TheVariants as told
 use Rattle.host_keep.specs.declared.final_status.FinalStatus.TheVariants.{Success}
@@ -19,7 +19,7 @@ use Rattle.zw_text.specs.declared.entry.Ended.TheVariants as endings
 use Rattle.zw_text.specs.declared.entry.Refusal.TheVariants as refusals
 use Rattle.zw_text.specs.declared.entry.Entry.{Entry}
 use Rattle.zw_text.specs.declared.entry.Entry.TheVariants.{Said, Accepted, Refused, Begin, Dropped, Garbled, Overrun, Air, Out, Store, Report, Unstored, Old, Unread, Awake, Interviewed, Done, ChipFull, QueueFull, Held, Json, Unkept, Time}
-use Rattle.law_transcript.specs.Worked.{bytes, plain_exchange, repeated_exchange, sealed_exchange}
+use Rattle.law_time.specs.law_transcript.Worked.{bytes, plain_exchange, repeated_exchange, sealed_exchange}
 use Rattle.law_time.specs.Heeds.{heeds_of}
 use Rattle.law_time.specs.WorkedWaking.{failing_report}
 use Rattle.law_time.specs.WorkedWaits.{waited_attempts}

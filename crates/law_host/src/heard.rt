@@ -1,11 +1,11 @@
 //! What a host hears of worked transcripts, and which classes it knows by them.
 
 ghost use Rattle.std.specs.Prelude.{◌≡◌, ◌∷◌, []};
-ghost use Rattle.law_transcript.specs.Commands.{classes_for};
+ghost use Rattle.law_time.specs.law_transcript.Commands.{classes_for};
 ghost use Rattle.law_host.specs.Heard.{heard_by_host, listing_heard};
 ghost use Rattle.law_host.specs.Worked.{informed_twice, mixed, mixed_heard, plain_heard};
-ghost use Rattle.law_transcript.specs.Nodes.{host_list, listing_of};
-ghost use Rattle.law_transcript.specs.Worked.{plain_exchange, sealed_exchange, sleeping_node, the_lock, the_sensor};
+ghost use Rattle.law_time.specs.law_transcript.Nodes.{host_list, listing_of};
+ghost use Rattle.law_time.specs.law_transcript.Worked.{plain_exchange, sealed_exchange, sleeping_node, the_lock, the_sensor};
 
 /// A host hears the lines, answers, units and notes of a run, and units of the chip as they came; not what is of the air, of devices or of the
 /// chip alone. In `sim` a node listed in its interview what its device lists. Where two interviews heard different lists, a command that was accepted

@@ -28,7 +28,7 @@ ghost use Rattle.law_host.specs.Worked.{
 };
 ghost use Rattle.law_time.specs.Choice.{SendsInTurn};
 ghost use Rattle.law_time.specs.Heeds.{heeds_of};
-ghost use Rattle.law_transcript.specs.Worked.{the_lock, the_plug, the_switch};
+ghost use Rattle.law_time.specs.law_transcript.Worked.{the_lock, the_plug, the_switch};
 
 /// Of two messages in a payload a host goes by that of which the record was kept. It goes by a report that its session is at work, but not where it is
 /// of another session or told openly by a lock; by what asks for a segment of its session; and by a sealed Nonce Get, but not where no nonce is live.

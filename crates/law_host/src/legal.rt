@@ -2,7 +2,7 @@
 
 ghost use Rattle.law_time.specs.Heeds.{heeds_of};
 ghost use Rattle.std.specs.Prelude.{[], ◌∷◌, false, ℕ, Bool, List, map, Option, None, Some, true};
-ghost use Rattle.law_transcript.specs.device_stack.State.{State};
+ghost use Rattle.law_time.specs.law_transcript.device_stack.State.{State};
 ghost use Rattle.host_keep.specs.RecordText.{record_text};
 ghost use Rattle.law_host.specs.Heard.{heard_by_host};
 ghost use Rattle.law_host.specs.HostLegal.{IsHostLegal, IsLegalAlone};
@@ -11,21 +11,19 @@ ghost use Rattle.law_host.specs.Notes.{first_start};
 ghost use Rattle.law_host.specs.Starting.{IsLegalFrom, StartsFrom};
 ghost use Rattle.law_host.specs.Worked.{after_exchange, life_records, loss_untold, next_session, plain_heard, session_again, session_resumed};
 ghost use Rattle.law_time.specs.WrongWaits.{begun_silently};
-ghost use Rattle.law_transcript.specs.Devices.{after_events};
-ghost use Rattle.law_transcript.specs.Worked.{plain_exchange, refused_lines, the_switch};
-ghost use Rattle.law_transcript.specs.WorkedDevices.{plain_records, switch_events};
-ghost use Rattle.law_wire.specs.WorkedRecords.{begun_records, ordered_otherwise};
-ghost use Rattle.law_wire.specs.WorkedWrong.{answered_nothing};
+ghost use Rattle.law_time.specs.law_transcript.Devices.{after_events};
+ghost use Rattle.law_time.specs.law_transcript.Worked.{plain_exchange, refused_lines, the_switch};
+ghost use Rattle.law_time.specs.law_transcript.WorkedDevices.{plain_records, switch_events};
+ghost use Rattle.law_time.specs.law_wire.WorkedRecords.{begun_records, ordered_otherwise};
+ghost use Rattle.law_time.specs.law_wire.WorkedWrong.{answered_nothing};
 
-use law_transcript::{
-    worked_answers, worked_bringing, worked_cancels, worked_devices, worked_fates, worked_frames,
-    worked_losses, worked_payloads, worked_stores, worked_units,
+use law_time::{
+    rejected_links, rejected_records, worked_arrivals, worked_bringing, worked_cancels,
+    worked_collisions, worked_devices, worked_doings, worked_forgetting, worked_frames,
+    worked_landings, worked_links, worked_marks, worked_payloads, worked_pipes, worked_records,
+    worked_repeats, worked_routes, worked_service, worked_showing, worked_stores, worked_units,
 };
-use law_wire::{
-    rejected_links, rejected_records, worked_arrivals, worked_collisions, worked_doings,
-    worked_forgetting, worked_landings, worked_links, worked_marks, worked_pipes, worked_records,
-    worked_repeats, worked_routes, worked_service, worked_showing,
-};
+use law_transcript::{worked_answers, worked_fates, worked_losses};
 
 /// A host that refuses lines, each by its rule, is legal over what it hears of them, and alone it is over what it hears of the plain exchange.
 pub fn worked_legal()

@@ -25,7 +25,7 @@ ghost use Rattle.law_host.specs.Worked.{
   unopened,
   unopened_left_out,
 };
-ghost use Rattle.law_transcript.specs.Worked.{network_key, sealed_exchange, the_lock};
+ghost use Rattle.law_time.specs.law_transcript.Worked.{network_key, sealed_exchange, the_lock};
 
 /// In worked transcripts the host uses nonces as it should: a message is sealed for the nonce that came for it, the live nonce is given again, over
 /// a restart too, and a report opens for it, also where it was given before the host started. Where one of two records of a report is not kept,

@@ -54,7 +54,7 @@ ghost use Rattle.law_time.specs.WorkedEnds.{asleep_given_up, asleep_in_silence, 
 ghost use Rattle.law_time.specs.WorkedTurns.{dropped_after_report};
 ghost use Rattle.law_time.specs.WorkedWaits.{answered_errands, the_other_switch, waited_attempts};
 ghost use Rattle.law_time.specs.WrongEnds.{awake_after_link, awake_in_next_line};
-ghost use Rattle.law_transcript.specs.Worked.{
+ghost use Rattle.law_time.specs.law_transcript.Worked.{
   cancelled_order,
   lossy_exchange,
   plain_exchange,

@@ -3,10 +3,10 @@
 ghost use Rattle.std.specs.Prelude.{◌∷◌, [], true};
 ghost use Rattle.law_host.specs.HostLegal.{ShowsValues};
 ghost use Rattle.law_host.specs.Worked.{values_left_out, values_otherwise, values_shown, values_unasked};
-ghost use Rattle.law_transcript.specs.Lists.{EachAfter};
-ghost use Rattle.law_transcript.specs.Nodes.{always, listing_of};
-ghost use Rattle.law_transcript.specs.Worked.{plain_exchange, the_switch};
-ghost use Rattle.law_wire.specs.Serial.{ended};
+ghost use Rattle.law_time.specs.law_transcript.Lists.{EachAfter};
+ghost use Rattle.law_time.specs.law_transcript.Nodes.{always, listing_of};
+ghost use Rattle.law_time.specs.law_transcript.Worked.{plain_exchange, the_switch};
+ghost use Rattle.law_time.specs.law_wire.Serial.{ended};
 
 /// Where a line asks for the values of a node, the one that the plain exchange confirmed is shown.
 pub fn worked_shown_values()

@@ -1,2 +1,10 @@
 pub mod Computing
 pub use Rattle.law_wire.proofs.Listening
+pub use Rattle.law_wire.proofs.ShownRecords
+pub use Rattle.law_wire.proofs.Judging
+pub use Rattle.law_wire.proofs.Moves
+pub use Rattle.law_wire.proofs.Deciding
+pub use Rattle.law_wire.proofs.law_transcript_Computing
+pub use Rattle.law_wire.proofs.Having
+pub use Rattle.law_wire.proofs.law_transcript_Entries
+pub use Rattle.law_wire.proofs.Sealing

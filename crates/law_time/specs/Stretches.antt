@@ -175,13 +175,23 @@ answers_all devices before stretch =
 abbrev pub is_alone : List Entry → List Entry → Bool
 is_alone before stretch = length (workers before stretch) == 1
 
--- nodes that listen, and list neither Transport Service nor Security 0
+-- a node lists Transport Service or Security 0
+abbrev pub lists_a_layer : List State → ℕ → Bool
+lists_a_layer devices node = list_any (λ class. (class == 0x55) || (class == 0x98)) (listing_of devices node)
+
+-- nodes that listen, and list neither
 abbrev pub is_plain_listener : List State → List Entry → ℕ → Bool
-is_plain_listener devices before node =
-    listens node before && not (list_any (λ class. (class == 0x55) || (class == 0x98)) (listing_of devices node))
+is_plain_listener devices before node = listens node before && not (lists_a_layer devices node)
 
 abbrev pub are_plain_listeners : List State → List Entry → List Entry → Bool
 are_plain_listeners devices before stretch = list_all (is_plain_listener devices before) (workers before stretch)
+
+-- one node that sleeps, and lists neither
+abbrev pub is_plain_sleeper : List State → List Entry → ℕ → Bool
+is_plain_sleeper devices before node = not (listens node before) && not (lists_a_layer devices node)
+
+abbrev pub is_sleeper_alone : List State → List Entry → List Entry → Bool
+is_sleeper_alone devices before stretch = is_alone before stretch && list_all (is_plain_sleeper devices before) (workers before stretch)
 
 -- 500 ticks have passed, however many commands there are
 abbrev pub is_long_enough : List Entry → Bool
@@ -193,8 +203,15 @@ AnswersTogether key devices before stretch =
     IsCalm (always (listing_of devices)) devices before (ticks_asked (lines_run before)) → IsStretch key devices before stretch
     → are_plain_listeners devices before stretch ≡ true → is_long_enough stretch ≡ true → answers_all devices before stretch ≡ true
 
+-- of one for one node that sleeps
+abbrev pub AnswersAsleep : List ℕ → List State → List Entry → List Entry → Type 0
+AnswersAsleep key devices before stretch =
+    IsCalm (always (listing_of devices)) devices before (ticks_asked (lines_run before)) → IsStretch key devices before stretch
+    → is_sleeper_alone devices before stretch ≡ true → is_long_enough stretch ≡ true → answers_all devices before stretch ≡ true
+
 -- and of one for one node of any kind
 pub record AnswersInTime (key : List ℕ) (devices : List State) (before stretch : List Entry) : Type 0 where
   pub alone : IsCalm (always (listing_of devices)) devices before (ticks_asked (lines_run before)) → IsStretch key devices before stretch
       → is_alone before stretch ≡ true → is_time before stretch ≡ true → answers_all devices before stretch ≡ true
+  pub asleep : AnswersAsleep key devices before stretch
   pub together : AnswersTogether key devices before stretch

@@ -286,6 +286,10 @@ asleep_not_yet =
     Written Chip (bytes (codes "01080004000502840777")) ∷ Written Host (bytes (codes "06")) ∷ Awake 5 ∷
     Written Chip (bytes (codes "010D00498405070400003180846C60")) ∷ Written Host (bytes (codes "06")) ∷ Interviewed 5 ∷ []
 
+-- `interval 5 300`, `wake 5`, `tick 500`: the node that sleeps is woken, and its command never answered
+abbrev pub left_asleep : List Entry
+left_asleep = Said (codes "interval 5 300") ∷ Accepted 1 5 ∷ Said (codes "wake 5") ∷ Said (codes "tick 500") ∷ []
+
 -- a node that sleeps is not woken
 abbrev pub stretch_unwoken : List Entry
 stretch_unwoken =

@@ -29,6 +29,13 @@ pub use choice::{
     rejected_callbacks, rejected_choice, rejected_one_by_one, worked_callbacks, worked_choice,
     worked_one_by_one,
 };
+pub use law_wire::{
+    rejected_links, rejected_records, worked_answers, worked_arrivals, worked_bringing,
+    worked_cancels, worked_collisions, worked_devices, worked_doings, worked_fates,
+    worked_forgetting, worked_frames, worked_landings, worked_links, worked_losses, worked_marks,
+    worked_payloads, worked_pipes, worked_records, worked_repeats, worked_routes, worked_service,
+    worked_showing, worked_stores, worked_units,
+};
 pub use queue::{rejected_queue, rejected_turns, worked_queue, worked_turns};
 pub use requests::{
     rejected_errands, rejected_interviews, rejected_questions, worked_errands, worked_interviews,

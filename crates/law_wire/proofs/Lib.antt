@@ -24,3 +24,5 @@ pub mod Walks
 pub use Rattle.law_transcript.proofs.Computing as law_transcript_Computing
 pub use Rattle.law_transcript.proofs.Deciding
 pub use Rattle.law_transcript.proofs.Having
+pub use Rattle.law_transcript.proofs.Entries as law_transcript_Entries
+pub use Rattle.law_transcript.proofs.Sealing

@@ -161,12 +161,6 @@ fourth_late given =
 
 -- ---- a report that is kept back
 
-take_whole : (count : ℕ) (parts : List (List Step)) → length parts ≡ count → take count parts ≡ parts
-take_whole zero [] same = refl
-take_whole zero (part ∷ parts) same = absurd (omega (arith, same))
-take_whole (suc count) [] same = absurd (omega (arith, same))
-take_whole (suc count) (part ∷ parts) same = ap (λ (more : List (List Step)). part ∷ more) (take_whole count parts (omega (arith, same)))
-
 one_none : ◌≡◌ {A = ℕ} 1 0 → ⊥
 one_none e = omega (arith, e)
 

@@ -54,12 +54,7 @@ chip_history =
 abbrev pub without_copies : List FrameParts → List Entry → Course
 without_copies passed transcript = record { passed = passed; firsts = map (λ unit. not (length unit == 1)) (written Chip transcript) }
 
--- the frames that the chip passes up where two routes are there, where there is none, and where a node has no link
-abbrev pub passed_in_rerouted : List FrameParts
-passed_in_rerouted =
-    request 0x41 (codes "0A") ∷ request 0x60 (codes "0A") ∷ request 0x13 (codes "0A076C0101032501FF2501")
-    ∷ request 0x13 (codes "0A076C0101032501FF2502") ∷ []
-
+-- the frames that the chip passes up where no route is there, and where a node has no link
 abbrev pub passed_in_unroutable : List FrameParts
 passed_in_unroutable = request 0x02 [] ∷ switching_on ∷ request 0x13 (codes "02076C0101032501FF2502") ∷ []
 

@@ -47,6 +47,10 @@ pub use fates::{
 };
 pub use full::{rejected_waits, worked_full, worked_waits};
 pub use halted::{rejected_halted, worked_halted};
+pub use law_transcript::{
+    worked_bringing, worked_cancels, worked_devices, worked_frames, worked_payloads, worked_stores,
+    worked_units,
+};
 pub use links::{rejected_links, rejected_service, worked_links, worked_service};
 pub use marks::{
     rejected_answers_by, rejected_losses, rejected_marks, worked_answers_by, worked_collisions,

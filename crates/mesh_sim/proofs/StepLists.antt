@@ -239,13 +239,6 @@ module _ {V E : Type 0} (r : Result V E) (old new : AirState) (ds : States) (hea
       ∙ (ap (λ n. tells.Heard (old.frames.landed + 1) ∷ tells.ToChip (old.frames.landed + 1) n payload ∷ []) comes.ends
       ∙ ap (λ p. tells.Heard (old.frames.landed + 1) ∷ tells.ToChip (old.frames.landed + 1) comes.frame.node p ∷ []) comes.carries))
 
-  pub pass_stops : OnErr r (new ≡ old) → OnErr r (all ≡ before) → OnErr r (Stops old ds new ds before all)
-  pass_stops = go r
-    where
-      go : (s : Result V E) → OnErr s (new ≡ old) → OnErr s (all ≡ before) → OnErr s (Stops old ds new ds before all)
-      go (Ok v) same told = tt
-      go (Err e) same told = stop_now old new ds ds before all same told (inl refl)
-
 -- a frame that a device hears
 module _ {V E : Type 0} (r : Result V E) (old new : AirState) (ds later : States) (place : ℕ) (d d' : State) (heading : Heading) (fate : Fate) (number node : ℕ) (payload drawn : List ℕ) (before all : List AirEvent)
     (comes : Comes old ds heading fate number node payload) (is : fate ≡ AtDevice place) (at : slice_get ds place ≡ Some d) (set_is : later ≡ set ds place d') (eight : length drawn ≡ 8) where

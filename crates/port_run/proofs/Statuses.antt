@@ -41,16 +41,3 @@ keeper_fault_only served.ReadFault same = absurd (cc same)
 keeper_fault_only served.WriteFault same = absurd (cc same)
 keeper_fault_only served.InputTooLong same = absurd (cc same)
 keeper_fault_only served.NoMemory same = absurd (cc same)
-
--- words are told from no command before they come here
-pub never_usage : (end : Served) → status_of end ≡ status.Usage → ⊥
-never_usage served.Ok same = cc
-never_usage (served.Undone number) same = cc
-never_usage (served.BadLine number fault) same = cc
-never_usage (served.Opening opening.KeeperFault) same = cc
-never_usage (served.Opening (opening.BadRecord at)) same = cc
-never_usage (served.Opening opening.NoMemory) same = cc
-never_usage served.ReadFault same = cc
-never_usage served.WriteFault same = cc
-never_usage served.InputTooLong same = cc
-never_usage served.NoMemory same = cc

@@ -31,22 +31,6 @@ broke_read Tells left a s l m n kept within = record {
   ends = refl;
 }
 
--- it gave too much
-pub broke_long : (Tells : Telling) (left : ℕ) (piece : List ℕ) (a : Place) (s l m : Option (List ℕ)) (n : ℕ) → Consumes l m piece → length piece ≤ PIECE → n ≤ MAX_INPUT → MAX_INPUT < n + length piece
-    → Broke (CutTurn Tells left) InputTooLong a a s s l m n
-broke_long Tells left piece a s l m n took short within long = record {
-  steps = [];
-  cut = refl;
-  halts = none_wrote a s;
-  mid = l;
-  reads = Keeps-refl l;
-  rest = piece;
-  consumed = took;
-  short = short;
-  within = omega (arith, within);
-  ends = omega (arith, long);
-}
-
 cut_reading : (Tells : Telling) (left : ℕ) (turn : Turn) (stop : Stop) (steps : List Step) → IsTurn Tells left turn → CutRead turn.piece stop steps → CutTurn Tells left stop steps
 cut_reading Tells left turn ReadFault steps is (some, inl cut) = absurd cut.0
 cut_reading Tells left turn ReadFault steps is (some, inr cut) = absurd cut

@@ -8,6 +8,10 @@ pub mod HeardCalls
 pub mod Outwards
 pub mod NodeSteps
 pub mod AttemptEnds
+pub mod KeptUp
+pub mod HostsKeepUp
+pub mod AwakeNodes
+pub mod WokenLast
 pub mod FirstWalk
 pub mod TurnOrder
 pub mod Staffing

@@ -18,7 +18,7 @@ use Rattle.proof_answered.specs.Listening.{HasListener, IsUp}
 
 -- ---- what it hears
 
-fate_so : (lost : Bool) (dead : Option (ℕ × ℕ)) (heading : Heading) (listener : Option ℕ) (place : ℕ) → lost ≡ false → dead ≡ None → heading ≡ Outward → listener ≡ Some place
+pub fate_so : (lost : Bool) (dead : Option (ℕ × ℕ)) (heading : Heading) (listener : Option ℕ) (place : ℕ) → lost ≡ false → dead ≡ None → heading ≡ Outward → listener ≡ Some place
     → (if lost then Lost else fate_by dead heading listener) ≡ AtDevice place
 fate_so lost dead heading listener place kept live out there = rw kept (rw live (rw out (rw there refl)))
 

@@ -5,4 +5,5 @@ pub mod Outward
 pub mod FirstAttempts
 pub mod Turns
 pub mod Workers
+pub mod Sleepers
 pub use Rattle.proof_calm.specs as proof_calm

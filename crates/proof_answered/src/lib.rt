@@ -18,6 +18,7 @@ mod heard;
 mod hearing;
 mod listening;
 mod serving;
+mod sleepers;
 mod working;
 
 pub use attempts::attempts_stay_first;
@@ -27,4 +28,5 @@ pub use hearing::{networks_hear, nodes_hear};
 pub use listening::listeners_hear;
 pub use proof_calm::{frames_fly_in_order, hosts_are_tended, work_in_order_means};
 pub use serving::nodes_are_served_in_turn;
+pub use sleepers::{awake_nodes_hear, nodes_are_woken_last, work_keeps_nodes_up};
 pub use working::{workers_alone_speak, workers_hear};

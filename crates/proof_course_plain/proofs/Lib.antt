@@ -35,6 +35,7 @@ pub mod Runs
 pub mod TrueSuccesses
 pub mod TrueLines
 pub use Rattle.proof_once.proofs.TieSteps
+pub use Rattle.proof_once.proofs.Once
 pub use Rattle.proof_world.proofs.Always
 pub use Rattle.proof_world.proofs.Heard
 pub use Rattle.proof_traffic.proofs.ChangesOutside

@@ -38,13 +38,14 @@ use Rattle.proof_once.specs.proof_messages.Ending.{HasEnded, one_at_work}
 use Rattle.proof_once.specs.proof_messages.Asking.{message_in, takes_openly, verdict_on, MakesOnly, IsAtWork, IsUntouched, IsLeft, Follows}
 use Rattle.proof_once.specs.proof_messages.Others.{IsOther}
 use Rattle.proof_once.specs.proof_messages.Segments.{KeepsSegment, MakesWhole}
+use Rattle.proof_once.specs.proof_messages.Slices.{KeepsSlices}
 use Rattle.proof_course_plain.specs.Meaning.{Asked, IsMessageOf, IsSegmentOf, IsMessage, HostMeans}
 use Rattle.proof_course_plain.specs.Making.{IsAskedFor, IsToTell, MakesBy, MakesAsked, KeepsNext, Makes, AllMake, NamesNext, Names, HearsNone}
 use Rattle.proof_course_plain.specs.Device.{AtDevice}
 use Rattle.proof_course_plain.proofs.Flights.{message_stays}
 use Rattle.proof_once.proofs.NonceNumbers.{numbered-more as numbered-append}
 use Rattle.proof_once.proofs.SessionMessages.{knows_supervision}
-use Rattle.proof_course_plain.proofs.Segments.{Laws as SegmentLaws, IsNext, IsAnother, segment_heard}
+use Rattle.proof_course_plain.proofs.Segments.{Laws as SegmentLaws, IsNext, IsAnother, kept_slices, segment_heard}
 use Rattle.proof_course_plain.proofs.Devices.{at_rest}
 use Rattle.proof_course_plain.proofs.WorkTold.{AnswersLate, work_told}
 use Rattle.proof_traffic.proofs.ChangesOutside.{get_set}
@@ -72,7 +73,7 @@ changes_stay orders more commands later (change ∷ journal) all = (change_stays
 keeps_stay : (orders more : List Asked) (commands later : List ℕ) (session : ℕ) (kept : Reassembly) → KeepsNext orders commands session kept → KeepsNext (orders ++ more) (commands ++ later) session kept
 keeps_stay orders more commands later session Empty is = tt
 keeps_stay orders more commands later session (Partial id places) is =
-    record { message = is.message; of = message_stays orders more commands later session is.message is.of; id_is = is.id_is; agrees = is.agrees }
+    record { message = is.message; of = message_stays orders more commands later session is.message is.of; id_is = is.id_is; agrees = is.agrees; slices = is.slices }
 
 pub all_make_more : (node : ℕ) (orders more : List Asked) (commands later : List ℕ) (devices : List State) → AllMake node orders commands devices → AllMake node (orders ++ more) (commands ++ later) devices
 all_make_more node orders more commands later devices all place device stands own =
@@ -212,6 +213,7 @@ segment_makes laws orders commands c device session payload drawn at awake is na
               of = subst (λ (s : ℕ). IsMessageOf orders commands s is.message) (sym after) is.of;
               id_is = ap (λ (s : ℕ). s % 16) (sym after);
               agrees = subst (λ (r : Reassembly). Agrees is.message (session % 16) r) k.kept k.agrees;
+              slices = subst KeepsSlices k.kept (next.slices (kept_slices orders commands (device.sessions.taken + 1) device.reassembly m.keeps));
             })) m
         heard (inr (whole, said)) =
             let made = message_makes laws orders commands c device session is.message drawn at awake is.of true names.0 m in

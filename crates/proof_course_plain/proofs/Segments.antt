@@ -28,6 +28,7 @@ use Rattle.proof_once.specs.proof_messages.Landing.{IsOf}
 use Rattle.proof_once.specs.proof_messages.Others.{IsNoGet}
 use Rattle.proof_once.specs.proof_messages.Reporting.{TellsNone}
 use Rattle.proof_once.specs.proof_messages.Segments.{KeepsSegment, MakesWhole}
+use Rattle.proof_once.specs.proof_messages.Slices.{KeepsSlices}
 use Rattle.proof_once.proofs.SessionMessages.{knows_supervision}
 use Rattle.proof_course_plain.specs.Meaning.{Asked, IsMessageOf, IsSegmentOf}
 use Rattle.proof_course_plain.specs.Making.{KeepsNext, NamesNext}
@@ -49,6 +50,11 @@ kept_agrees orders commands session message Empty of keeps = tt
 kept_agrees orders commands session message (Partial id places) of keeps =
     subst (λ (m : List ℕ). Agrees m (session % 16) (Partial id places)) (same_message orders commands session keeps.message message keeps.of of)
     (subst (λ (i : ℕ). Agrees keeps.message i (Partial id places)) keeps.id_is keeps.agrees)
+
+-- and came in slices
+pub kept_slices : (orders : List Asked) (commands : List ℕ) (session : ℕ) (kept : Reassembly) → KeepsNext orders commands session kept → KeepsSlices kept
+kept_slices orders commands session Empty keeps = tt
+kept_slices orders commands session (Partial id places) keeps = keeps.slices
 
 addressed_whole : (channel : Option Ends) (asked : Supervised) (text : List ℕ) → is_segment (addressed_form channel (supervised_form (Some asked) text)) ≡ false
 addressed_whole None asked text = refl
@@ -77,6 +83,9 @@ pub record Laws : Type 0 where
       → IsPart message (session % 16) segment → is_segment message ≡ false → session % 16 ≡ (device.sessions.taken + 1) % 16 → Agrees message (session % 16) device.reassembly
       → KeepsSegment message (session % 16) device (device_after device (Hears segment drawn)) (device_replies device (Hears segment drawn))
       ⊎ MakesWhole (session % 16) (device_after device (Hears message drawn)) (device_replies device (Hears message drawn)) (device_after device (Hears segment drawn)) (device_replies device (Hears segment drawn))
+  pub slices : (device : State) (message drawn : List ℕ) (session place : ℕ) → device.awake ≡ true → device.kind ≡ Configurable → length message ≤ 512 → 39 * place < length message → is_segment message ≡ false
+      → session % 16 ≡ (device.sessions.taken + 1) % 16 → Agrees message (session % 16) device.reassembly → KeepsSlices device.reassembly
+      → KeepsSlices (device_after device (Hears (segment_text (session % 16) (length message) (39 * place) (slice_at message place)) drawn)).reassembly
   pub other : (device : State) (message segment drawn : List ℕ) (session : ℕ) → device.kind ≡ Configurable
       → IsPart message (session % 16) segment → session % 16 ≢ (device.sessions.taken + 1) % 16 → IsLeft device (device_after device (Hears segment drawn))
   pub other_says : (device : State) (message segment drawn : List ℕ) (session : ℕ) → device.awake ≡ true → device.kind ≡ Configurable
@@ -111,6 +120,7 @@ module _ (laws : Laws) (orders : List Asked) (commands : List ℕ) (device : Sta
     pub same : session % 16 ≡ (device.sessions.taken + 1) % 16
     pub heard : KeepsSegment is.message (session % 16) device (device_after device (Hears payload drawn)) (device_replies device (Hears payload drawn))
         ⊎ MakesWhole (session % 16) (device_after device (Hears is.message drawn)) (device_replies device (Hears is.message drawn)) (device_after device (Hears payload drawn)) (device_replies device (Hears payload drawn))
+    pub slices : KeepsSlices device.reassembly → KeepsSlices (device_after device (Hears payload drawn)).reassembly
 
   pub record IsAnother : Type 0 where
     pub left : IsLeft device (device_after device (Hears payload drawn))
@@ -128,7 +138,13 @@ module _ (laws : Laws) (orders : List Asked) (commands : List ℕ) (device : Sta
           let session_is : session ≡ device.sessions.taken + 1 = named refl e in
           let agrees : Agrees is.message (session % 16) device.reassembly =
           kept_agrees orders commands session is.message device.reassembly is.of (subst (λ (s : ℕ). KeepsNext orders commands s device.reassembly) (sym session_is) keeps) in
-          inl (record { same = same; heard = laws.next device is.message payload drawn session awake kind part whole same agrees })
+          inl (record {
+            same = same;
+            heard = laws.next device is.message payload drawn session awake kind part whole same agrees;
+            slices = λ kept.
+                subst (λ (p : List ℕ). KeepsSlices (device_after device (Hears p drawn)).reassembly) (sym is.text)
+                (laws.slices device is.message drawn session is.place awake kind is.most is.within whole same agrees kept);
+          })
       of_next false e kind =
           let other : session % 16 ≢ (device.sessions.taken + 1) % 16 = λ same. let bad : true ≡ false = sym ((Decides-eqb (session % 16) ((device.sessions.taken + 1) % 16)).1 same) ∙ e in absurd cc in
           inr (record { left = laws.other device is.message payload drawn session kind part other; says = inr (laws.other_says device is.message payload drawn session awake kind part other) })

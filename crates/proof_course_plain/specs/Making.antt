@@ -18,6 +18,7 @@ use Rattle.device_stack.specs.Effects.{work_ticks}
 use Rattle.device_stack.specs.declared.work.Work.{Work}
 use Rattle.device_sim.specs.State.{State}
 use Rattle.device_sim.specs.Event.{DeviceEvent, Hears, Ticks, Wakes, Sets}
+use Rattle.proof_once.specs.proof_messages.Slices.{KeepsSlices}
 use Rattle.proof_course_plain.specs.Meaning.{Asked, IsMessageOf}
 
 -- these are the settings that the command of a session asks for, as it was accepted
@@ -37,12 +38,13 @@ MakesBy orders commands Local made = Unit {0}
 abbrev pub MakesAsked : List Asked → List ℕ → Change → Type 0
 MakesAsked orders commands change = MakesBy orders commands change.by change.settings
 
--- each byte that is kept is that of the message of this session
+-- each byte that is kept is that of the message of this session, and they came in whole slices
 pub record KeepsOf (orders : List Asked) (commands : List ℕ) (session id : ℕ) (kept : Reassembly) : Type 0 where
   pub message : List ℕ
   pub of : IsMessageOf orders commands session message
   pub id_is : id ≡ session % 16
   pub agrees : Agrees message id kept
+  pub slices : KeepsSlices kept
 
 -- so it is with what is kept of segments, if anything is
 abbrev pub KeepsNext : List Asked → List ℕ → ℕ → Reassembly → Type 0

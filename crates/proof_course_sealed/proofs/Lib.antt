@@ -30,3 +30,4 @@ pub mod OtherAsks
 pub mod Runs
 pub mod Places
 pub use Rattle.proof_course_plain.proofs.AsMade
+pub use Rattle.proof_course_plain.proofs.Once

@@ -1,7 +1,7 @@
 -- A machine that has the course of a node has its device tied to the host; and what is true at all events is so line by line.
-use Rattle.std.proofs.Common.{◌≡◌, ℕ, Bool, true, false, List, [], ◌∷◌, length, Option, Some, ◌++◌, Ok, if◌then◌else◌, ◌==◌, slice_get, refl, sym, ap, ap₂, subst, ◌∙◌, arith}
+use Rattle.std.proofs.Common.{◌≡◌, ℕ, Bool, true, false, List, [], ◌∷◌, length, Some, ◌++◌, Ok, if◌then◌else◌, ◌==◌, slice_get, refl, sym, ap, subst, ◌∙◌, arith}
 use Rattle.std.specs.List.{AllByRecursion}
-use Rattle.supervision.specs.Host.{HostBook, begun_of, open_session}
+use Rattle.supervision.specs.Host.{HostBook, begun_of}
 use Rattle.proof_course.specs.Sessions.{Course}
 use Rattle.proof_course.specs.SessionFacts.{CourseFacts}
 use Rattle.device_sim.specs.State.{State}
@@ -25,6 +25,7 @@ use Rattle.proof_headline.specs.Truly.{LinesAreTrue}
 use Rattle.proof_course_sealed.specs.Plain.{HasCourse, NamesEnd}
 use Rattle.proof_course_sealed.proofs.Places.{one_place, one_stands}
 use Rattle.proof_course_sealed.proofs.AsMade.{finds}
+use Rattle.proof_course_sealed.proofs.Once.{retold}
 
 -- ---- lines
 
@@ -79,17 +80,10 @@ retied : (commands : List Command) (was now : HostBook) (device : State) (finals
 retied commands was now device finals told same ended tied =
     let count : begun_of now ≡ begun_of was = ap (λ (l : List ℕ). length l) same in
     let within = tied.begun in
-    let opened : open_session now ≡ open_session was =
-    ap₂ (λ (o : Option ℕ) (l : List ℕ). open_session (record { commands = l; outcome = o; attempts = 0 })) ended same in
     record {
       ended = tied.ended;
       begun = omega (arith, within, count);
-      told_are = record {
-        rest = tied.told_are.rest;
-        prefix = tied.told_are.prefix;
-        closed = λ none. tied.told_are.closed (sym opened ∙ none) ∙ sym count;
-        opened = λ session some. tied.told_are.opened session (sym opened ∙ some) ∙ sym count;
-      };
+      told_are = retold was now finals told same ended tied.told_are;
       outcomes = subst (λ (l : List ℕ). AreOutcomes commands l told) (sym same) tied.outcomes;
       made = subst (λ (l : List ℕ). AllByRecursion (MakesWhatIsTaken commands l) device.journal) (sym same) tied.made;
     }

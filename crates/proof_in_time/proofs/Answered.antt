@@ -12,8 +12,6 @@ use Rattle.supervision.specs.declared.device_book.Heard.{Heard}
 use Rattle.supervision.specs.declared.device_book.Heard.TheVariants.{New, Again, Old}
 use Rattle.encap.specs.Opening.{Message, opened_at}
 use Rattle.class_info.specs.InfoSpelling.{form}
-use Rattle.class_info.specs.declared.message.InfoMessage.TheVariants.{SupervisionReport}
-use Rattle.class_info.specs.declared.report_status.ReportStatus.TheVariants as statuses
 use Rattle.encap.specs.Written.{AreEnds, addressed_form, checked_form}
 use Rattle.zw_base.specs.Crc.{crc}
 use Rattle.encap.specs.declared.plan.Outer.TheVariants.{None as no_outer, Crc16, Security, Transport}
@@ -28,12 +26,12 @@ use Rattle.device_kinds.specs.declared.effect.Effect.{Effect}
 use Rattle.device_kinds.specs.declared.effect.Effect.TheVariants.{Ignores, Repeats, Takes}
 use Rattle.device_kinds.specs.declared.verdict.Verdict.{Verdict}
 use Rattle.device_kinds.specs.declared.verdict.Verdict.TheVariants.{NoSupport, Fails, Makes, Works}
-use Rattle.device_kinds.specs.Answers.{answer_plan, report_status, swapped, worded}
+use Rattle.device_kinds.specs.Answers.{answer_plan, swapped, worded}
 use Rattle.device_kinds.specs.Effects.{effect_in_session, end_of}
 use Rattle.device_kinds.specs.Judging.{judged_message}
 use Rattle.device_kinds.specs.Kind.{lists}
 use Rattle.device_stack.specs.State.{State, Outcome, silent, value_of, last_level_of}
-use Rattle.device_stack.specs.Answers.{asks_to_wake, final_report, status_report}
+use Rattle.device_stack.specs.Answers.{final_report, status_report}
 use Rattle.device_stack.specs.Effects.{after_effect, answer_of, effect_of, takes}
 use Rattle.device_stack.specs.Hearing.{active, answers, answers_bytes, hears, hears_by, hears_openly, sent_openly}
 use Rattle.device_stack.specs.Ticking.{aged, ticked, works_out}
@@ -41,9 +39,9 @@ use Rattle.device_sim.specs.Event.{Hears, Ticks, device_after, device_replies, o
 use Rattle.device_sim.specs.Laws.{IsHeard}
 use Rattle.proof_messages.specs.Asking.{MakesOnly, message_in, takes_openly, verdict_on}
 use Rattle.proof_messages.specs.Reporting.{CanBeAnswered}
-use Rattle.proof_messages.proofs.DeviceReports.{opened_ends, own_heard, taken_own, text_by}
+use Rattle.proof_messages.proofs.DeviceReports.{opened_ends, own_heard, report_length, taken_own, text_by}
 use Rattle.proof_messages.proofs.SessionMessages.{awake_after, headed_no_segment, knows_supervision, message_headed, openly_by}
-use Rattle.proof_in_time.specs.Answering.{AnswersSession, Goes_on, Ends as Ends_work, IsAtWork, IsDone, IsDoneOrAtWork, IsInStep, IsStill, Last, Next, StaysDone, WorksOn}
+use Rattle.proof_in_time.specs.Answering.{AnswersSession, Goes_on, Ends as Ends_work, IsAtWork, IsAwakeNow, IsDone, IsDoneOrAtWork, IsInStep, IsStill, Last, Next, StaysDone, WorksOn}
 use Rattle.proof_course_plain.proofs.Levels.{works_time}
 use Rattle.proof_answered.proofs.Ending.{both}
 
@@ -83,13 +81,6 @@ heard_last sessions id session last some named =
 
 -- ---- a report is short
 
-report_length : (device : State) (asked : Supervised) (status : ℕ) → length (form (status_report device asked status)) ≡ 5
-report_length device asked status = by (status == WORKING)
-  where
-    by : (b : Bool) → length (form (if b then SupervisionReport asked.updates false asked.id statuses.Working 1 else SupervisionReport false (asks_to_wake device) asked.id (report_status status) 0)) ≡ 5
-    by true = refl
-    by false = refl
-
 abbrev IsShort : List ℕ → Type 0
 IsShort text = (1 ≤ length text) × (length text ≤ 46)
 
@@ -121,7 +112,7 @@ by_effect device plan effect = record { device = after_effect device plan effect
 abbrev Answers : ℕ → Outcome → Type 0
 Answers session outcome = AnswersSession session outcome.device outcome.replies
 
-module _ (device : State) (batch : Bool) (asked : Supervised) (channel : Option Ends) (outer : Outer) (session : ℕ) (ends : AreEnds (swapped channel)) (named : asked.id ≡ wire_id session) where
+module _ (device : State) (batch : Bool) (asked : Supervised) (channel : Option Ends) (outer : Outer) (session : ℕ) (ends : AreEnds (swapped channel)) (named : asked.id ≡ wire_id session) (up : IsAwakeNow device) where
   abbrev plan : Plan
   plan = plan_with batch asked channel outer
 
@@ -133,6 +124,7 @@ module _ (device : State) (batch : Bool) (asked : Supervised) (channel : Option 
     tells = taken_own plan (swapped channel) outer device asked (Makes made) ends (named ∙ ap wire_id next);
     some = (text_short (swapped channel) outer device asked SUCCESS).0;
     few = (text_short (swapped channel) outer device asked SUCCESS).1;
+    up = record { awake = up.awake; now = up.now };
     comes_to = inl (record { over = λ e. let no : 255 ≡ 1 = e in absurd cc; no_work = done.no_work });
   }
   taken_answers (Works made) next done late = record {
@@ -142,6 +134,7 @@ module _ (device : State) (batch : Bool) (asked : Supervised) (channel : Option 
     tells = taken_own plan (swapped channel) outer device asked (Works made) ends (named ∙ ap wire_id next);
     some = (text_short (swapped channel) outer device asked WORKING).0;
     few = (text_short (swapped channel) outer device asked WORKING).1;
+    up = record { awake = up.awake; now = up.now };
     comes_to = inr (record { working = refl; some = omega arith; few = omega arith; plan = plan; told = ap (λ (b : Bool). if b then Some plan else None) (late made refl) });
   }
   taken_answers Fails next done late = record {
@@ -151,6 +144,7 @@ module _ (device : State) (batch : Bool) (asked : Supervised) (channel : Option 
     tells = taken_own plan (swapped channel) outer device asked Fails ends (named ∙ ap wire_id next);
     some = (text_short (swapped channel) outer device asked FAIL).0;
     few = (text_short (swapped channel) outer device asked FAIL).1;
+    up = record { awake = up.awake; now = up.now };
     comes_to = inl (record { over = λ e. let no : 2 ≡ 1 = e in absurd cc; no_work = done.no_work });
   }
   taken_answers NoSupport next done late = record {
@@ -160,6 +154,7 @@ module _ (device : State) (batch : Bool) (asked : Supervised) (channel : Option 
     tells = taken_own plan (swapped channel) outer device asked NoSupport ends (named ∙ ap wire_id next);
     some = (text_short (swapped channel) outer device asked NO_SUPPORT).0;
     few = (text_short (swapped channel) outer device asked NO_SUPPORT).1;
+    up = record { awake = up.awake; now = up.now };
     comes_to = inl (record { over = λ e. let no : 0 ≡ 1 = e in absurd cc; no_work = done.no_work });
   }
 
@@ -171,6 +166,7 @@ module _ (device : State) (batch : Bool) (asked : Supervised) (channel : Option 
     tells = own_heard (swapped channel) outer device device asked device.sessions.status ends (named ∙ ap wire_id last) refl refl;
     some = (text_short (swapped channel) outer device asked device.sessions.status).0;
     few = (text_short (swapped channel) outer device asked device.sessions.status).1;
+    up = up;
     comes_to = is;
   }
 
@@ -196,11 +192,11 @@ module _ (device : State) (batch : Bool) (asked : Supervised) (channel : Option 
 
 -- ---- a payload that is heard
 
-heard_replies : (device : State) (payload drawn : List ℕ) → device.awake ≡ true → device_replies device (Hears payload drawn) ≡ (hears_by device.kind (active device) payload drawn).replies
+pub heard_replies : (device : State) (payload drawn : List ℕ) → device.awake ≡ true → device_replies device (Hears payload drawn) ≡ (hears_by device.kind (active device) payload drawn).replies
 unfolding device_replies outcome_of hears
 heard_replies device payload drawn e = rw e refl
 
-opened_whole : (device : State) (payload : List ℕ) (message : Message) → opened_at payload ≡ Some message → hears_openly device payload ≡ sent_openly (answers device message)
+pub opened_whole : (device : State) (payload : List ℕ) (message : Message) → opened_at payload ≡ Some message → hears_openly device payload ≡ sent_openly (answers device message)
 unfolding hears_openly answers_bytes
 opened_whole device payload message e = rw e refl
 
@@ -223,7 +219,7 @@ message_answered device drawn carriage order session opened target only awake ta
     λ made works. works_time device carriage order made only
     (ap (λ (end : ℕ). judged_message device.kind (value_of device) (last_level_of device) end message.plan.batch message.commands) (sym target) ∙ works) in
     let answered : Answers session (sent_openly (answers (active device) message)) =
-    supervised_answers (active device) message.plan.batch asked message.plan.channel message.plan.outer session (opened_ends payload message opened) refl message.commands
+    supervised_answers (active device) message.plan.batch asked message.plan.channel message.plan.outer session (opened_ends payload message opened) refl (record { awake = awake; now = refl }) message.commands
     (knows_supervision device.kind takes) (active_step session device is) late in
     let at : Answers session (hears_by device.kind (active device) payload drawn) = subst (Answers session) (sym outcome) answered in
     subst (λ (new : State). AnswersSession session new (device_replies device (Hears payload drawn))) (sym (awake_after device payload drawn awake))

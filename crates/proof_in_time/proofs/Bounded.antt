@@ -85,7 +85,7 @@ runs_or_not series.Running = inl refl
 runs_or_not series.Idle = inr (λ e. absurd cc)
 runs_or_not series.Due = inr (λ e. absurd cc)
 
-far : (wait left own : ℕ) → (wait ≡ 0) ⊎ (90 + left + own ≤ wait) → wait ≢ 1
+far : (wait left own : ℕ) → (wait ≡ 0) ⊎ (70 + left + own ≤ wait) → wait ≢ 1
 far wait left own (inl none) one = omega (arith, none, one)
 far wait left own (inr more) one = omega (arith, more, one)
 
@@ -139,7 +139,7 @@ Goes_on n here m next later = (left : ℕ) → Coming n (session_of n m) left he
 abbrev pub NoMore : ℕ → Phase → Phase → Type 0
 NoMore n here next = own_ticks n next ≤ own_ticks n here
 
-pub as_far : (wait left old new : ℕ) → new ≤ old → (wait ≡ 0) ⊎ (90 + left + old ≤ wait) → (wait ≡ 0) ⊎ (90 + left + new ≤ wait)
+pub as_far : (wait left old new : ℕ) → new ≤ old → (wait ≡ 0) ⊎ (70 + left + old ≤ wait) → (wait ≡ 0) ⊎ (70 + left + new ≤ wait)
 as_far wait left old new less (inl none) = inl none
 as_far wait left old new less (inr more) = inr (omega (arith, less, more))
 
@@ -163,7 +163,7 @@ module _ (n most : ℕ) (here next : Phase) (less : NoMore n here next) where
           few = b.few;
           within = b.within;
           comes = subst (λ (s : ℕ). Coming n s b.left next later) (sym (ap (λ (h : HostState). begun_of (node_of h n).book) same)) (goes was b.left b.comes);
-          waits = subst (λ (h : HostState). ((node_of h n).attempt_wait ≡ 0) ⊎ (90 + b.left + own_ticks n next ≤ (node_of h n).attempt_wait)) (sym same)
+          waits = subst (λ (h : HostState). ((node_of h n).attempt_wait ≡ 0) ⊎ (70 + b.left + own_ticks n next ≤ (node_of h n).attempt_wait)) (sym same)
               (as_far (node_of m.host.state n).attempt_wait b.left (own_ticks n here) (own_ticks n next) less b.waits);
         };
   }
@@ -196,7 +196,7 @@ later_waits n most more here m less w = record {
 
 -- ---- where it does something
 
-pub again_far : (wait old left was now : ℕ) → left ≤ 6 → now ≤ was → was ≤ 1 → (wait ≡ old) ⊎ (wait ≡ 100) → (old ≡ 0) ⊎ (90 + left + was ≤ old) → (wait ≡ 0) ⊎ (90 + left + now ≤ wait)
+pub again_far : (wait old left was now : ℕ) → left ≤ 23 → now ≤ was → was ≤ 1 → (wait ≡ old) ⊎ (wait ≡ 100) → (old ≡ 0) ⊎ (70 + left + was ≤ old) → (wait ≡ 0) ⊎ (70 + left + now ≤ wait)
 again_far wait old left was now few less once (inl same) (inl none) = inl (same ∙ none)
 again_far wait old left was now few less once (inl same) (inr more) = inr (omega (arith, same, more, less))
 again_far wait old left was now few less once (inr anew) so = inr (omega (arith, anew, few, less, once))
@@ -223,7 +223,7 @@ module _ (n most : ℕ) (within : n < 233) where
       }
 
   -- its own tick
-  less_far : (wait old left own : ℕ) → wait ≡ old - 1 → (old ≡ 0) ⊎ (90 + left + (1 + own) ≤ old) → (wait ≡ 0) ⊎ (90 + left + own ≤ wait)
+  less_far : (wait old left own : ℕ) → wait ≡ old - 1 → (old ≡ 0) ⊎ (70 + left + (1 + own) ≤ old) → (wait ≡ 0) ⊎ (70 + left + own ≤ wait)
   less_far wait old left own is (inl none) = inl (omega (arith, is, none))
   less_far wait old left own is (inr more) = inr (omega (arith, is, more))
 
@@ -251,7 +251,7 @@ module _ (n most : ℕ) (within : n < 233) where
               within = b.within;
               comes = subst (λ (s : ℕ). Coming n s b.left (Ticking_host events ticks) (happens m (Host_does (Node_ticks n)))) (sym (ap (λ (cs : List ℕ). length cs) (t.commands_are run))) (goes b.left b.comes);
               waits = less_far (node_of (after m.host.state (Node_ticks n)) n).attempt_wait (node_of m.host.state n).attempt_wait b.left (ticks_of n events) t.less
-                  (subst (λ (k : ℕ). ((node_of m.host.state n).attempt_wait ≡ 0) ⊎ (90 + b.left + k ≤ (node_of m.host.state n).attempt_wait)) one b.waits);
+                  (subst (λ (k : ℕ). ((node_of m.host.state n).attempt_wait ≡ 0) ⊎ (70 + b.left + k ≤ (node_of m.host.state n).attempt_wait)) one b.waits);
             };
       }
 
@@ -504,7 +504,7 @@ module _ (airs : Airs) (these : List Bool) (many : length these ≡ 233) (laws :
   some_left ticks session left m (At_work at few) = omega (arith, few)
   some_left ticks session left m (Told payload tells has few) = omega (arith, few)
 
-  begun_far : (wait left : ℕ) → 1 ≤ left → (wait ≡ 0) ⊎ (90 + left + 0 ≤ wait) → (wait ≡ 0) ⊎ (90 + (left - 1) + 1 ≤ wait)
+  begun_far : (wait left : ℕ) → 1 ≤ left → (wait ≡ 0) ⊎ (70 + left + 0 ≤ wait) → (wait ≡ 0) ⊎ (70 + (left - 1) + 1 ≤ wait)
   begun_far wait left some (inl none) = inl none
   begun_far wait left some (inr more) = inr (omega (arith, some, more))
 

@@ -1,18 +1,15 @@
 -- A command whose session began in a stretch, and which has a final outcome, has the one that the kind of the device says.
-use Rattle.std.proofs.Common.{◌≡◌, ℕ, zero, suc, ◌+◌, ◌≤◌, ◌<◌, ◌||◌, ◌==◌, nat_le, if◌then◌else◌, Bool, true, false, List, [], ◌∷◌, ◌++◌, length, Option, Some, None, get_or, refl, sym, ap, ap₂, ◌∙◌, subst, arith}
-use Rattle.std.proofs.lemmas.Bool.Decides.{nat_tests}
-use Rattle.std.proofs.lemmas.Option.{slice_get-get_or}
+use Rattle.std.proofs.Common.{◌≡◌, ℕ, zero, suc, ◌+◌, ◌≤◌, ◌<◌, ◌||◌, ◌==◌, if◌then◌else◌, Bool, true, false, List, [], ◌∷◌, ◌++◌, length, Option, Some, None, refl, sym, ap, ◌∙◌, subst, arith}
 use Rattle.std.specs.Prelude.{slice_get, unwrap_or, option_map}
 use Rattle.std.specs.List.{list_any}
 use Rattle.zw_base.specs.declared.order.Order.{Order}
 use Rattle.zw_base.specs.declared.property.Setting.{Setting}
 use Rattle.zw_text.specs.declared.entry.Entry.{Entry}
 use Rattle.zw_text.specs.declared.entry.Outcome.{Outcome}
-use Rattle.zw_text.specs.declared.entry.Outcome.TheVariants.{Waiting, Begun, Success, Fail, NoSupport, Unanswered, Cancelled}
+use Rattle.zw_text.specs.declared.entry.Outcome.TheVariants.{Success, Fail, NoSupport}
 use Rattle.zw_text.specs.Transcript.{accepted, outcome, session_at, sessions}
 use Rattle.zw_text.proofs.Views.{shown-append}
-use Rattle.supervision.specs.Host.{HostBook, command_at, open_session}
-use Rattle.supervision.proofs.EndsLemmas.{open_session-Some}
+use Rattle.supervision.specs.Host.{command_at}
 use Rattle.encap.specs.Opening.{Message, opened_at}
 use Rattle.host_keep.specs.Status.{status_byte}
 use Rattle.host_keep.specs.declared.final_status.FinalStatus.{FinalStatus}
@@ -33,20 +30,23 @@ use Rattle.device_sim.specs.State.{State}
 use Rattle.mesh_sim.specs.Fates.{place_of}
 use Rattle.law_transcript.specs.Commands.{before_accepted, classes_for, message_by, order_of}
 use Rattle.law_transcript.specs.Lists.{Has}
+use Rattle.law_transcript.specs.Sessions.{IsFinal}
 use Rattle.law_transcript.specs.Nodes.{always, device_of, is_interviewed, known_at_first, listed_by, listing_of}
 use Rattle.law_time.specs.Sessions.{is_final}
 use Rattle.law_time.specs.Verdicts.{before_session, is_answered, message_in, outcome_by, outcome_due, outcome_said, same_final, settings_made, verdict_on}
+use Rattle.host_node.specs.State.{NodeState}
 use Rattle.host_model.specs.After.{outcome_of}
-use Rattle.host_model.specs.Sessions.{command_by, open_command}
 use Rattle.host_model.specs.State.{Command, node_of}
 use Rattle.world_model.specs.State.{Machine}
-use Rattle.proof_host.specs.Laws.{IsUnderWay}
 use Rattle.proof_host.specs.Tables.{outcome_in, recorded}
+use Rattle.proof_course.specs.SessionFacts.{AreTold}
 use Rattle.proof_course.specs.Sessions.{Course}
 use Rattle.proof_messages.specs.Asking.{message_in as opened_in}
 use Rattle.proof_spoken.specs.proof_device.GoingOn.{AreSame, IsSame}
 use Rattle.proof_spoken.specs.proof_once.Tied.{IsToldAs}
 use Rattle.proof_spoken.proofs.CommandsOfSessions.{has_session, session_within}
+use Rattle.proof_course_plain.proofs.Commands.{final_so}
+use Rattle.proof_course_plain.proofs.Once.{HasStatus, retold, told_at}
 use Rattle.proof_course_plain.proofs.TieSteps.{session_prefix}
 use Rattle.proof_in_time.proofs.JudgedSessions.{Sees, Tie, due, final_of, sees_also}
 
@@ -63,23 +63,11 @@ behind_has (x ∷ first) rest number has = let one = behind_has first rest numbe
 
 -- ---- outcomes
 
-way_begun : (o : Outcome) → IsUnderWay o → recorded o ≡ Begun
-way_begun Begun way = refl
-way_begun Unanswered way = refl
-way_begun Waiting way = absurd way
-way_begun Success way = absurd way
-way_begun Fail way = absurd way
-way_begun NoSupport way = absurd way
-way_begun Cancelled way = absurd way
-
-final_over : (o : Outcome) → is_final o ≡ true → recorded o ≡ Begun → ⊥
-final_over Success final e = absurd cc
-final_over Fail final e = absurd cc
-final_over NoSupport final e = absurd cc
-final_over Begun final e = absurd cc
-final_over Unanswered final e = absurd cc
-final_over Waiting final e = absurd cc
-final_over Cancelled final e = absurd cc
+final_true : (o : Outcome) → is_final o ≡ true → IsFinal o
+final_true Success final = tt
+final_true Fail final = tt
+final_true NoSupport final = tt
+final_true o final = absurd cc
 
 -- a status that was told, and what the verdict says
 told_as : (o : Outcome) (told : FinalStatus) (verdict : Verdict) → recorded o ≡ recorded (outcome_of told) → status_byte told ≡ final_of verdict → same_final o (outcome_by verdict) ≡ true
@@ -105,50 +93,11 @@ ended_as n kind start entries commands number o status told entered sees =
 
 -- ---- what the host was told
 
--- a session of the host
-record IsTold (told : List ℕ) (session : ℕ) : Type 0 where
-  status : ℕ
-  at : command_at told session ≡ Some status
-
-told_within : (told : List ℕ) (session : ℕ) → 1 ≤ session → session ≤ length told → IsTold told session
-told_within told zero one within = absurd (omega (arith, one))
-told_within told (suc k) one within = record { status = get_or told k 0; at = slice_get-get_or told k 0 (omega (arith, within)) }
-
 module _ (n since : ℕ) (kind : Kind) (start : List Change) (past entries : List Entry) (m : Machine) (tie : Tie n since kind start past entries m) (number : ℕ) (is_over : is_final (outcome number (past ++ entries)) ≡ true) where
   abbrev c : Course
   c = tie.at.course
 
-  -- the session of a command that is over is not open
-  not_open : (session : ℕ) → command_at c.host.commands session ≡ Some number → open_session c.host ≡ Some session → ⊥
-  not_open session carries opened =
-      let book : HostBook = (node_of m.host.state n).book in
-      let same : open_session book ≡ open_session c.host =
-      ap₂ (λ (o : Option ℕ) (l : List ℕ). open_session (record { commands = l; outcome = o; attempts = 0 })) tie.at.follows.host.node_as.1.0 tie.at.follows.host.node_as.0 in
-      let command : open_command (node_of m.host.state n) ≡ Some number =
-      ap (λ (o : Option ℕ). command_by (node_of m.host.state n) o) (same ∙ opened) ∙ (ap (λ (l : List ℕ). command_at l session) tie.at.follows.host.node_as.0 ∙ carries) in
-      final_over (outcome number (past ++ entries)) is_over
-      (tie.facts.entered number ∙ way_begun (outcome_in m.host.state.commands number) ((tie.facts.in_order n).under_way number command))
-
-  was_told : (session : ℕ) → command_at c.host.commands session ≡ Some number → (which : Option ℕ) → open_session c.host ≡ which → IsTold c.told session
-  was_told session carries None e =
-      let within = session_within c.host.commands session number carries in
-      let first = within.0 in
-      let last = within.1 in
-      let all = tie.at.follows.course.told_are.closed e in
-      told_within c.told session first (omega (arith, last, all))
-  was_told session carries (Some opened) e = by (nat_le session (length c.told)) refl
-    where
-      by : (b : Bool) → nat_le session (length c.told) ≡ b → IsTold c.told session
-      by true few = told_within c.told session (session_within c.host.commands session number carries).0 (grind (arith, nat_tests, few))
-      by false many =
-          let above : length c.told < session = grind (arith, nat_tests, many) in
-          let last = (session_within c.host.commands session number carries).1 in
-          let all = tie.at.follows.course.told_are.opened opened e in
-          let count = (open_session-Some c.host opened e).0 in
-          let same : opened ≡ session = omega (arith, above, last, all, count) in
-          absurd (not_open session carries (e ∙ ap Some same))
-
-  sees_session : (session : ℕ) → since < session → command_at c.host.commands session ≡ Some number → IsTold c.told session
+  sees_session : (session : ℕ) → since < session → command_at c.host.commands session ≡ Some number → HasStatus c.told session
       → Sees n kind start entries m.host.state.commands number (λ verdict. same_final (outcome number (past ++ entries)) (outcome_by verdict) ≡ true)
   sees_session session less carries told =
       let ends : command_at c.ends session ≡ Some told.status =
@@ -159,10 +108,16 @@ module _ (n since : ℕ) (kind : Kind) (start : List Change) (past entries : Lis
   pub sees_final : length (sessions n past) ≡ since → Has (sessions n entries) number → Sees n kind start entries m.host.state.commands number (λ verdict. same_final (outcome number (past ++ entries)) (outcome_by verdict) ≡ true)
   sees_final begun_is has =
       let one = behind_has (sessions n past) (sessions n entries) number has in
-      let booked : sessions n past ++ sessions n entries ≡ c.host.commands = sym (shown-append (session_at n) past entries) ∙ (tie.facts.begun n ∙ tie.at.follows.host.node_as.0) in
-      let carries : command_at c.host.commands one.0 ≡ Some number = subst (λ (l : List ℕ). command_at l one.0 ≡ Some number) booked one.1.1 in
+      let state : NodeState = node_of m.host.state n in
+      let held = tie.at.follows.host.node_as in
+      let booked : sessions n past ++ sessions n entries ≡ state.book.commands = sym (shown-append (session_at n) past entries) ∙ tie.facts.begun n in
+      let at : command_at state.book.commands one.0 ≡ Some number = subst (λ (l : List ℕ). command_at l one.0 ≡ Some number) booked one.1.1 in
+      let over : IsFinal (outcome_in m.host.state.commands number) =
+      final_so (outcome_in m.host.state.commands number) (outcome number (past ++ entries)) (sym (tie.facts.entered number)) (final_true (outcome number (past ++ entries)) is_over) in
+      let are : AreTold state.book c.ends c.told = retold c.host state.book c.ends c.told held.0 held.1.0 tie.at.follows.course.told_are in
       let less = one.1.0 in
-      sees_session one.0 (omega (arith, less, begun_is)) carries (was_told one.0 carries (open_session c.host) refl)
+      sees_session one.0 (omega (arith, less, begun_is)) (subst (λ (l : List ℕ). command_at l one.0 ≡ Some number) held.0 at)
+      (told_at m.host.state.commands state (tie.facts.in_order n) c.ends c.told are one.0 number at over)
 
 -- ---- in the words of the law
 

@@ -86,7 +86,7 @@ pub record IsAt (n session : ℕ) (h : HostState) : Type 0 where
 pub record Runs (n session wait : ℕ) (Elsewhere : Type 0) (pending : List FrameParts) (h : HostState) : Type 0 where
   pub at : IsAt n session h
   pub waits : ((node_of h n).attempt_wait ≡ wait) ⊎ ((node_of h n).attempt_wait ≡ 100)
-  pub bound : (wait ≡ 0) ⊎ (90 ≤ wait)
+  pub bound : (wait ≡ 0) ⊎ (70 ≤ wait)
   pub report : Elsewhere ⊎ ((payload : List ℕ) × (TellsEnd session payload × Has (brings n payload) pending))
 
 pub record Judges (n session wait : ℕ) (Elsewhere : Type 0) (pending : List FrameParts) (h : HostState) : Type 0 where

@@ -1,5 +1,8 @@
 mod Stepping
 mod Answered
+mod Sleepers
+mod StayingUp
+mod PartsAnswered
 mod Reported
 mod NodeWaits
 mod Grown

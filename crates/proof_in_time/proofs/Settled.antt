@@ -144,18 +144,18 @@ module _ (airs : Airs) (these : List Bool) (many : length these ≡ 233) (n most
   -- what else is to come, and the wait
   record Elsewhere (session wait : ℕ) (next : Phase) (later : Machine) : Type 0 where
     pub left : ℕ
-    pub few : left ≤ 6
+    pub few : left ≤ 23
     pub within_most : left ≤ most
     pub comes : Coming n session left next later
-    pub far : (wait ≡ 0) ⊎ (90 + left + 0 ≤ wait)
+    pub far : (wait ≡ 0) ⊎ (70 + left + 0 ≤ wait)
 
   -- by the host, which is that of the machine
   record BoundedBy (next : Phase) (later : Machine) (h : HostState) : Type 0 where
     pub left : ℕ
-    pub few : left ≤ 6
+    pub few : left ≤ 23
     pub within_most : left ≤ most
     pub comes : Coming n (begun_of (node_of h n).book) left next later
-    pub waits : ((node_of h n).attempt_wait ≡ 0) ⊎ (90 + left + own_ticks n next ≤ (node_of h n).attempt_wait)
+    pub waits : ((node_of h n).attempt_wait ≡ 0) ⊎ (70 + left + own_ticks n next ≤ (node_of h n).attempt_wait)
 
   waits_by : (next : Phase) (later : Machine) (h : HostState) → later.host.state ≡ h → own_ticks n next ≤ 1 → is_layered (node_of h n).classes ≡ false → ((node_of h n).series ≡ series.Running → BoundedBy next later h) → WaitsFor n most next later
   waits_by next later h same once openly bounded = record {
@@ -209,12 +209,12 @@ module _ (airs : Airs) (these : List Bool) (many : length these ≡ 233) (n most
         host_is : later.host.state ≡ after_all m.host.state events
         host_is = (host_turns airs m unit units host turn frames rest items events plain (omega (arith, few)) line may).3
 
-        comes_or : (left : ℕ) → left ≤ 6 → left ≤ most → (wait ≡ 0) ⊎ (90 + left + 0 ≤ wait) → Coming n session left (Sleeping passes ticks) later ⊎ IsThere n session left (Moved b passes ticks) m
+        comes_or : (left : ℕ) → left ≤ 23 → left ≤ most → (wait ≡ 0) ⊎ (70 + left + 0 ≤ wait) → Coming n session left (Sleeping passes ticks) later ⊎ IsThere n session left (Moved b passes ticks) m
             → Elsewhere session wait (Sleeping passes ticks) later ⊎ ((payload : List ℕ) × (TellsEnd session payload × Has (brings n payload) (frames_in (unit ∷ units) ++ waiting)))
         comes_or left six few_more far (inl comes) = inl (record { left = left; few = six; within_most = few_more; comes = comes; far = far })
         comes_or left six few_more far (inr there) = inr (there.payload, (there.tells, subst (Has (brings n there.payload)) frames_are there.has))
 
-        bound_of : (left : ℕ) → (wait ≡ 0) ⊎ (90 + left + 0 ≤ wait) → (wait ≡ 0) ⊎ (90 ≤ wait)
+        bound_of : (left : ℕ) → (wait ≡ 0) ⊎ (70 + left + 0 ≤ wait) → (wait ≡ 0) ⊎ (70 ≤ wait)
         bound_of left (inl none) = inl none
         bound_of left (inr more) = inr (omega (arith, more))
 
@@ -244,7 +244,7 @@ module _ (airs : Airs) (these : List Bool) (many : length these ≡ 233) (n most
             in_session : (left : ℕ) → Coming n session left (Sleeping passes ticks) later → Coming n (begun_of (node_of (after_all h events) n).book) left (Sleeping passes ticks) later
             in_session left comes = subst (λ (s : ℕ). Coming n s left (Sleeping passes ticks) later) (sym is.at.begun) comes
 
-            no_more : (wait ≡ 0) ⊎ (90 ≤ wait) → (wait ≡ 0) ⊎ (90 + 0 + 0 ≤ wait)
+            no_more : (wait ≡ 0) ⊎ (70 ≤ wait) → (wait ≡ 0) ⊎ (70 + 0 + 0 ≤ wait)
             no_more (inl none) = inl none
             no_more (inr more) = inr (omega (arith, more))
 

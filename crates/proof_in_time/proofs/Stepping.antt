@@ -25,7 +25,7 @@ use Rattle.proof_spoken.specs.proof_device.GoingOn.{AreSame, GoOn, IsSame}
 use Rattle.proof_spoken.specs.proof_serial.Line.{AllAtRest, AllWriteWell, IsAtRest, WritesWell}
 use Rattle.proof_spoken.proofs.DevicePlaces.{go_then}
 use Rattle.proof_course_plain.specs.Host.{AsksPlainly}
-use Rattle.proof_course_plain.specs.Making.{AllMake, Makes}
+use Rattle.proof_course_plain.specs.Making.{AllMake, KeepsNext, Makes}
 use Rattle.proof_course_plain.specs.Meaning.{Asked}
 use Rattle.proof_course_plain.specs.Mesh.{HasDevice}
 use Rattle.proof_course_plain.specs.OnAir.{AlwaysFew, EventStaysFew}
@@ -128,6 +128,9 @@ module _ (laws : Laws) (n : ℕ) (within : n < 233) (devices : List State) (has 
         stands = now.stands;
         plain = is;
         others = now.others;
+        keeps = subst (λ (os : List Asked). KeepsNext os (node_of m.host.state n).book.commands (now.device.sessions.taken + 1) now.device.reassembly) follows.host.orders_are
+            (subst (λ (cs : List ℕ). KeepsNext orders cs (now.device.sessions.taken + 1) now.device.reassembly) (sym follows.host.node_as.0)
+            (follows.outside.mesh.made now.place now.device now.stands (place_is n m.outside.devices now.place now.device now.first now.stands)).keeps);
         step = λ some. steps_in now.device (begun_of (node_of m.host.state n).book) (omega (arith, begun, taken, ahead)) (omega (arith, begun, taken, after))
             (λ working. begun ∙ (last_at_work c follows.course (ap (λ (t : Taken). t.status) (sym now.at.sessions) ∙ working) ∙ sym taken)) some is.at;
       }

@@ -1,11 +1,15 @@
 -- What a device answers to the message of a session, and what it comes to (this project's own kinds; Supervision Report is that of the Z-Wave
 -- Transport-Encapsulation Command Class Specification).
-use Rattle.std.specs.Prelude.{◌≡◌, ◌≢◌, ◌⊎◌, ℕ, ◌+◌, ◌≤◌, List, [], ◌∷◌, length, Some}
+use Rattle.std.specs.Prelude.{◌≡◌, ◌≢◌, ◌⊎◌, ℕ, ◌+◌, ◌≤◌, true, false, List, [], ◌∷◌, length, Some}
 use Rattle.supervision.specs.declared.session.TheConstants.{WORKING}
 use Rattle.encap.specs.declared.plan.Plan.{Plan}
+use Rattle.host_heard.specs.Telling.{heard_at}
+use Rattle.host_heard.specs.declared.payload.Heard.TheVariants.{Messages}
+use Rattle.host_heard.specs.declared.told.Told.TheVariants.{Notification}
 use Rattle.device_stack.specs.Effects.{work_ticks}
 use Rattle.device_sim.specs.State.{State}
 use Rattle.proof_messages.specs.Reporting.{TellsOwn}
+use Rattle.proof_messages.specs.Slices.{AnswersAgain, TakesSlice}
 
 -- the last session that it took is over
 pub record IsDone (device : State) : Type 0 where
@@ -28,7 +32,12 @@ pub data IsInStep (session : ℕ) (device : State) : Type 0 where
   Next : session ≡ device.sessions.taken + 1 → IsDone device → IsInStep session device
   Last : session ≡ device.sessions.taken → 1 ≤ session → IsDoneOrAtWork device → IsInStep session device
 
--- it has taken that session by now, and sends one payload, which tells what it keeps of that
+-- it is awake, and has heard something since its last tick
+pub record IsAwakeNow (device : State) : Type 0 where
+  pub awake : device.awake ≡ true
+  pub now : device.active_at ≡ device.clock
+
+-- it has taken that session by now, and sends one payload, which tells what it keeps of that; and it is awake
 pub record AnswersSession (session : ℕ) (new : State) (replies : List (List ℕ)) : Type 0 where
   pub taken : new.sessions.taken ≡ session
   pub payload : List ℕ
@@ -37,6 +46,14 @@ pub record AnswersSession (session : ℕ) (new : State) (replies : List (List �
   pub some : 1 ≤ length payload
   pub few : length payload ≤ 46
   pub comes_to : IsDoneOrAtWork new
+  pub up : IsAwakeNow new
+
+-- what it makes of the segment of a place of a session's message: of its next session it keeps the slice, or asks for another, or hears the message and answers it;
+-- of its last session it is left as it was, and tells the status again at the last segment
+pub data AnswersPart (session place : ℕ) (message segment : List ℕ) (old new : State) (replies : List (List ℕ)) : Type 0 where
+  Of_next : (heard : State) (answers : List (List ℕ)) → session ≡ old.sessions.taken + 1 → TakesSlice message session place old heard new answers replies → AnswersSession session heard answers
+      → AnswersPart session place message segment old new replies
+  Of_last : session ≡ old.sessions.taken → AnswersAgain session segment old new replies → AnswersPart session place message segment old new replies
 
 -- it is still at the work on its last session, for as long
 pub record IsStill (old new : State) : Type 0 where
@@ -53,3 +70,28 @@ pub record StaysDone (old new : State) (replies : List (List ℕ)) : Type 0 wher
   pub silent : replies ≡ []
   pub sessions : new.sessions ≡ old.sessions
   pub is_done : IsDone new
+
+-- ---- awake and asleep
+
+-- a tick leaves it awake, and makes it one tick longer that it heard nothing
+pub record StaysAwake (old new : State) : Type 0 where
+  pub awake : new.awake ≡ true
+  pub clock : new.clock ≡ old.clock + 1
+  pub active : new.active_at ≡ old.active_at
+
+-- it is awake by now and tells that, and nothing else; its sessions and its work are as they were
+pub record TellsWaking (old new : State) (replies : List (List ℕ)) : Type 0 where
+  pub up : IsAwakeNow new
+  pub payload : List ℕ
+  pub says : replies ≡ payload ∷ []
+  pub tells : heard_at payload ≡ Messages (Notification ∷ [])
+  pub short : length payload ≡ 2
+  pub sessions : new.sessions ≡ old.sessions
+  pub work_left : new.work_left ≡ old.work_left
+
+-- it sleeps by now, and says nothing; its sessions and its work are as they were
+pub record FallsAsleep (old new : State) (replies : List (List ℕ)) : Type 0 where
+  pub asleep : new.awake ≡ false
+  pub silent : replies ≡ []
+  pub sessions : new.sessions ≡ old.sessions
+  pub work_left : new.work_left ≡ old.work_left

@@ -184,10 +184,10 @@ pub data Coming (n session left : ℕ) (here : Phase) (m : Machine) : Type 0 whe
 -- within so many at most; and the wait of the attempt does not run, or is far from its end
 pub record IsBounded (n most : ℕ) (here : Phase) (m : Machine) : Type 0 where
   pub left : ℕ
-  pub few : left ≤ 6
+  pub few : left ≤ 23
   pub within : left ≤ most
   pub comes : Coming n (begun_of (node_of m.host.state n).book) left here m
-  pub waits : ((node_of m.host.state n).attempt_wait ≡ 0) ⊎ (90 + left + own_ticks n here ≤ (node_of m.host.state n).attempt_wait)
+  pub waits : ((node_of m.host.state n).attempt_wait ≡ 0) ⊎ (70 + left + own_ticks n here ≤ (node_of m.host.state n).attempt_wait)
 
 -- the node lists Security 0 or Transport Service
 abbrev pub is_layered : Option (List ℕ) → Bool

@@ -1,5 +1,5 @@
 -- The device of a node in step with the host (this project's own rule): what is assumed of it as it hears a message, and from which devices and orders that follows.
-use Rattle.std.specs.Prelude.{◌≡◌, ℕ, ◌≤◌, Bool, true, false, List, Some, slice_get}
+use Rattle.std.specs.Prelude.{◌≡◌, ℕ, ◌+◌, ◌≤◌, Bool, true, false, List, map, Some, slice_get}
 use Rattle.std.specs.List.{AllByRecursion}
 use Rattle.supervision.specs.Host.{begun_of}
 use Rattle.law_transcript.specs.Nodes.{device_of}
@@ -13,6 +13,8 @@ use Rattle.world_model.specs.Events.{Event, Host_does}
 use Rattle.world_model.specs.State.{Machine}
 use Rattle.proof_course.specs.Sessions.{first_course}
 use Rattle.proof_course_plain.specs.Device.{OthersAreIdle}
+use Rattle.proof_course_plain.specs.Host.{asked_of}
+use Rattle.proof_course_plain.specs.Making.{KeepsNext}
 use Rattle.proof_course_plain.specs.Mesh.{HasDevice}
 use Rattle.proof_course_plain.specs.World.{OrdersPlain}
 use Rattle.proof_messages.specs.Asking.{takes_openly}
@@ -33,7 +35,8 @@ pub record HearsInStep (session : ℕ) (device : State) : Type 0 where
   pub plain : IsPlainDevice device
   pub step : IsInStep session device
 
--- so is the first device of a node, once the host has begun a session; and the others of the node are idle
+-- so is the first device of a node, once the host has begun a session; what it keeps of segments is of the message of its next session; and the others of the
+-- node are idle
 pub record HasInStep (n : ℕ) (m : Machine) : Type 0 where
   pub place : ℕ
   pub device : State
@@ -41,6 +44,7 @@ pub record HasInStep (n : ℕ) (m : Machine) : Type 0 where
   pub stands : slice_get m.outside.devices place ≡ Some device
   pub plain : IsPlainDevice device
   pub others : OthersAreIdle n m.outside.devices place
+  pub keeps : KeepsNext (map asked_of m.host.state.commands) (node_of m.host.state n).book.commands (device.sessions.taken + 1) device.reassembly
   pub step : 1 ≤ begun_of (node_of m.host.state n).book → IsInStep (begun_of (node_of m.host.state n).book) device
 
 -- ---- what is assumed of events

@@ -3,6 +3,7 @@ pub mod Reporting
 pub mod InStep
 pub mod Coming
 pub mod InHand
+pub mod Sleeping
 pub mod Plainly
 pub mod Openly
 pub mod Stretch

@@ -23,9 +23,10 @@ mod in_time;
 mod orders;
 mod outcomes;
 mod reporting;
+mod sleeping;
 mod verdicts;
 
-pub use answering::messages_are_answered;
+pub use answering::{messages_are_answered, segments_are_answered};
 pub use in_hand::commands_end_in_time;
 pub use in_step::nodes_stay_in_step;
 pub use in_time::waits_never_run_out;
@@ -34,4 +35,5 @@ pub use outcomes::{outcomes_come_in_time, stretches_end_in_time};
 pub use proof_answered::{hosts_are_tended, listeners_hear, work_in_order_means};
 pub use proof_course_plain::{devices_go_on, devices_stay_the_same};
 pub use reporting::reports_are_taken;
+pub use sleeping::sleepers_stay_up;
 pub use verdicts::{outcomes_are_as_judged, stretches_are_answered, stretches_end_as_judged};

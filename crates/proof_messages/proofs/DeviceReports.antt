@@ -54,7 +54,7 @@ use Rattle.transport_segments.specs.declared.assembler.Taken.TheVariants.{Kept, 
 use Rattle.host_heard.specs.declared.payload.Heard.{Heard}
 use Rattle.host_heard.specs.declared.payload.Heard.TheVariants.{Messages, Sealed, Unread}
 use Rattle.host_heard.specs.declared.told.Told.{Told}
-use Rattle.host_heard.specs.declared.told.Told.TheVariants.{Report, Values}
+use Rattle.host_heard.specs.declared.told.Told.TheVariants.{NonceGet as AsksNonce, NonceReport as TellsNonce, Notification, Report, SegmentRequest, Values}
 use Rattle.host_heard.specs.Telling.{told_by, told_in, heard_by, heard_at, end_of as from_end}
 use Rattle.device_kinds.specs.declared.kind.Kind.{Kind}
 use Rattle.device_kinds.specs.declared.kind.Kind.TheVariants.{Lock, Configurable}
@@ -79,7 +79,7 @@ use Rattle.device_sim.specs.Event.{DeviceEvent, Hears, Ticks, Wakes, Sets, outco
 use Rattle.proof_messages.proofs.Bare.{bare, bare_opens, high_command, middle_command, low_command, never_begins}
 use Rattle.host_model.proofs.Pumps.{and_false as never_ends}
 use Rattle.proof_messages.specs.Asking.{takes_openly}
-use Rattle.proof_messages.specs.Reporting.{CanBeAnswered, CanSay, IsNoReport, IsPlainTold, TellsNone, TellsOwn, TellsPlainly, TellsTrue, asks_now}
+use Rattle.proof_messages.specs.Reporting.{CanBeAnswered, CanSay, IsNoReport, IsOpenTold, IsPlainTold, TellsNone, TellsOpenly, TellsOwn, TellsPlainly, TellsTrue, asks_now}
 use Rattle.host_node.proofs.Keeps.{first_holds, second_holds}
 
 -- ---- statuses
@@ -174,6 +174,12 @@ request_read byte low = refl
 
 pub request_none : (id at : ℕ) → TellsNone (form (TransportRequest id at))
 request_none id at = bare_read (form (TransportRequest id at)) (TransportRequest (bits 4 4 _) (bits 0 3 _ * 256 + _)) (low_command 0x55 _ (omega arith)) refl (request_read _ _) tt
+
+-- a Segment Request asks for that segment
+pub request_told : (id at : ℕ) → id < 16 → at < 2048 → heard_at (form (TransportRequest id at)) ≡ Messages (SegmentRequest id at ∷ [])
+request_told id at few near =
+    one_told (form (TransportRequest id at)) bare (form (TransportRequest id at)) (TransportRequest id at) refl (bare_opens (form (TransportRequest id at)) (low_command 0x55 _ (omega arith)))
+    (again (form (TransportRequest id at)) (TransportRequest id at) (form_spells (TransportRequest id at) (few, near)))
 
 all_true : (a : Bool) → a ≡ true → (a && true) && true ≡ true
 all_true a e = rw e refl
@@ -588,6 +594,16 @@ securely_true device payload drawn = by (begins_with payload 0x98 0x81)
 
 -- ---- in segments
 
+pub report_length : (device : State) (asked : Supervised) (status : ℕ) → length (form (status_report device asked status)) ≡ 5
+report_length device asked status = by (status == WORKING)
+  where
+    by : (b : Bool) → length (form (if b then SupervisionReport asked.updates false asked.id statuses.Working 1 else SupervisionReport false (asks_to_wake device) asked.id (report_status status) 0)) ≡ 5
+    by true = refl
+    by false = refl
+
+pub own_again : (device : State) → TellsOwn device (form (status_report device (record { updates = false; id = wire_id device.sessions.taken }) device.sessions.status))
+own_again device = own_heard None no_outer device device (record { updates = false; id = wire_id device.sessions.taken }) device.sessions.status tt refl refl refl
+
 -- what is kept of a datagram is not told
 emptied_true : (device : State) (replies : List (List ℕ)) → AllTrue device replies → AllTrue (record device { reassembly = Empty }) replies
 emptied_true device [] is = tt
@@ -602,7 +618,7 @@ assembles_true device segment (Some Kept) = tt
 
 repeats_true : (device : State) (segment : List ℕ) → AllTrue (repeats_segment device segment).device (repeats_segment device segment).replies
 repeats_true device segment =
-    (inr (complete_none (id_of segment)), (inl (own_heard None no_outer device device (record { updates = false; id = wire_id device.sessions.taken }) device.sessions.status tt refl refl refl), tt))
+    (inr (complete_none (id_of segment)), (inl (own_again device), tt))
 
 segment_true : (device : State) (segment : List ℕ) → AllTrue (hears_segment device segment).device (hears_segment device segment).replies
 unfolding hears_segment
@@ -653,6 +669,84 @@ heard_plain device payload drawn openly whole = by device.awake
   where
     by : (b : Bool) → AllByRecursion TellsPlainly (if b then hears_by device.kind (active device) payload drawn else silent device).replies
     by true = kind_plain device.kind (active device) payload drawn openly whole
+    by false = tt
+
+-- ---- where it takes what is not sealed, in segments too
+
+plain_openly : (told : Told) → IsPlainTold told → IsOpenTold told
+plain_openly (Report id status wake_request) plain = tt
+plain_openly AsksNonce plain = absurd plain
+plain_openly (TellsNonce nonce) plain = tt
+plain_openly Notification plain = tt
+plain_openly (SegmentRequest id offset) plain = tt
+plain_openly (Values values) plain = tt
+
+tells_openly : (payload : List ℕ) → TellsPlainly payload → TellsOpenly payload
+tells_openly payload tells = record { told = tells.told; heard = tells.heard; openly = plain_openly tells.told tells.plain }
+
+whole_openly : (device : State) (payload : List ℕ) → AllByRecursion TellsOpenly (hears_openly device payload).replies
+whole_openly device payload =
+    all-weaker (IsOpen (hears_openly device payload).device) TellsOpenly (λ reply is. tells_openly reply is.1) (hears_openly device payload).replies (openly_open device payload)
+
+bare_openly : (text : List ℕ) (message : InfoMessage) → IsCommand false text → begins_with text 152 129 ≡ false → info_at text ≡ Ok message → IsOpenTold (told_by 0 message) → TellsOpenly text
+bare_openly text message is unsealed read openly = record { told = told_by 0 message; heard = one_told text bare text message unsealed (bare_opens text is) read; openly = openly }
+
+complete_openly : (id : ℕ) → TellsOpenly (form (TransportComplete id))
+complete_openly id = bare_openly (form (TransportComplete id)) (TransportComplete (bits 4 4 _)) (low_command 0x55 _ (omega arith)) refl (complete_read _) tt
+
+request_openly : (id at : ℕ) → TellsOpenly (form (TransportRequest id at))
+request_openly id at = bare_openly (form (TransportRequest id at)) (TransportRequest (bits 4 4 _) (bits 0 3 _ * 256 + _)) (low_command 0x55 _ (omega arith)) refl (request_read _ _) tt
+
+assembles_openly : (device : State) (segment : List ℕ) (taken : Option Segment) → AllByRecursion TellsOpenly (assembles device segment taken).replies
+assembles_openly device segment None = tt
+assembles_openly device segment (Some (Whole datagram)) = (complete_openly (id_of segment), whole_openly device datagram)
+assembles_openly device segment (Some (Need at)) = (request_openly (id_of segment) at, tt)
+assembles_openly device segment (Some Kept) = tt
+
+repeats_openly : (device : State) (segment : List ℕ) → AllByRecursion TellsOpenly (repeats_segment device segment).replies
+repeats_openly device segment = (
+  complete_openly (id_of segment),
+  (
+    record {
+      told = Report (wire_id device.sessions.taken) (report_status device.sessions.status) (asks_now device);
+      heard = own_again device;
+      openly = tt;
+    },
+    tt,
+  ),
+)
+
+segment_openly : (device : State) (segment : List ℕ) → AllByRecursion TellsOpenly (hears_segment device segment).replies
+unfolding hears_segment
+segment_openly device segment = next (id_of segment == segment_session (device.sessions.taken + 1))
+  where
+    last : (b : Bool) → AllByRecursion TellsOpenly (if b then repeats_segment device segment else silent device).replies
+    last true = repeats_openly device segment
+    last false = tt
+
+    next : (b : Bool) → AllByRecursion TellsOpenly (if b then assembles device segment (taken_at device.reassembly segment) else if is_last device segment then repeats_segment device segment else silent device).replies
+    next true = assembles_openly device segment (taken_at device.reassembly segment)
+    next false = last (is_last device segment)
+
+in_segments_openly : (device : State) (payload : List ℕ) → AllByRecursion TellsOpenly (hears_in_segments device payload).replies
+unfolding hears_in_segments
+in_segments_openly device payload = by (is_segment payload)
+  where
+    by : (b : Bool) → AllByRecursion TellsOpenly (if b then hears_segment device payload else hears_openly device payload).replies
+    by true = segment_openly device payload
+    by false = whole_openly device payload
+
+kind_openly : (kind : Kind) (device : State) (payload drawn : List ℕ) → takes_openly kind ≡ true → AllByRecursion TellsOpenly (hears_by kind device payload drawn).replies
+kind_openly Lock device payload drawn openly = absurd (let no : false ≡ true = openly in cc)
+kind_openly Configurable device payload drawn openly = in_segments_openly device payload
+kind_openly _ device payload drawn openly = whole_openly device payload
+
+pub heard_openly : (device : State) (payload drawn : List ℕ) → takes_openly device.kind ≡ true → AllByRecursion TellsOpenly (device_replies device (Hears payload drawn))
+unfolding device_replies outcome_of hears
+heard_openly device payload drawn openly = by device.awake
+  where
+    by : (b : Bool) → AllByRecursion TellsOpenly (if b then hears_by device.kind (active device) payload drawn else silent device).replies
+    by true = kind_openly device.kind (active device) payload drawn openly
     by false = tt
 
 -- ---- a tick, a wake-up, a hand

@@ -1,9 +1,10 @@
 -- What a device makes of a segment of a message.
 use Rattle.std.proofs.Common.{◌≡◌, ◌≢◌, ℕ, zero, suc, ◌+◌, ◌-◌, ◌%◌, ◌<◌, ◌≤◌, ◌==◌, ◌⊎◌, inl, inr, Bool, true, false, ◌&&◌, nat_lt, if◌then◌else◌, Option, Some, None, List, [], ◌∷◌, length, map, refl, ap, sym, ◌∙◌, subst, arith}
 use Rattle.std.specs.Prelude.{slice_index_or, is_some}
-use Rattle.std.proofs.lemmas.Bool.Decides.{Decides-eqb}
+use Rattle.std.specs.List.{AllByRecursion}
+use Rattle.std.proofs.lemmas.Bool.Decides.{Decides-eqb, nat_tests}
 use Rattle.std.proofs.lemmas.Bool.{false_from_ne_true as never_true}
-use Rattle.class_info.specs.declared.message.InfoMessage.TheVariants.{TransportComplete}
+use Rattle.class_info.specs.declared.message.InfoMessage.TheVariants.{TransportComplete, TransportRequest}
 use Rattle.class_info.specs.InfoSpelling.{form}
 use Rattle.encap.specs.Begins.{IsMisplaced}
 use Rattle.transport_segments.specs.Segment.{IsSegment, id_of}
@@ -12,7 +13,7 @@ use Rattle.transport_segments.specs.Kept.{Reassembly, Empty, Partial}
 use Rattle.transport_segments.specs.Reassembly.{places_after}
 use Rattle.transport_segments.specs.Runs.{IsPart, Agrees}
 use Rattle.transport_segments.specs.Taking.{is_segment, ends_its_datagram, first_missing, taken_by, taken_at, kept_after}
-use Rattle.transport_segments.specs.declared.assembler.Taken.TheVariants.{Kept, Need, Whole}
+use Rattle.transport_segments.specs.declared.assembler.Taken.TheVariants.{Kept, Need, Whole as Whole_datagram}
 use Rattle.transport_segments.proofs.PlacesLemmas.{there_at, missing_at}
 use Rattle.transport_segments.proofs.AgreeLemmas.{keeps_agreement}
 use Rattle.transport_segments.proofs.TakingLemmas.{segment_decides, sound_taken as taken_is}
@@ -21,15 +22,19 @@ use Rattle.device_kinds.specs.declared.kind.Kind.TheVariants.{Relay, Switch, Dim
 use Rattle.device_kinds.specs.Kind.{lists}
 use Rattle.device_sim.specs.device_stack.State.{State, Outcome, silent}
 use Rattle.device_kinds.specs.Segments.{segment_session}
+use Rattle.supervision.specs.Session.{wire_id}
+use Rattle.device_sim.specs.device_stack.Answers.{status_report}
 use Rattle.device_sim.specs.device_stack.Hearing.{hears_openly, assembles, repeats_segment, hears_segment, hears_in_segments, hears_by, active, hears}
 use Rattle.device_sim.specs.Event.{Hears, outcome_of, device_after, device_replies}
 use Rattle.proof_messages.specs.Asking.{IsLeft}
 use Rattle.proof_messages.specs.Others.{IsNoGet}
+use Rattle.proof_messages.specs.Reporting.{TellsNone}
 use Rattle.proof_messages.specs.Segments.{KeepsPart, KeepsSegment, MakesWhole}
+use Rattle.proof_messages.specs.Slices.{AnswersAgain, Asks, Keeps, Repeats, Silent, TakesPart, Whole}
 use Rattle.proof_messages.proofs.Bare.{never_begins}
 use Rattle.proof_messages.proofs.SessionMessages.{left}
 use Rattle.proof_messages.proofs.OtherMessages.{bare_no_get, openly_left, securely_left, if_awake}
-use Rattle.proof_messages.proofs.DeviceReports.{request_none}
+use Rattle.proof_messages.proofs.DeviceReports.{own_again, report_length, request_none}
 use Rattle.host_keep.proofs.NumbersFound.{same_number}
 
 -- ---- a sound segment is taken
@@ -97,38 +102,53 @@ segment_is : (message segment : List ℕ) (id : ℕ) → IsPart message id segme
 segment_is message segment id part = (segment_decides segment).1 part.sound.sized.plain.intact.segment
 
 kept_part : (device : State) (message segment : List ℕ) (id first : ℕ) → IsPart message id segment → Agrees message id device.reassembly
-    → first_missing 0 (places_after device.reassembly segment) ≡ Some first → KeepsPart message id device (record device { active_at = device.clock; reassembly = kept_after device.reassembly segment })
+    → first_missing 0 (places_after device.reassembly segment) ≡ Some first
+    → (part : KeepsPart message id device (record device { active_at = device.clock; reassembly = kept_after device.reassembly segment })) × (part.places ≡ places_after device.reassembly segment)
 unfolding kept_after
-kept_part device message segment id first part agrees e = record {
-  untouched = record { journal = refl; sessions = refl; work_left = refl; work = refl };
-  places = places_after device.reassembly segment;
-  kept = ap (λ (n : ℕ). Partial n (places_after device.reassembly segment)) part.session;
-  agrees = still_agrees message segment id device.reassembly first part agrees e;
-}
+kept_part device message segment id first part agrees e = (
+  record {
+    untouched = record { journal = refl; sessions = refl; work_left = refl; work = refl };
+    places = places_after device.reassembly segment;
+    kept = ap (λ (n : ℕ). Partial n (places_after device.reassembly segment)) part.session;
+    agrees = still_agrees message segment id device.reassembly first part agrees e;
+  },
+  refl,
+)
+
+-- what the device makes of it as it puts its segments together
+abbrev Assembles : State → List ℕ → List ℕ → ℕ → Outcome → Type 0
+Assembles device message segment id outcome =
+    TakesPart message id segment device (hears_openly (active device) message).device outcome.device (hears_openly (active device) message).replies outcome.replies
 
 assembled : (device : State) (message segment : List ℕ) (id : ℕ) → IsPart message id segment → Agrees message id device.reassembly
-    → KeepsSegment message id device (assembles (active device) segment (taken_at device.reassembly segment)).device (assembles (active device) segment (taken_at device.reassembly segment)).replies
-    ⊎ MakesWhole id (hears_openly (active device) message).device (hears_openly (active device) message).replies
-    (assembles (active device) segment (taken_at device.reassembly segment)).device (assembles (active device) segment (taken_at device.reassembly segment)).replies
+    → Assembles device message segment id (assembles (active device) segment (taken_at device.reassembly segment))
 assembled device message segment id part agrees =
     rw (taken_is device.reassembly segment part.sound) (by (first_missing 0 (places_after device.reassembly segment)) refl)
   where
-    asks : (b : Bool) (first : ℕ) → first_missing 0 (places_after device.reassembly segment) ≡ Some first
-        → KeepsSegment message id device (assembles (active device) segment (Some (if b then Need first else Kept))).device (assembles (active device) segment (Some (if b then Need first else Kept))).replies
-    asks true first e = (kept_part device message segment id first part agrees e, (request_none (id_of segment) first, tt))
-    asks false first e = (kept_part device message segment id first part agrees e, tt)
+    asks : (b : Bool) (first : ℕ) → has_last (places_after device.reassembly segment) ≡ b → first_missing 0 (places_after device.reassembly segment) ≡ Some first
+        → Assembles device message segment id (assembles (active device) segment (Some (if b then Need first else Kept)))
+    asks true first is e =
+        let kept = kept_part device message segment id first part agrees e in
+        let missing = one_missing 0 (places_after device.reassembly segment) first e in
+        let some = missing.some in
+        let place = missing.is in
+        let same : missing.at ≡ first = omega (arith, place) in
+        Asks first kept.0 kept.1 (subst (IsLeastMissing (places_after device.reassembly segment)) same missing.least)
+        (there_at (places_after device.reassembly segment) (length (places_after device.reassembly segment) - 1) (omega (arith, some)) is)
+        (ap (λ (n : ℕ). form (TransportRequest n first) ∷ []) part.session)
+    asks false first is e =
+        let kept = kept_part device message segment id first part agrees e in
+        let missing = one_missing 0 (places_after device.reassembly segment) first e in
+        let some = missing.some in
+        Keeps kept.0 kept.1 (missing_at (places_after device.reassembly segment) (length (places_after device.reassembly segment) - 1) (omega (arith, some)) is) refl
 
     by : (first : Option ℕ) → first_missing 0 (places_after device.reassembly segment) ≡ first
-        → KeepsSegment message id device (assembles (active device) segment (Some (taken_by (places_after device.reassembly segment) first))).device
-        (assembles (active device) segment (Some (taken_by (places_after device.reassembly segment) first))).replies
-        ⊎ MakesWhole id (hears_openly (active device) message).device (hears_openly (active device) message).replies
-        (assembles (active device) segment (Some (taken_by (places_after device.reassembly segment) first))).device
-        (assembles (active device) segment (Some (taken_by (places_after device.reassembly segment) first))).replies
-    by (Some first) e = inl (asks (has_last (places_after device.reassembly segment)) first e)
+        → Assembles device message segment id (assembles (active device) segment (Some (taken_by (places_after device.reassembly segment) first)))
+    by (Some first) e = asks (has_last (places_after device.reassembly segment)) first refl e
     by None e =
         let places = places_after device.reassembly segment in
-        let whole : present places ≡ message = (keeps_agreement message segment id device.reassembly Empty (Whole (present places)) part agrees (none_missing 0 places e, refl)).1 in
-        inr (
+        let whole : present places ≡ message = (keeps_agreement message segment id device.reassembly Empty (Whole_datagram (present places)) part agrees (none_missing 0 places e, refl)).1 in
+        Whole (
           ap (λ (bytes : List ℕ). record (hears_openly (active device) bytes).device { reassembly = Empty }) whole,
           ap (λ (bytes : List ℕ). form (TransportComplete (id_of segment)) ∷ (hears_openly (active device) bytes).replies) whole
               ∙ ap (λ (n : ℕ). form (TransportComplete n) ∷ (hears_openly (active device) message).replies) part.session,
@@ -148,23 +168,37 @@ by_kind : (device : State) (payload drawn : List ℕ) → device.awake ≡ true 
 unfolding outcome_of hears
 by_kind device payload drawn awake kind = rw (awake, kind) refl
 
-pub next_segment : (device : State) (message segment drawn : List ℕ) (session : ℕ) → device.awake ≡ true → device.kind ≡ Configurable
+pub part_taken : (device : State) (message segment drawn : List ℕ) (session : ℕ) → device.awake ≡ true → device.kind ≡ Configurable
     → IsPart message (session % 16) segment → is_segment message ≡ false → session % 16 ≡ (device.sessions.taken + 1) % 16 → Agrees message (session % 16) device.reassembly
-    → KeepsSegment message (session % 16) device (device_after device (Hears segment drawn)) (device_replies device (Hears segment drawn))
-    ⊎ MakesWhole (session % 16) (device_after device (Hears message drawn)) (device_replies device (Hears message drawn)) (device_after device (Hears segment drawn)) (device_replies device (Hears segment drawn))
+    → TakesPart message (session % 16) segment device (device_after device (Hears message drawn)) (device_after device (Hears segment drawn)) (device_replies device (Hears message drawn)) (device_replies device (Hears segment drawn))
 unfolding device_after device_replies
-next_segment device message segment drawn session awake kind part whole id agrees =
+part_taken device message segment drawn session awake kind part whole id agrees =
     let of_segment : outcome_of device (Hears segment drawn) ≡ assembles (active device) segment (taken_at device.reassembly segment) =
     by_kind device segment drawn awake kind
     ∙ next_assembles (active device) segment (segment_is message segment (session % 16) part) (part.session ∙ id) in
     let of_message : outcome_of device (Hears message drawn) ≡ hears_openly (active device) message =
     by_kind device message drawn awake kind ∙ whole_heard (active device) message whole in
     let taken : Outcome = assembles (active device) segment (taken_at device.reassembly segment) in
-    subst (λ (o : Outcome). KeepsSegment message (session % 16) device o.device o.replies ⊎ MakesWhole (session % 16) (outcome_of device (Hears message drawn)).device (outcome_of device (Hears message drawn)).replies o.device o.replies) (sym of_segment)
-    (subst (λ (o : Outcome). KeepsSegment message (session % 16) device taken.device taken.replies ⊎ MakesWhole (session % 16) o.device o.replies taken.device taken.replies) (sym of_message)
+    subst (λ (o : Outcome). TakesPart message (session % 16) segment device (outcome_of device (Hears message drawn)).device o.device (outcome_of device (Hears message drawn)).replies o.replies) (sym of_segment)
+    (subst (λ (o : Outcome). TakesPart message (session % 16) segment device o.device taken.device o.replies taken.replies) (sym of_message)
     (assembled device message segment (session % 16) part agrees))
 
+pub next_segment : (device : State) (message segment drawn : List ℕ) (session : ℕ) → device.awake ≡ true → device.kind ≡ Configurable
+    → IsPart message (session % 16) segment → is_segment message ≡ false → session % 16 ≡ (device.sessions.taken + 1) % 16 → Agrees message (session % 16) device.reassembly
+    → KeepsSegment message (session % 16) device (device_after device (Hears segment drawn)) (device_replies device (Hears segment drawn))
+    ⊎ MakesWhole (session % 16) (device_after device (Hears message drawn)) (device_replies device (Hears message drawn)) (device_after device (Hears segment drawn)) (device_replies device (Hears segment drawn))
+next_segment device message segment drawn session awake kind part whole id agrees = by (part_taken device message segment drawn session awake kind part whole id agrees)
+  where
+    by : {heard new : State} {answers replies : List (List ℕ)} → TakesPart message (session % 16) segment device heard new answers replies
+        → KeepsSegment message (session % 16) device new replies ⊎ MakesWhole (session % 16) heard answers new replies
+    by (Keeps kept are last silent) = inl (kept, subst (AllByRecursion TellsNone) (sym silent) tt)
+    by (Asks at kept are least last says) = inl (kept, subst (AllByRecursion TellsNone) (sym says) (request_none (session % 16) at, tt))
+    by (Whole is) = inr is
+
 -- ---- any other
+
+left_active : (device : State) → IsLeft device (active device)
+left_active device = (record { journal = refl; sessions = refl; work_left = refl; work = refl }, refl)
 
 differs : (a b : ℕ) → a ≢ b → (a == b) ≡ false
 differs a b not = never_true (a == b) (λ e. not ((Decides-eqb a b).0 e))
@@ -198,6 +232,37 @@ unfolding device_replies
 other_says device message segment drawn session awake kind part other =
     subst (λ (o : Outcome). (0 < device.sessions.taken) ⊎ (o.replies ≡ [])) (sym (by_kind device segment drawn awake kind))
     (other_same (active device) segment (segment_is message segment (session % 16) part) (λ e. other (sym part.session ∙ e))).1
+
+-- ---- that of the last session that was taken
+
+taken_apart : (taken id : ℕ) → id ≡ taken % 16 → id ≢ (taken + 1) % 16
+taken_apart taken id last next = omega (arith, last, next)
+
+again_heard : (device : State) (segment : List ℕ) (ends : Bool) → is_segment segment ≡ true → 1 ≤ device.sessions.taken → id_of segment ≡ device.sessions.taken % 16 → ends_its_datagram segment ≡ ends
+    → hears_in_segments device segment ≡ (if ends then repeats_segment device segment else silent device)
+unfolding hears_in_segments hears_segment
+again_heard device segment ends is some id e =
+    let more : nat_lt 0 device.sessions.taken ≡ true = grind (arith, nat_tests, some) in
+    rw (is, differs (id_of segment) ((device.sessions.taken + 1) % 16) (taken_apart device.sessions.taken (id_of segment) id), more, (Decides-eqb (id_of segment) (segment_session device.sessions.taken)).1 id, e) refl
+
+pub segment_again : (device : State) (message segment drawn : List ℕ) (session : ℕ) → device.awake ≡ true → device.kind ≡ Configurable → IsPart message (session % 16) segment → session ≡ device.sessions.taken → 1 ≤ session
+    → AnswersAgain session segment device (device_after device (Hears segment drawn)) (device_replies device (Hears segment drawn))
+unfolding device_after device_replies
+segment_again device message segment drawn session awake kind part last some = by (ends_its_datagram segment) refl
+  where
+    by : (ends : Bool) → ends_its_datagram segment ≡ ends → AnswersAgain session segment device (outcome_of device (Hears segment drawn)).device (outcome_of device (Hears segment drawn)).replies
+    by ends e =
+        let id : id_of segment ≡ device.sessions.taken % 16 = part.session ∙ ap (λ (n : ℕ). n % 16) last in
+        let heard : outcome_of device (Hears segment drawn) ≡ (if ends then repeats_segment (active device) segment else silent (active device)) =
+        by_kind device segment drawn awake kind
+        ∙ again_heard (active device) segment ends (segment_is message segment (session % 16) part) (subst (λ (n : ℕ). 1 ≤ n) last some) id e in
+        subst (λ (o : Outcome). AnswersAgain session segment device o.device o.replies) (sym heard) (so ends e)
+      where
+        so : (ends : Bool) → ends_its_datagram segment ≡ ends → (λ (o : Outcome). AnswersAgain session segment device o.device o.replies) (if ends then repeats_segment (active device) segment else silent (active device))
+        so true is =
+            Repeats _ is (left_active device) (ap (λ (n : ℕ). form (TransportComplete n) ∷ form (status_report (active device) (record { updates = false; id = wire_id device.sessions.taken }) device.sessions.status) ∷ []) part.session)
+            (own_again (active device)) (report_length (active device) (record { updates = false; id = wire_id device.sessions.taken }) device.sessions.status)
+        so false is = Silent is (left_active device) refl
 
 -- ---- at other devices
 

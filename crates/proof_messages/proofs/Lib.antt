@@ -7,7 +7,9 @@ mod OtherMessages
 pub mod DeviceReports
 mod DevicePayloads
 mod SegmentParts
+mod SlicesKept
 pub mod DeviceSegments
+mod DeviceSlices
 mod Courses
 mod SealedAtLock
 pub mod NonceNumbers

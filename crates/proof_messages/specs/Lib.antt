@@ -3,6 +3,7 @@ pub mod Asking
 pub mod Others
 pub mod Reporting
 pub mod Segments
+pub mod Slices
 pub mod Landing
 pub mod Numbers
 pub mod Payloads

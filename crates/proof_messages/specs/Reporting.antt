@@ -53,6 +53,21 @@ pub record TellsPlainly (payload : List ℕ) : Type 0 where
   pub heard : heard_at payload ≡ Messages (told ∷ [])
   pub plain : IsPlainTold told
 
+-- it asks the host for no nonce
+abbrev pub IsOpenTold : Told → Type 0
+IsOpenTold (Report id status wake_request) = Unit {0}
+IsOpenTold NonceGet = ⊥
+IsOpenTold (NonceReport nonce) = Unit {0}
+IsOpenTold Notification = Unit {0}
+IsOpenTold (SegmentRequest id offset) = Unit {0}
+IsOpenTold (Values values) = Unit {0}
+
+-- a payload is heard as one such message, and nothing else
+pub record TellsOpenly (payload : List ℕ) : Type 0 where
+  pub told : Told
+  pub heard : heard_at payload ≡ Messages (told ∷ [])
+  pub openly : IsOpenTold told
+
 -- a payload of a device that is so by now
 abbrev pub TellsTrue : State → List ℕ → Type 0
 TellsTrue device payload = TellsOwn device payload ⊎ TellsNone payload

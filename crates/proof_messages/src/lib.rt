@@ -2,7 +2,7 @@
 //!
 //! Each law is the contract of a function with an empty body, over the definitions of orders, of wraps and of devices,
 //! with neither machine nor air.
-//! Of messages: `messages_open` and `messages_do_what_is_asked`, `segments_tell` for segments,
+//! Of messages: `messages_open` and `messages_do_what_is_asked`, `segments_tell` and `messages_come_in_slices` for segments,
 //! `sealed_messages_do_what_is_asked`, `others_are_no_messages` for everything else that the host sends, `reports_tell`
 //! for what a device answers, `messages_follow_the_course` for what becomes of its sessions, and `devices_end_sessions`
 //! for how a device ends those that it takes.
@@ -12,7 +12,7 @@
 //! `hosts_open_what_was_sealed` and `hosts_seal_what_waits` for the host; `others_carry_no_nonce` for what else they
 //! send; and `the_air_counts_nonces` for how old a frame is.
 //!
-//! The definitions are in `specs/`: `Asking`, `Landing`, `Others`, `Reporting`, `Segments` and `Ending` for messages
+//! The definitions are in `specs/`: `Asking`, `Landing`, `Others`, `Reporting`, `Segments`, `Slices` and `Ending` for messages
 //! and sessions; `Numbers` (which nonce has which number), `Payloads` (what is sealed for which), `Locks`, `Hosts`,
 //! `Opened`, `Shown` and `Waiting` for nonces.
 #![tactic(auto)]
@@ -30,6 +30,7 @@ mod sealed;
 mod segments;
 mod sessions;
 mod shown;
+mod slices;
 mod waiting;
 
 pub use device_sim::when_changes_come;
@@ -50,4 +51,5 @@ pub use sealed::{sealed_messages_do_what_is_asked, what_is_sealed_opens};
 pub use segments::segments_tell;
 pub use sessions::devices_end_sessions;
 pub use shown::the_air_counts_nonces;
+pub use slices::messages_come_in_slices;
 pub use waiting::locks_answer_sealed_messages;

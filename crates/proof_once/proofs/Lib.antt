@@ -1,7 +1,7 @@
 pub mod CommandsOfSessions
 mod Successes
 pub mod BegunCommands
-mod Once
+pub mod Once
 mod SettingValues
 mod ConfirmedValues
 mod InSessions

@@ -1,9 +1,9 @@
 -- What the tie gives of each session, and once only.
-use Rattle.std.proofs.Common.{◌≡◌, ◌⊎◌, ℕ, zero, suc, ◌≤◌, List, length, get_or, Option, Some, None, inl, inr, refl, sym, ap, subst, ◌∙◌, arith}
+use Rattle.std.proofs.Common.{◌≡◌, ◌⊎◌, ℕ, zero, suc, ◌≤◌, List, length, get_or, Option, Some, None, inl, inr, refl, sym, ap, ap₂, subst, ◌∙◌, arith}
 use Rattle.std.specs.List.{AllByRecursion}
 use Rattle.std.proofs.lemmas.Bool.{cases_eq}
 use Rattle.std.proofs.lemmas.Option.{slice_get-get_or}
-use Rattle.supervision.specs.Host.{open_session, command_at as session_at}
+use Rattle.supervision.specs.Host.{HostBook, begun_of, open_session, command_at as session_at}
 use Rattle.supervision.specs.declared.session.TheConstants.{SUCCESS}
 use Rattle.supervision.proofs.EndsLemmas.{open_session-Some}
 use Rattle.proof_course.specs.Parts.{successes}
@@ -103,6 +103,19 @@ pub record HasStatus (told : List ℕ) (session : ℕ) : Type 0 where
 status_within : (told : List ℕ) (session : ℕ) → 1 ≤ session → session ≤ length told → HasStatus told session
 status_within told zero one within = absurd (omega (arith, one))
 status_within told (suc before) one within = record { status = get_or told before 0; at = slice_get-get_or told before 0 (omega (arith, within)) }
+
+-- what the host was told looks at the commands of the sessions and at the last outcome alone
+pub retold : (was now : HostBook) (ends told : List ℕ) → now.commands ≡ was.commands → now.outcome ≡ was.outcome → AreTold was ends told → AreTold now ends told
+retold was now ends told same ended are =
+    let count : begun_of now ≡ begun_of was = ap (λ (l : List ℕ). length l) same in
+    let opened : open_session now ≡ open_session was =
+    ap₂ (λ (o : Option ℕ) (l : List ℕ). open_session (record { commands = l; outcome = o; attempts = 0 })) ended same in
+    record {
+      rest = are.rest;
+      prefix = are.prefix;
+      closed = λ none. are.closed (sym opened ∙ none) ∙ sym count;
+      opened = λ session some. are.opened session (sym opened ∙ some) ∙ sym count;
+    }
 
 -- ---- of one node
 

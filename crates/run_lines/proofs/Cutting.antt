@@ -6,10 +6,6 @@ use Rattle.std.proofs.lemmas.List.{take-take, drop-drop, length-take, get_or-tak
 use Rattle.run_lines.specs.SourceLines.{IsOneLine, IsOpen, IsCut, IsTooLong}
 use Rattle.run_lines.proofs.Feeds.{one_line-append, take_around}
 
--- the places of a piece, counted from where it is left
-from_there : (from count : ℕ) → from + count - from ≡ count
-from_there from count = omega arith
-
 -- a line feed stands among the first bytes of the piece
 pub cut_line : (prefix d : List ℕ) (k n count : ℕ) → IsOneLine prefix → k < length (take count d) → get_or (take count d) k 0 ≡ 10
     → IsOneLine (take k (take count d)) → count ≤ n → length prefix + count ≤ 1025

@@ -12,12 +12,6 @@ one_line-next [] k within before at = absurd (omega arith)
 one_line-next (x ∷ xs) zero within before at = (at, tt)
 one_line-next (x ∷ xs) (suc k) within before at = (before.0, one_line-next xs k (omega arith) before.1 at)
 
-pub one_line-take : (xs : List ℕ) (n : ℕ) → IsOneLine xs → IsOneLine (take n xs)
-one_line-take [] zero p = tt
-one_line-take [] (suc n) p = tt
-one_line-take (x ∷ xs) zero p = tt
-one_line-take (x ∷ xs) (suc n) p = (p.0, one_line-take xs n p.1)
-
 -- the first bytes of a list around one of them
 pub take_around : (xs : List ℕ) (k n byte : ℕ) → k < n → k < length xs → get_or xs k 0 ≡ byte
     → take n xs ≡ take k xs ++ byte ∷ take (n - suc k) (drop (suc k) xs)

@@ -201,11 +201,6 @@ pub wanted-after : (old mid mid' : Reading) (left left' : Option (List ℕ)) →
 wanted-after old mid mid' left left' h (same, pends) more =
     wanted old mid' left left' (has_read-forgets old mid mid' left left' h same) (subst IsOpen (sym (ap (λ r. r.pending) same)) pends) more
 
-pub goes-finish-after : (answer : Next) (old mid mid' new : Reading) (left left' : Option (List ℕ)) → HasRead old left mid left'
-    → (mid' ≡ no_line mid) × IsOpen mid.pending → mid'.ended ≡ true → Finishes answer mid' new → GoesFrom answer old left new left'
-goes-finish-after answer old mid mid' new left left' h (same, pends) ended f =
-    goes-finish answer old mid' new left left' (has_read-forgets old mid mid' left left' h same) (subst IsOpen (sym (ap (λ r. r.pending) same)) pends) ended f
-
 -- the source had given too much before
 pub goes-too_much : (old : Reading) (left : Option (List ℕ)) → MAX_INPUT < old.taken → GoesFrom InputTooLong old left old left
 goes-too_much old left much = record {

@@ -1,5 +1,5 @@
 -- What the entries in order are as a map.
-use Rattle.std.proofs.Common.{◌≡◌, ℕ, ◌≤◌, Bool, true, false, cond, ◌&&◌, ◌||◌, T, eqb, List, [], ◌∷◌, ◌++◌, length, Option, Some, None, is_some, unwrap_or, refl, sym, ap, subst, ◌∙◌, arith, true≢false}
+use Rattle.std.proofs.Common.{◌≡◌, ℕ, ◌+◌, ◌≤◌, Bool, true, false, cond, ◌&&◌, ◌||◌, T, eqb, List, [], ◌∷◌, ◌++◌, length, Option, Some, None, is_some, unwrap_or, refl, sym, ap, subst, ◌∙◌, arith, true≢false}
 use Rattle.std.specs.Ordering.{is_eq}
 use Rattle.std.specs.List.{AllByRecursion, filter_map, cons_option}
 use Rattle.std.specs.Set.{distinct_count}
@@ -7,7 +7,8 @@ use Rattle.std.specs.FinMap as map
 use Rattle.std.specs.FinMap.{find, put, is_sorted, get-from_sorted, entries-from_sorted, entries-insert, same_entries_map, empty_of_len, len-entries, same_map, get-insert}
 use Rattle.std.specs.FinMap.Entries.{is_sorted-put, find-put, find_tied}
 use Rattle.std.proofs.lemmas.Bool.{eq-eqb, or_right}
-use Rattle.std.proofs.lemmas.Map.Made.{length-from_same_keys}
+use Rattle.std.proofs.lemmas.List.{length-append}
+use Rattle.std.proofs.lemmas.Map.Made.{distinct_count-le, length-from_same_keys}
 use Rattle.zw_base.specs.PropertyOrder.{same_property}
 use Rattle.zw_base.specs.declared.property.Property.{Property}
 use Rattle.value_store.specs.declared.stored.Stored.{Stored}
@@ -113,6 +114,24 @@ fewer-held (e ∷ es) n = by (eqb n e.0.0) (has_value e.1) (fewer-held es n)
     by true true h = omega arith
     by true false h = omega arith
     by false v h = h
+
+-- a node has no more properties than there are entries
+fewer-among : (es : Entries) (n : ℕ) → length (properties_among es n) ≤ length es
+fewer-among [] n = omega arith
+fewer-among (e ∷ es) n = by (eqb n e.0.0) (fewer-among es n)
+  where
+    by : (b : Bool) → length (properties_among es n) ≤ length es → length (cons_option (cond b (Some e.0.1) None) (properties_among es n)) ≤ length (e ∷ es)
+    by true h = omega arith
+    by false h = omega arith
+
+-- with more properties it has at most as many as these and the entries together
+pub count-most : (es : Entries) → IsInOrder es → (n : ℕ) (ps : List Property) → count_with (seen es) n ps ≤ length ps + length es
+count-most es order n ps =
+    let all = count-seen es order n ps in
+    let distinct = distinct_count-le same_property (ps ++ properties_among es n) in
+    let long = length-append ps (properties_among es n) in
+    let few = fewer-among es n in
+    omega (arith, all, distinct, long, few)
 
 -- no entries are the empty map
 pub seen-none : seen [] ≡ map.empty

@@ -1,6 +1,6 @@
 //! The values of all nodes.
 
-ghost use Rattle.std.specs.Prelude.{◌≡◌, ℕ, ◌<◌, ◌≤◌, ◌↔◌, length, [], ◌∷◌, Some, Err, map, IfOk, OnOk, OnErr};
+ghost use Rattle.std.specs.Prelude.{◌≡◌, ℕ, ◌<◌, ◌≤◌, ◌↔◌, length, [], ◌∷◌, Some, Err, map, IfOk, IsTrue, IsFalse, OnOk, OnErr};
 ghost use Rattle.std.specs.List.{AllByRecursion};
 ghost use Rattle.std.specs.List.Sorted.{IsStrictlySortedBy};
 ghost use Rattle.std.specs.FinMap as finmap;
@@ -76,7 +76,7 @@ impl Store {
         ensures full { (result ≡ Err StoreFault.StoreFull) ↔ (512 < count_with self.old node properties.now) }
         ensures err { OnErr result (self.new ≡ self.old) }
     {
-        if self.count_with(node, properties) > MAX_PROPERTIES {
+        if self.exceeds(node, properties) {
             return Err(StoreFault::StoreFull);
         }
         self.entries.reserve(properties.len())?;
@@ -182,6 +182,22 @@ impl Store {
         ensures { self.new ≡ finmap.insert self.old key.now stored }
     {
         self.near = write(&mut self.entries, key, stored, self.near);
+    }
+
+    // Whether the node would have too many properties with these. They are not counted where all entries are few.
+    fn exceeds(&self, node: NodeId, properties: &[Property]) -> bool
+        ensures yes { IsTrue result → 512 < count_with self.now node properties.now }
+        ensures no { IsFalse result → count_with self.now node properties.now ≤ 512 }
+    {
+        let most = self
+            .entries
+            .as_slice()
+            .len()
+            .saturating_add(properties.len());
+        if most <= MAX_PROPERTIES {
+            return false;
+        }
+        self.count_with(node, properties) > MAX_PROPERTIES
     }
 
     // How many properties the node would have with these.

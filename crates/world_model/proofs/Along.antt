@@ -7,7 +7,7 @@ use Rattle.zw_text.specs.declared.line.Line.TheVariants.{Command, Tick, Cut, Sta
 use Rattle.host_orders.specs.declared.refused.Refused.{Refused}
 use Rattle.host_orders.specs.Refusals.{classes_of}
 use Rattle.host_orders.specs.Errands.{send_refusal, send_text, get_refusal, get_text}
-use Rattle.host_requests.specs.declared.task.Task.TheVariants as task
+use Rattle.host_model.specs.host_requests.declared.task.Task.TheVariants as task
 use Rattle.host_model.specs.State.{node_of}
 use Rattle.host_model.specs.Events.{HostEvent, Accepts, Cancels, Joins as joins_host, Queues, Queues_interview, Queues_probe, IsOwn}
 use Rattle.host_model.specs.May.{known_of}

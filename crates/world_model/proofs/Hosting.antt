@@ -4,9 +4,9 @@ use Rattle.std.specs.Prelude.{Option, Some, None}
 use Rattle.std.specs.List.{AllByRecursion}
 use Rattle.std.proofs.lemmas.List.{append-nil, map-append}
 use Rattle.zw_text.specs.declared.entry.Entry.{Entry}
-use Rattle.host_keep.specs.Keeping.{OptAdds}
-use Rattle.host_keep.specs.declared.record.Record.{Record}
-use Rattle.host_keep.specs.RecordText.{record_text}
+use Rattle.host_model.specs.host_keep.Keeping.{OptAdds}
+use Rattle.host_model.specs.host_keep.declared.record.Record.{Record}
+use Rattle.host_model.specs.host_keep.RecordText.{record_text}
 use Rattle.host_model.specs.State.{HostState}
 use Rattle.host_model.specs.Events.{HostEvent}
 use Rattle.host_model.specs.After.{after}

@@ -10,8 +10,8 @@ use Rattle.zw_text.specs.declared.line.Line.{Line}
 use Rattle.zw_text.specs.declared.entry.Refusal.{Refusal}
 use Rattle.zw_text.specs.declared.entry.Entry.{Entry}
 use Rattle.zw_text.specs.declared.entry.Entry.TheVariants.{Refused, Json}
-use Rattle.host_keep.specs.declared.record.Record.{Record}
-use Rattle.host_keep.specs.Legal.{AreTextsOf, AreLegal}
+use Rattle.host_model.specs.host_keep.declared.record.Record.{Record}
+use Rattle.host_model.specs.host_keep.Legal.{AreTextsOf, AreLegal}
 use Rattle.host_model.specs.Opening.{opened}
 use Rattle.host_model.specs.State.{HostState}
 use Rattle.host_model.specs.Events.{HostEvent}

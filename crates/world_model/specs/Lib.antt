@@ -8,7 +8,7 @@ pub mod Lines
 pub mod Prefixes
 pub mod Table
 pub use Rattle.host_model.specs as host_model
-pub use Rattle.host_requests.specs as host_requests
+pub use Rattle.host_model.specs.host_requests
 pub use Rattle.outside_model.specs as outside_model
 pub use Rattle.outside_model.specs.device_sim as device_sim
 pub use Rattle.outside_model.specs.mesh_sim as mesh_sim
@@ -16,4 +16,4 @@ pub use Rattle.outside_model.specs.chip_sim as chip_sim
 pub use Rattle.host_model.specs.host_node as host_node
 pub use Rattle.outside_model.specs.serial_pipes as serial_pipes
 pub use Rattle.outside_model.specs.device_kinds as device_kinds
-pub use Rattle.host_keep.specs as host_keep
+pub use Rattle.host_model.specs.host_keep

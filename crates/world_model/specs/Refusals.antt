@@ -6,7 +6,7 @@ use Rattle.zw_text.specs.declared.line.Line.TheVariants.{Command, Send, Get, Joi
 use Rattle.zw_text.specs.declared.entry.Refusal.{Refusal}
 use Rattle.zw_text.specs.declared.entry.Refusal.TheVariants as refusal
 use Rattle.host_orders.specs.Errands.{send_refusal, get_refusal}
-use Rattle.host_keep.specs.Legal.{IsFirstBad}
+use Rattle.host_model.specs.host_keep.Legal.{IsFirstBad}
 use Rattle.host_model.specs.State.{node_of}
 use Rattle.host_model.specs.May.{known_of}
 use Rattle.host_model.specs.Asking.{refusal_for, join_refusal, places_refusal, interview_refusal}

@@ -5,7 +5,7 @@ use Rattle.serial_frame.specs.Stream.{no_rest}
 use Rattle.s0_crypto.specs.declared.key_pair.Keys.{Keys}
 use Rattle.zw_text.specs.declared.entry.Entry.{Entry}
 use Rattle.zw_text.specs.declared.entry.Entry.TheVariants.{Begin}
-use Rattle.host_model.specs.State.{HostState, HostParts, first_host}
+use Rattle.host_model.specs.State.{HostParts, first_host}
 use Rattle.host_model.specs.Events.{HostEvent}
 use Rattle.host_model.specs.Did.{after_all, outs_all, records_all, texts_of}
 use Rattle.host_model.specs.declared.out.HostOut.{HostOut}
@@ -25,10 +25,7 @@ pub record Machine : Type 0 where
 abbrev pub machine : Keys → HostParts → OuterState → Option (List (List ℕ)) → List State → Machine
 machine keys host outer records devices = record { keys = keys; host = host; records = records; outside = outside outer devices }
 
--- the machine with another host, or other things outside it
-abbrev pub with_host : Machine → HostState → Machine
-with_host m state = record m { host = record { decoder = m.host.decoder; state = state } }
-
+-- the machine with other things outside it
 abbrev pub with_outside : Machine → Outside → Machine
 with_outside m w = record m { outside = w }
 

@@ -300,7 +300,3 @@ dividend_below bytes small =
 pub crc_is_remainder : (bytes : List ℕ) → ((i : ℕ) → get_or bytes i 0 < 256) → IsRemainder (dividend bytes) (crc bytes)
 unfolding crc
 crc_is_remainder bytes small = left_is_remainder (8 * length bytes) (dividend bytes) (dividend_below bytes small)
-
--- it has 16 bits
-pub crc_below : (bytes : List ℕ) → ((i : ℕ) → get_or bytes i 0 < 256) → crc bytes < 2 ^ 16
-crc_below bytes small = let h = crc_is_remainder bytes small in h.below

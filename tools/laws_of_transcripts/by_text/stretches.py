@@ -92,7 +92,8 @@ def broken_stretch(names, stretch, key):
         return False, False
     if not code("IsStretch")(tuple(key), stretch.devices, before, entries):
         return False, False
-    if not code("are_plain_listeners")(stretch.devices, before, entries) and not (code("is_alone")(before, entries) and code("is_time")(before, entries)):
+    in_all = code("are_plain_listeners")(stretch.devices, before, entries) or code("is_sleeper_alone")(stretch.devices, before, entries)
+    if not in_all and not (code("is_alone")(before, entries) and code("is_time")(before, entries)):
         return False, False
     STOOD.clear()
     STOOD.update({node: devices.Device(node, key) for node in range(2, 233)})

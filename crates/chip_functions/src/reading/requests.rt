@@ -47,11 +47,13 @@ fn get_routing_info(place: &mut Place) -> Result<Request, BodyFault>
     requires { place.old.before ≡ 0 }
     ensures { Gives (λ x. (x, place_of place.new)) result (get_routing_info_at (place_of place.old)) }
 {
+    let node = place.node()?;
+    let bytes = place.piece(3)?;
     Ok(Request::GetRoutingInfo {
-        node: place.node()?,
-        remove_bad: place.byte()?,
-        remove_non_repeaters: place.byte()?,
-        function_id: place.byte()?,
+        node,
+        remove_bad: bytes[0],
+        remove_non_repeaters: bytes[1],
+        function_id: bytes[2],
     })
 }
 

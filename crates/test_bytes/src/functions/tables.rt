@@ -1,6 +1,9 @@
 //! The table. A line of it is a count and that many bytes: the direction of a body (0 for a request, 1 for a response, 2 for a
 //! notice), its function, and the body.
 
+/// Bodies of a GetRoutingInfo that end early, and the bytes that each needs: those after the node are one field.
+pub const CUT: &[(&[u8], u16)] = &[(&[], 1), (&[10], 4), (&[10, 0], 4), (&[10, 0, 0], 4)];
+
 /// Written forms: each is read, and written as it stands.
 pub const ROWS: &[u8] = &[
     // Requests without a field.

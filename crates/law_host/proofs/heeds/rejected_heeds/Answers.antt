@@ -3,8 +3,8 @@ use Rattle.law_host.specs.Heard.{heeds_alone}
 use Rattle.law_host.specs.Worked.{given_beside_unkept, given_sealed}
 use Rattle.law_time.specs.Choice.{may_send}
 use Rattle.law_time.specs.Heeds.{heeds_of}
-use Rattle.law_transcript.specs.Worked.{the_lock, the_switch}
-use Rattle.law_transcript.proofs.Deciding.{broken}
+use Rattle.law_time.specs.law_transcript.Worked.{the_lock, the_switch}
+use Rattle.law_time.proofs.Deciding.{broken}
 use Rattle.law_time.proofs.Computing.{computing}
 use Rattle.law_host.proofs.heeds.rejected_heeds.Goals as goal
 

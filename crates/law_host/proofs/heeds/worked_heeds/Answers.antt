@@ -3,7 +3,7 @@ use Rattle.host_heard.specs.declared.told.Told.TheVariants.{NonceGet}
 use Rattle.law_host.specs.Heard.{heeds_alone}
 use Rattle.law_host.specs.Worked.{given_beside_unkept, given_sealed}
 use Rattle.law_time.specs.Choice.{may_send}
-use Rattle.law_transcript.proofs.Deciding.{kept}
+use Rattle.law_time.proofs.Deciding.{kept}
 use Rattle.law_time.proofs.Computing.{computing}
 use Rattle.law_host.proofs.heeds.worked_heeds.Goals as goal
 

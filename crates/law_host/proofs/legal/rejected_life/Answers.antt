@@ -3,8 +3,8 @@ use Rattle.std.proofs.Common.{◌≡◌, ℕ, List, [], ◌∷◌, length, map, 
 use Rattle.host_keep.specs.Kept.{Kept, Session, node_of}
 use Rattle.host_keep.proofs.RecordLists.{give_one}
 use Rattle.zw_text.specs.Transcript.{sessions}
-use Rattle.law_transcript.proofs.Computing.{computing_devices}
-use Rattle.law_wire.proofs.ShownRecords.{gives_begun}
+use Rattle.law_time.proofs.law_transcript_Computing.{computing_devices}
+use Rattle.law_time.proofs.ShownRecords.{gives_begun}
 use Rattle.law_host.proofs.FirstLife.{gives_life}
 use Rattle.law_host.proofs.legal.rejected_life.Goals as goal
 

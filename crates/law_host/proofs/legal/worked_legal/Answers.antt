@@ -4,13 +4,13 @@ use Rattle.std.specs.List.{AllByRecursion}
 use Rattle.zw_words.specs.declared.side.Side.TheVariants.{Host}
 use Rattle.zw_text.specs.declared.entry.Entry.{Entry}
 use Rattle.zw_text.specs.Transcript.{accepted, sessions}
-use Rattle.law_transcript.specs.Answers.{MayAnswer, refusals_by_host}
-use Rattle.law_transcript.specs.Commands.{numbers_of}
-use Rattle.law_transcript.specs.Lists.{EachAfter, Has, Rises}
-use Rattle.law_transcript.specs.Once.{CarriesOnce}
-use Rattle.law_transcript.specs.Worked.{refused_lines, the_switch}
-use Rattle.law_wire.specs.Links.{KeepsLink}
-use Rattle.law_wire.specs.Serial.{ended}
+use Rattle.law_time.specs.law_transcript.Answers.{MayAnswer, refusals_by_host}
+use Rattle.law_time.specs.law_transcript.Commands.{numbers_of}
+use Rattle.law_time.specs.law_transcript.Lists.{EachAfter, Has, Rises}
+use Rattle.law_time.specs.law_transcript.Once.{CarriesOnce}
+use Rattle.law_time.specs.law_transcript.Worked.{refused_lines, the_switch}
+use Rattle.law_time.specs.law_wire.Links.{KeepsLink}
+use Rattle.law_time.specs.law_wire.Serial.{ended}
 use Rattle.law_time.specs.Choice.{may_follow, may_number, may_send}
 use Rattle.law_time.specs.Heeds.{Heeds, heeds_of}
 use Rattle.law_time.specs.Queue.{may_queue}
@@ -20,11 +20,11 @@ use Rattle.law_host.specs.Heard.{heard_by_host, heeds_alone}
 use Rattle.law_host.specs.HostLegal.{IsHostLegal, IsLegalAlone}
 use Rattle.law_host.specs.Notes.{first_start}
 use Rattle.law_host.specs.Worked.{all_kept, plain_heard}
-use Rattle.law_transcript.proofs.Deciding.{kept}
-use Rattle.law_transcript.proofs.Entries.{stores_after}
-use Rattle.law_wire.proofs.Judging.{keeps_link}
-use Rattle.law_wire.proofs.Moves.{acts_of}
-use Rattle.law_wire.proofs.ShownRecords.{above, every, none_begun}
+use Rattle.law_time.proofs.Deciding.{kept}
+use Rattle.law_time.proofs.law_transcript_Entries.{stores_after}
+use Rattle.law_time.proofs.Judging.{keeps_link}
+use Rattle.law_time.proofs.Moves.{acts_of}
+use Rattle.law_time.proofs.ShownRecords.{above, every, none_begun}
 use Rattle.law_time.proofs.Computing.{computing}
 use Rattle.law_host.proofs.Noting.{noted}
 use Rattle.law_host.proofs.legal.worked_legal.Goals as goal

@@ -6,13 +6,13 @@ use Rattle.zw_words.specs.declared.side.Side.TheVariants.{Host}
 use Rattle.zw_text.specs.declared.entry.Entry.{Entry}
 use Rattle.zw_text.specs.Transcript.{accepted, sessions}
 use Rattle.host_keep.specs.Kept.{KeptNode, kept_of, node_of}
-use Rattle.law_transcript.specs.Answers.{MayAnswer, refusals_by_host}
-use Rattle.law_transcript.specs.Commands.{numbers_of}
-use Rattle.law_transcript.specs.Lists.{EachAfter, Has, Rises, last_or}
-use Rattle.law_transcript.specs.Once.{CarriesOnce}
-use Rattle.law_transcript.specs.Records.{ShowsNode}
-use Rattle.law_wire.specs.Links.{KeepsLink}
-use Rattle.law_wire.specs.Serial.{ended}
+use Rattle.law_time.specs.law_transcript.Answers.{MayAnswer, refusals_by_host}
+use Rattle.law_time.specs.law_transcript.Commands.{numbers_of}
+use Rattle.law_time.specs.law_transcript.Lists.{EachAfter, Has, Rises, last_or}
+use Rattle.law_time.specs.law_transcript.Once.{CarriesOnce}
+use Rattle.law_time.specs.law_transcript.Records.{ShowsNode}
+use Rattle.law_time.specs.law_wire.Links.{KeepsLink}
+use Rattle.law_time.specs.law_wire.Serial.{ended}
 use Rattle.law_time.specs.Choice.{may_follow, may_number, may_send}
 use Rattle.law_time.specs.Heeds.{Heeds}
 use Rattle.law_time.specs.Interviews.{listens}
@@ -25,12 +25,12 @@ use Rattle.law_host.specs.HostLegal.{IsHostLegal, IsLegalAlone}
 use Rattle.law_host.specs.Nonces.{nonce_with}
 use Rattle.law_host.specs.Starting.{KnowsNode, book_kept}
 use Rattle.law_host.specs.Worked.{after_life, all_kept, first_life, life_records, next_session}
-use Rattle.law_transcript.proofs.Computing.{computing_devices}
-use Rattle.law_transcript.proofs.Deciding.{kept_after}
-use Rattle.law_transcript.proofs.Entries.{stores_after}
-use Rattle.law_wire.proofs.Judging.{keeps_link}
-use Rattle.law_wire.proofs.Moves.{acts_of}
-use Rattle.law_wire.proofs.ShownRecords.{above, blank_at, every, is_other, none_asked, none_begun, others_are, shows_nodes}
+use Rattle.law_time.proofs.law_transcript_Computing.{computing_devices}
+use Rattle.law_time.proofs.Deciding.{kept_after}
+use Rattle.law_time.proofs.law_transcript_Entries.{stores_after}
+use Rattle.law_time.proofs.Judging.{keeps_link}
+use Rattle.law_time.proofs.Moves.{acts_of}
+use Rattle.law_time.proofs.ShownRecords.{above, blank_at, every, is_other, none_asked, none_begun, others_are, shows_nodes}
 use Rattle.law_time.proofs.Computing.{computing}
 use Rattle.law_host.proofs.FirstLife.{gives_life}
 use Rattle.law_host.proofs.Noting.{noted}

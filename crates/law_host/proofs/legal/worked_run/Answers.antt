@@ -1,35 +1,35 @@
 use Rattle.std.proofs.Common.{◌≡◌, ℕ, ◌==◌, Bool, true, false, if◌then◌else◌, List, [], ◌∷◌, ◌++◌, arith, refl, sym, ap, subst, append_assoc, append-nil, ◌∙◌}
 use Rattle.std.specs.Prelude.{Some, None, map}
 use Rattle.std.proofs.lemmas.Bool.{eqb-true}
-use Rattle.law_transcript.specs.device_stack.State.{State}
+use Rattle.law_time.specs.law_transcript.device_stack.State.{State}
 use Rattle.zw_words.specs.declared.side.Side.TheVariants.{Host, Chip}
 use Rattle.zw_text.specs.declared.entry.Entry.{Entry}
 use Rattle.zw_text.specs.declared.entry.Entry.TheVariants.{Said}
 use Rattle.zw_text.specs.Transcript.{line_last}
 use Rattle.host_keep.specs.Kept.{kept_of, node_of}
 use Rattle.host_keep.specs.RecordText.{record_text}
-use Rattle.law_transcript.specs.Records.{KeepsRecords, ShowsNode}
-use Rattle.law_transcript.specs.Devices.{RanAsShown, after_events}
-use Rattle.law_transcript.specs.Fates.{MayFare}
-use Rattle.law_transcript.specs.Lists.{EachAfter}
-use Rattle.law_transcript.specs.Nodes.{device_of, listing_of, always}
-use Rattle.law_transcript.specs.Worked.{plain_exchange, the_switch}
-use Rattle.law_transcript.specs.WorkedDevices.{plain_records, switch_events}
-use Rattle.law_wire.specs.Arriving.{FollowsRepeat, IsForgotten, forgets}
-use Rattle.law_wire.specs.Clearing.{ClearsLine}
-use Rattle.law_wire.specs.Doings.{DoesAtOnce}
-use Rattle.law_wire.specs.Marks.{IsMarked, to_stand}
-use Rattle.law_wire.specs.Pipes.{may_overrun}
-use Rattle.law_wire.specs.Serial.{ended}
-use Rattle.law_wire.specs.Times.{MayBeTold, TellsTime}
+use Rattle.law_time.specs.law_transcript.Records.{KeepsRecords, ShowsNode}
+use Rattle.law_time.specs.law_transcript.Devices.{RanAsShown, after_events}
+use Rattle.law_time.specs.law_transcript.Fates.{MayFare}
+use Rattle.law_time.specs.law_transcript.Lists.{EachAfter}
+use Rattle.law_time.specs.law_transcript.Nodes.{device_of, listing_of, always}
+use Rattle.law_time.specs.law_transcript.Worked.{plain_exchange, the_switch}
+use Rattle.law_time.specs.law_transcript.WorkedDevices.{plain_records, switch_events}
+use Rattle.law_time.specs.law_wire.Arriving.{FollowsRepeat, IsForgotten, forgets}
+use Rattle.law_time.specs.law_wire.Clearing.{ClearsLine}
+use Rattle.law_time.specs.law_wire.Doings.{DoesAtOnce}
+use Rattle.law_time.specs.law_wire.Marks.{IsMarked, to_stand}
+use Rattle.law_time.specs.law_wire.Pipes.{may_overrun}
+use Rattle.law_time.specs.law_wire.Serial.{ended}
+use Rattle.law_time.specs.law_wire.Times.{MayBeTold, TellsTime}
 use Rattle.law_host.specs.Heard.{heard_by_host}
 use Rattle.law_host.specs.HostLegal.{IsLegalAlone, ShowsValues}
 use Rattle.law_host.specs.Notes.{first_start}
 use Rattle.law_host.specs.Worked.{plain_heard}
-use Rattle.law_wire.proofs.Judging.{both_links, keeps_link}
-use Rattle.law_wire.proofs.Moves.{acts_of}
-use Rattle.law_wire.proofs.ShownRecords.{blank_at, gives_plain, shows_nodes}
-use Rattle.law_transcript.proofs.Computing.{computing_devices}
+use Rattle.law_time.proofs.Judging.{both_links, keeps_link}
+use Rattle.law_time.proofs.Moves.{acts_of}
+use Rattle.law_time.proofs.ShownRecords.{blank_at, gives_plain, shows_nodes}
+use Rattle.law_time.proofs.law_transcript_Computing.{computing_devices}
 use Rattle.law_time.proofs.Computing.{computing}
 use Rattle.law_host.proofs.WithRecords.{legal_with}
 use Rattle.law_host.proofs.legal.worked_run.Goals as goal

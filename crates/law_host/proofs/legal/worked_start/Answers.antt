@@ -2,9 +2,9 @@ use Rattle.std.proofs.Common.{◌≡◌, ℕ, Bool, [], ◌∷◌, if◌then◌e
 use Rattle.std.specs.Prelude.{Some, None}
 use Rattle.host_keep.specs.Kept.{KeptNode, kept_of, node_of}
 use Rattle.host_keep.specs.Legal.{first_illegal}
-use Rattle.law_transcript.specs.Records.{ShowsNode}
-use Rattle.law_transcript.proofs.Computing.{computing_devices}
-use Rattle.law_wire.proofs.ShownRecords.{above, blank_at, every, gives, others_are, shows_nodes}
+use Rattle.law_time.specs.law_transcript.Records.{ShowsNode}
+use Rattle.law_time.proofs.law_transcript_Computing.{computing_devices}
+use Rattle.law_time.proofs.ShownRecords.{above, blank_at, every, gives, others_are, shows_nodes}
 use Rattle.law_host.specs.Course.{blank_book}
 use Rattle.law_host.specs.Starting.{KnowsNode, book_kept}
 use Rattle.law_host.proofs.legal.worked_start.Goals as goal

@@ -12,9 +12,9 @@ use Rattle.law_host.specs.Nonces.{IsOffer, IsOpening, UsesNonces}
 use Rattle.law_host.specs.Course.{Course}
 use Rattle.law_host.specs.Notes.{course_of, first_start}
 use Rattle.law_host.specs.Worked.{after_counting, after_nonce_asked, first_given, given_new, given_otherwise, given_skipped, new_over_restart, nonce_again, sealed_left_out, sealed_over_restart, unopened_left_out}
-use Rattle.law_transcript.specs.Worked.{network_key, the_lock}
-use Rattle.law_transcript.proofs.Deciding.{not_true}
-use Rattle.law_transcript.proofs.Sealing.{changed_code, opened_changed, opened_report, other_nonce, report_code, report_ends, report_nonce, report_plain, report_with, sealed_otherwise, set_code, set_ends, set_own, set_plain, set_with}
+use Rattle.law_time.specs.law_transcript.Worked.{network_key, the_lock}
+use Rattle.law_time.proofs.Deciding.{not_true}
+use Rattle.law_time.proofs.Sealing.{changed_code, opened_changed, opened_report, other_nonce, report_code, report_ends, report_nonce, report_plain, report_with, sealed_otherwise, set_code, set_ends, set_own, set_plain, set_with}
 use Rattle.law_time.proofs.Computing.{computing}
 use Rattle.law_host.proofs.Noting.{unfit}
 use Rattle.law_host.proofs.Opening.{Shown, all_keep, shown_of}

@@ -2,8 +2,8 @@ use Rattle.std.proofs.Common.{◌≡◌, Bool, true, false, ℕ, List, [], ◌�
 use Rattle.std.specs.Prelude.{if◌then◌else◌}
 use Rattle.law_host.specs.Nonces.{IsSeal}
 use Rattle.law_host.specs.Worked.{all_kept, opened_to_nothing, report_kept, spent, unspent}
-use Rattle.law_transcript.specs.Worked.{network_key}
-use Rattle.law_transcript.proofs.Sealing.{opened_changed, opened_report, sealed_set, set_code, set_nonce, set_own, set_plain, set_with}
+use Rattle.law_time.specs.law_transcript.Worked.{network_key}
+use Rattle.law_time.proofs.Sealing.{opened_changed, opened_report, sealed_set, set_code, set_nonce, set_own, set_plain, set_with}
 use Rattle.law_time.proofs.Computing.{computing}
 use Rattle.law_host.proofs.nonces.worked_nonces.Goals as goal
 

@@ -6,7 +6,7 @@ use Rattle.law_host.specs.Notes.{course_of, first_start}
 use Rattle.law_host.specs.Worked.{after_begun, after_later_nonce, after_lock_begun, after_sessions, after_sleeper_begun, after_values, after_waking, dropped_first, dropped_of_other, ended_by_first, ended_by_other, ended_by_refused, ended_by_work, ended_of_another, ended_openly, ended_sealed, ended_otherwise, given_up_by_other, hold_left_out, left_beside_copy, old_left_out, unkept_unasked, unread_left_out, value_again, value_left_out, value_otherwise, value_stored_though_full, value_twice, woken_by_another}
 use Rattle.law_time.specs.WorkedWaits.{the_other_switch}
 use Rattle.law_time.specs.WrongEnds.{awake_after_link, awake_in_next_line}
-use Rattle.law_transcript.specs.Worked.{the_lock, the_sensor, the_switch}
+use Rattle.law_time.specs.law_transcript.Worked.{the_lock, the_sensor, the_switch}
 use Rattle.law_time.proofs.Computing.{computing}
 use Rattle.law_host.proofs.Noting.{unended, unfit}
 use Rattle.law_host.proofs.notes.rejected_notes.Goals as goal

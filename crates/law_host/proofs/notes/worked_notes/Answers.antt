@@ -6,7 +6,7 @@ use Rattle.law_host.specs.Worked.{after_begun, after_later_nonce, after_lock_beg
 use Rattle.law_time.specs.WorkedEnds.{asleep_given_up, asleep_in_silence, given_up_at_answer, interview_refused, interview_uninformed}
 use Rattle.law_time.specs.WorkedTurns.{dropped_after_report}
 use Rattle.law_time.specs.WorkedWaits.{answered_errands, the_other_switch, waited_attempts}
-use Rattle.law_transcript.specs.Worked.{cancelled_order, lossy_exchange, plain_exchange, repeated_exchange, restarted_host, sleeping_node, the_lock, the_sensor, the_switch}
+use Rattle.law_time.specs.law_transcript.Worked.{cancelled_order, lossy_exchange, plain_exchange, repeated_exchange, restarted_host, sleeping_node, the_lock, the_sensor, the_switch}
 use Rattle.law_time.proofs.Computing.{computing}
 use Rattle.law_host.proofs.Noting.{noted}
 use Rattle.law_host.proofs.notes.worked_notes.Goals as goal

@@ -5,7 +5,7 @@ use Rattle.json.specs.Print.{escape_byte}
 use Rattle.zw_text.specs.declared.entry.Entry.{Entry}
 use Rattle.zw_text.specs.declared.entry.Entry.TheVariants.{Json}
 use Rattle.law_host.specs.Worked.{value_text}
-use Rattle.law_transcript.proofs.Deciding.{not_true}
+use Rattle.law_time.proofs.Deciding.{not_true}
 use Rattle.law_time.proofs.Computing.{computing}
 use Rattle.law_host.proofs.values.rejected_shown_values.Goals as goal
 

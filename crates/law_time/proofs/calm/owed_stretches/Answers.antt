@@ -48,5 +48,6 @@ pub returns-clause-promised : goal.returns-clause-promised
 unfolding computing
 returns-clause-promised c = record {
   alone = λ calm stretch one time. absurd (not_true calm.still.called);
+  asleep = λ calm stretch plain time. absurd (not_true calm.still.called);
   together = λ calm stretch plain time. absurd (not_true calm.still.called);
 }

@@ -66,6 +66,27 @@ returns-clause-missing_together c = λ law. not_true (law.together
     })
     refl refl)
 
+pub returns-clause-missing_asleep : goal.returns-clause-missing_asleep
+unfolding computing
+returns-clause-missing_asleep c = λ law. not_true (law.asleep
+    (record {
+      still = record { marks = refl; judged = refl; host = refl; chip = refl; called = refl; settled = refl; air = refl; idle = refl; asleep = refl; working = refl };
+      to_come = refl;
+    })
+    (record {
+      quiet = refl;
+      kept = refl;
+      reached = (
+        record { repeaters = []; route = direct _ _ _ refl; live = is_linked _ _ 1 5 ∙ refl; back = []; way = (direct _ _ _ refl).walk },
+        tt,
+      );
+    })
+    refl refl)
+
+pub returns-clause-not_asleep : goal.returns-clause-not_asleep
+unfolding computing
+returns-clause-not_asleep c = refl
+
 pub returns-clause-succeeded : goal.returns-clause-succeeded
 unfolding computing
 returns-clause-succeeded c = λ law. not_true (law.alone

@@ -23,6 +23,7 @@ pub returns-clause-promised : goal.returns-clause-promised
 unfolding computing
 returns-clause-promised c = record {
   alone = λ calm stretch one time. absurd (not_true (sym stretch.kept));
+  asleep = λ calm stretch plain time. absurd (not_true (sym stretch.kept));
   together = λ calm stretch plain time. absurd (not_true (sym stretch.kept));
 }
 

@@ -13,7 +13,7 @@ returns-clause-one_in_time c = refl
 
 pub returns-clause-one_answered : goal.returns-clause-one_answered
 unfolding computing
-returns-clause-one_answered c = record { alone = λ calm stretch one time. refl; together = λ calm stretch plain time. refl }
+returns-clause-one_answered c = record { alone = λ calm stretch one time. refl; asleep = λ calm stretch plain time. refl; together = λ calm stretch plain time. refl }
 
 pub returns-clause-two : goal.returns-clause-two
 unfolding computing
@@ -45,7 +45,7 @@ returns-clause-two_in_time c = refl
 
 pub returns-clause-two_answered : goal.returns-clause-two_answered
 unfolding computing
-returns-clause-two_answered c = record { alone = λ calm stretch one time. refl; together = λ calm stretch plain time. refl }
+returns-clause-two_answered c = record { alone = λ calm stretch one time. refl; asleep = λ calm stretch plain time. refl; together = λ calm stretch plain time. refl }
 
 pub returns-clause-sleeper : goal.returns-clause-sleeper
 unfolding computing
@@ -59,9 +59,17 @@ pub returns-clause-sleeper_in_time : goal.returns-clause-sleeper_in_time
 unfolding computing
 returns-clause-sleeper_in_time c = refl
 
+pub returns-clause-sleeper_plain : goal.returns-clause-sleeper_plain
+unfolding computing
+returns-clause-sleeper_plain c = refl
+
+pub returns-clause-sleeper_long_enough : goal.returns-clause-sleeper_long_enough
+unfolding computing
+returns-clause-sleeper_long_enough c = refl
+
 pub returns-clause-sleeper_answered : goal.returns-clause-sleeper_answered
 unfolding computing
-returns-clause-sleeper_answered c = record { alone = λ calm stretch one time. refl; together = λ calm stretch plain time. refl }
+returns-clause-sleeper_answered c = record { alone = λ calm stretch one time. refl; asleep = λ calm stretch plain time. refl; together = λ calm stretch plain time. refl }
 
 pub returns-clause-failing : goal.returns-clause-failing
 unfolding computing
@@ -73,7 +81,7 @@ returns-clause-failing_in_time c = refl
 
 pub returns-clause-failing_answered : goal.returns-clause-failing_answered
 unfolding computing
-returns-clause-failing_answered c = record { alone = λ calm stretch one time. refl; together = λ calm stretch plain time. refl }
+returns-clause-failing_answered c = record { alone = λ calm stretch one time. refl; asleep = λ calm stretch plain time. refl; together = λ calm stretch plain time. refl }
 
 one_two : ◌≡◌ {A = ℕ} 2 1 → ⊥
 one_two e = omega (arith, e)
@@ -104,7 +112,7 @@ returns-clause-repeated_in_time c = refl
 
 pub returns-clause-repeated_answered : goal.returns-clause-repeated_answered
 unfolding computing
-returns-clause-repeated_answered c = record { alone = λ calm stretch one time. refl; together = λ calm stretch plain time. refl }
+returns-clause-repeated_answered c = record { alone = λ calm stretch one time. refl; asleep = λ calm stretch plain time. refl; together = λ calm stretch plain time. refl }
 
 pub returns-clause-sixteen : goal.returns-clause-sixteen
 unfolding computing

@@ -28,6 +28,7 @@ hearing_of c = payload_judges (record {
   segments = record {
     part = c.segments_tell.ensures.part;
     next = c.segments_tell.ensures.next;
+    slices = c.segments_tell.ensures.slices;
     other = c.segments_tell.ensures.other;
     other_says = c.segments_tell.ensures.other_says;
     elsewhere = c.segments_tell.ensures.elsewhere;

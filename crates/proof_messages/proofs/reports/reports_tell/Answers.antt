@@ -1,5 +1,5 @@
 -- Each clause is a lemma on an event.
-use Rattle.proof_messages.proofs.DeviceReports.{heard_plain, replies_true, status_said}
+use Rattle.proof_messages.proofs.DeviceReports.{heard_openly, heard_plain, replies_true, status_said}
 use Rattle.proof_messages.proofs.DevicePayloads.{fresh_can, event_can}
 use Rattle.proof_messages.proofs.reports.reports_tell.Goals as goal
 
@@ -8,6 +8,9 @@ returns-clause-replies c = replies_true
 
 pub returns-clause-plainly : goal.returns-clause-plainly
 returns-clause-plainly c = heard_plain
+
+pub returns-clause-openly : goal.returns-clause-openly
+returns-clause-openly c = heard_openly
 
 pub returns-clause-fresh : goal.returns-clause-fresh
 returns-clause-fresh c = fresh_can

@@ -25,7 +25,8 @@ invariant_of-self-2 c =
     let es = c.self.inside.entries.items in
     let all = count-seen es c.self.invariant.0 c.args.node c.args.properties.now in
     let view = ap (λ (v : Values). count_with v c.args.node c.args.properties.now) c.self.view_is in
-    let within : distinct_count same_property (c.args.properties.now ++ properties_among es c.args.node) ≤ 512 = omega (arith, all, view) in
+    let few = c.exceeds.ensures.no c.if-exceeds.false in
+    let within : distinct_count same_property (c.args.properties.now ++ properties_among es c.args.node) ≤ 512 = omega (arith, all, view, few) in
     subst (λ (es : Entries). IsInOrder es × IsWithinLimit es) (sym (kept c))
     (order-keeping_all es c.args.node c.args.properties.now c.self.invariant.0, limit-keeping_all es c.args.node c.args.properties.now c.self.invariant.0 c.self.invariant.1 within)
 

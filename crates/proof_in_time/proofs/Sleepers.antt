@@ -1,0 +1,106 @@
+-- A device that does not listen: it tells that it was woken, stays awake while it heard something a short time ago, and sleeps once it is told that there is no more for it.
+use Rattle.std.proofs.Common.{◌≡◌, ℕ, ◌+◌, ◌-◌, ◌<◌, ◌==◌, ◌&&◌, ◌||◌, nat_lt, Bool, true, false, if◌then◌else◌, Some, Ok, List, [], ◌∷◌, refl, sym, ap, ◌∙◌, subst, arith}
+use Rattle.std.proofs.lemmas.Bool.{lt-ltb}
+use Rattle.class_info.specs.declared.message.InfoMessage.TheVariants.{WakeUpNoMoreInformation, WakeUpNotification}
+use Rattle.class_info.specs.InfoReading.{info_at}
+use Rattle.class_info.specs.InfoSpelling.{form}
+use Rattle.class_info.proofs.FormLaws.{form_spells}
+use Rattle.class_info.proofs.InfoLaws.{again}
+use Rattle.encap.specs.Opening.{Message, begins_with, opened_at}
+use Rattle.host_heard.specs.Telling.{heard_at}
+use Rattle.host_heard.specs.declared.payload.Heard.TheVariants.{Messages}
+use Rattle.host_heard.specs.declared.told.Told.TheVariants.{Notification}
+use Rattle.host_requests.specs.Frames.{no_more_information}
+use Rattle.device_kinds.specs.Kind.{listens}
+use Rattle.device_kinds.specs.Telling.{told}
+use Rattle.device_kinds.specs.declared.kind.Kind.{Kind}
+use Rattle.device_kinds.specs.declared.kind.Kind.TheVariants.{Relay, Switch, Dimmer, Lock, Sensor, Thermostat, Strip, Configurable}
+use Rattle.device_stack.specs.State.{State, Outcome, silent}
+use Rattle.device_stack.specs.Effects.{effect_of}
+use Rattle.device_stack.specs.Hearing.{active, answers, hears_by, sent_openly}
+use Rattle.device_stack.specs.Ticking.{aged, awake_ticks, ticked, woken, works_out}
+use Rattle.device_sim.specs.Event.{Hears, Ticks, Wakes, device_after, device_replies, outcome_of}
+use Rattle.proof_messages.proofs.Bare.{bare, bare_opens, middle_command}
+use Rattle.proof_messages.proofs.SessionMessages.{awake_after, openly_by}
+use Rattle.proof_in_time.specs.Answering.{FallsAsleep, StaysAwake, TellsWaking}
+use Rattle.proof_in_time.proofs.Answered.{heard_replies, opened_whole}
+
+-- the only kind that does not listen
+pub is_sensor : (kind : Kind) → listens kind ≡ false → kind ≡ Sensor
+is_sensor Sensor sleeps = refl
+is_sensor Relay sleeps = cc
+is_sensor Switch sleeps = cc
+is_sensor Dimmer sleeps = cc
+is_sensor Lock sleeps = cc
+is_sensor Thermostat sleeps = cc
+is_sensor Strip sleeps = cc
+is_sensor Configurable sleeps = cc
+
+-- ---- it is woken
+
+told_one : (payload : List ℕ) → begins_with payload 152 129 ≡ false → opened_at payload ≡ Some (record { plan = bare; commands = payload ∷ [] }) → info_at payload ≡ Ok WakeUpNotification → heard_at payload ≡ Messages (Notification ∷ [])
+unfolding heard_at
+told_one payload unsealed opened read = rw (unsealed, opened, read) refl
+
+notification_told : heard_at (form WakeUpNotification) ≡ Messages (Notification ∷ [])
+notification_told =
+    told_one (form WakeUpNotification) refl (bare_opens (form WakeUpNotification) (middle_command 0x84 (7 ∷ []) (omega arith) (omega arith)))
+    (again (form WakeUpNotification) WakeUpNotification (form_spells WakeUpNotification tt))
+
+pub wakes_telling : (device : State) → listens device.kind ≡ false → TellsWaking device (device_after device Wakes) (device_replies device Wakes)
+unfolding device_after device_replies outcome_of woken
+wakes_telling device sleeps =
+    subst (λ (b : Bool). Tells (if b then silent device else record { device = record device { awake = true; active_at = device.clock }; replies = form WakeUpNotification ∷ [] })) (sym sleeps)
+    (record { up = record { awake = refl; now = refl }; payload = form WakeUpNotification; says = refl; tells = notification_told; short = refl; sessions = refl; work_left = refl })
+  where
+    Tells : Outcome → Type 0
+    Tells o = TellsWaking device o.device o.replies
+
+-- ---- it ticks
+
+aged_awake : (device : State) → device.awake ≡ true → device.clock + 1 < device.active_at + awake_ticks → (aged device).awake ≡ true
+aged_awake device awake soon =
+    ap (λ (b : Bool). b && (listens device.kind || nat_lt (device.clock + 1 - device.active_at) awake_ticks)) awake
+    ∙ ap (λ (b : Bool). listens device.kind || b) (lt-ltb (device.clock + 1 - device.active_at) awake_ticks (omega (arith, soon))) ∙ or_true (listens device.kind)
+  where
+    or_true : (b : Bool) → (b || true) ≡ true
+    or_true true = refl
+    or_true false = refl
+
+pub tick_awake : (device : State) (drawn : List ℕ) → device.awake ≡ true → device.clock + 1 < device.active_at + awake_ticks → StaysAwake device (device_after device (Ticks drawn))
+unfolding device_after outcome_of ticked
+tick_awake device drawn awake soon = by (device.work_left == 0) (device.work_left == 1)
+  where
+    old : (aged device).awake ≡ true
+    old = aged_awake device awake soon
+
+    by : (none last : Bool) → StaysAwake device (if none then silent (aged device) else if last then works_out (aged device) else silent (record (aged device) { work_left = device.work_left - 1 })).device
+    by true last = record { awake = old; clock = refl; active = refl }
+    by false true = record { awake = old; clock = refl; active = refl }
+    by false false = record { awake = old; clock = refl; active = refl }
+
+-- ---- it is told that there is no more
+
+abbrev no_more_message : Message
+no_more_message = record { plan = bare; commands = no_more_information ∷ [] }
+
+no_more_read : info_at no_more_information ≡ Ok WakeUpNoMoreInformation
+no_more_read = again no_more_information WakeUpNoMoreInformation (form_spells WakeUpNoMoreInformation tt)
+
+abbrev Sleeps_by : State → Outcome → Type 0
+Sleeps_by device o = FallsAsleep device o.device o.replies
+
+no_more_answered : (device : State) → device.kind ≡ Sensor → info_at no_more_information ≡ Ok WakeUpNoMoreInformation → Sleeps_by device (sent_openly (answers (active device) no_more_message))
+unfolding answers effect_of told
+no_more_answered device kind read = rw (kind, read) (record { asleep = refl; silent = refl; sessions = refl; work_left = refl })
+
+pub no_more_sleeps : (device : State) (drawn : List ℕ) → device.awake ≡ true → listens device.kind ≡ false
+    → FallsAsleep device (device_after device (Hears no_more_information drawn)) (device_replies device (Hears no_more_information drawn))
+no_more_sleeps device drawn awake sleeps =
+    let kind : device.kind ≡ Sensor = is_sensor device.kind sleeps in
+    let outcome : hears_by device.kind (active device) no_more_information drawn ≡ sent_openly (answers (active device) no_more_message) =
+    ap (λ (k : Kind). hears_by k (active device) no_more_information drawn) kind ∙ openly_by Sensor (active device) no_more_information drawn refl refl
+    ∙ opened_whole (active device) no_more_information no_more_message (bare_opens no_more_information (middle_command 0x84 (8 ∷ []) (omega arith) (omega arith))) in
+    let at : Sleeps_by device (hears_by device.kind (active device) no_more_information drawn) = subst (Sleeps_by device) (sym outcome) (no_more_answered device kind no_more_read) in
+    subst (λ (new : State). FallsAsleep device new (device_replies device (Hears no_more_information drawn))) (sym (awake_after device no_more_information drawn awake))
+    (subst (λ (replies : List (List ℕ)). FallsAsleep device (hears_by device.kind (active device) no_more_information drawn).device replies) (sym (heard_replies device no_more_information drawn awake)) at)
