@@ -147,7 +147,7 @@ node_first n node_ticks lasts first =
 node_first n Restarts lasts first = absurd lasts
 
 -- a request of an attempt ends as its payload was heard
-abbrev EndsSo : Purpose → How → Type 0
+abbrev pub EndsSo : Purpose → How → Type 0
 EndsSo (Attempt n more payload) how = how ≡ AtCallback CompleteOk
 EndsSo purpose how = Unit {0}
 
@@ -155,7 +155,7 @@ abbrev pub EndsWell : Option End → Type 0
 EndsWell None = Unit {0}
 EndsWell (Some end) = EndsSo end.purpose end.how
 
-part_well : (more : Bool) → part_end more (AtCallback CompleteOk) ≡ well
+pub part_well : (more : Bool) → part_end more (AtCallback CompleteOk) ≡ well
 part_well true = refl
 part_well false = refl
 
@@ -334,7 +334,7 @@ mild_followers n = record {
   no_room = λ property. tt;
 }
 
-told_last : (h : HostState) (event : RequestsEvent) → MayTell SaysHeard event → LastAll h (told_requests event)
+pub told_last : (h : HostState) (event : RequestsEvent) → MayTell SaysHeard event → LastAll h (told_requests event)
 told_last h IsSent may = (sent_well h.requests, tt)
 told_last h (Responds response) may = (subst (λ (r : Response). EndsWell (end_at h.requests (Responds r))) (sym may) (answered_well h.requests), tt)
 told_last h (update_told_of update) may = (updated_well h.requests update, tt)

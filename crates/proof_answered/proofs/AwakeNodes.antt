@@ -4,6 +4,7 @@ use Rattle.std.specs.Prelude.{Option, Some, None, slice_get}
 use Rattle.std.specs.List.{AllByRecursion}
 use Rattle.route_table.specs.Network.{Network}
 use Rattle.air_frames.specs.Flown.{Flown}
+use Rattle.air_frames.specs.Frames.{next_of}
 use Rattle.air_frames.specs.declared.frame.Heading.{Heading}
 use Rattle.air_frames.specs.declared.frame.Heading.TheVariants.{Outward}
 use Rattle.chip_sim.specs.Nodes.{is_marked}
@@ -13,14 +14,16 @@ use Rattle.mesh_sim.specs.declared.fate.Fate.TheVariants.{AtDevice}
 use Rattle.outside_model.specs.Events.{Arrives}
 use Rattle.world_model.specs.Events.{Event, Outside_does}
 use Rattle.world_model.specs.State.{Machine}
+use Rattle.zw_text.specs.declared.entry.Entry.{Entry}
+use Rattle.proof_calm.specs.proof_work.proof_walk.Phases.{Phase}
 use Rattle.proof_calm.specs.Awaited.{Awaits}
 use Rattle.proof_calm.specs.Live.{HasLive, IsLive}
 use Rattle.proof_calm.specs.proof_traffic.OnAir.{hosts_on_air, on_air}
 use Rattle.proof_calm.specs.proof_traffic.OutsideTraffic.{one_outward, outward}
 use Rattle.proof_calm.proofs.proof_traffic_Parts.{Airs}
 use Rattle.proof_answered.specs.Heard.{IsHeardThen}
-use Rattle.proof_answered.specs.Outward.{AllListen, IsFor}
-use Rattle.proof_answered.specs.Sleepers.{AllHear, Asleep, Listens, NodeHears, Rests, SleeperAt, Up, Was_told, Woken}
+use Rattle.proof_answered.specs.Outward.{AllFor, IsFor}
+use Rattle.proof_answered.specs.Sleepers.{AllHear, All_listen, Back_asleep, Before, One_sleeps, SleeperAt, Up, Was_told, Woken}
 use Rattle.proof_answered.proofs.Listeners.{fate_so, listener_hears}
 use Rattle.proof_answered.proofs.Outwards.{next_flight, next_is_live}
 
@@ -39,24 +42,38 @@ none_first flights rest frame are out none =
     absurd (let no : 1 + outward rest ≡ 0 = sym some ∙ none in omega (arith, no))
 
 -- so while one is, the device of a node that sleeps is awake
-sleeper_up : (n : ℕ) (device : State) (m : Machine) → (hosts_on_air m.outside.outer ≡ 0 → ⊥) → SleeperAt n device m → device.awake ≡ true
-sleeper_up n device m flies (Asleep counts asks none) = absurd (flies asks.none_flies)
-sleeper_up n device m flies (Woken counts asks awake) = awake
-sleeper_up n device m flies (Up kept untold none awake) = awake
-sleeper_up n device m flies (Was_told counts told none) = absurd (flies told.none_flies)
+sleeper_up : (n : ℕ) (device : State) (here : Phase) (past : List Entry) (m : Machine) → (hosts_on_air m.outside.outer ≡ 0 → ⊥) → SleeperAt n device here past m → device.awake ≡ true
+sleeper_up n device here past m flies (Before before down hosts none) = absurd (flies hosts)
+sleeper_up n device here past m flies (Woken is down hosts one awake) = awake
+sleeper_up n device here past m flies (Up is up none awake) = awake
+sleeper_up n device here past m flies (Was_told is up told idle hosts none) = absurd (flies hosts)
+sleeper_up n device here past m flies (Back_asleep is down nothing hosts none) = absurd (flies hosts)
 
-node_hears : (net : Network) (m : Machine) (frame : Flown) → (hosts_on_air m.outside.outer ≡ 0 → ⊥) → frame.heading ≡ Outward → IsLive net frame → NodeHears frame.node m → (place : ℕ) × (fate_of net m.outside.devices frame ≡ AtDevice place)
-node_hears net m frame flies out live (Listens is) = (is.place, listener_hears net m.outside.devices frame is out live)
-node_hears net m frame flies out live (Rests is at) =
-    (is.place, awake_hears net m.outside.devices frame is.place is.device is.first is.stands (sleeper_up frame.node is.device m flies at) out live)
+-- the frame that arrives is the first on the air
+module _ (airs : Airs) (these : List Bool) (m : Machine) (is : Awaits m) (live : HasLive these m.outside.outer) (frames : AllFor these m) (frame : Flown) (next : next_of m.outside.outer.air.frames ≡ Some frame) (out : frame.heading ≡ Outward) where
+  marked : is_marked these frame.node ≡ true
+  marked =
+      let first = next_flight airs is.log (on_air m.outside.outer.air.frames) m.outside.outer.air.frames frame is.follows.fly next in
+      (subst (AllByRecursion (IsFor these)) first.1 frames).0 out
 
-pub all_heard : (airs : Airs) (these : List Bool) (m : Machine) (event : Event) → Awaits m → HasLive these m.outside.outer → AllHear these m → IsHeardThen m event
-all_heard airs these m (Outside_does (Arrives drawn route)) is live hear = λ frame next out.
-    let first = next_flight airs is.log (on_air m.outside.outer.air.frames) m.outside.outer.air.frames frame is.follows.fly next in
-    let marked : is_marked these frame.node ≡ true = (subst (AllByRecursion (IsFor these)) first.1 hear.frames).0 out in
-    node_hears m.outside.outer.air.network m frame (none_first (on_air m.outside.outer.air.frames) first.0 frame first.1 out) out (next_is_live these m.outside.outer live frame next (λ home. marked)) (hear.nodes frame.node marked)
-all_heard airs these m (Outside_does event) is live hear = tt
-all_heard airs these m event is live hear = tt
+  reaches : IsLive m.outside.outer.air.network frame
+  reaches = next_is_live these m.outside.outer live frame next (λ home. marked)
 
-pub all_listen : (these : List Bool) (m : Machine) → AllListen these m → AllHear these m
-all_listen these m listen = record { frames = listen.frames; nodes = λ n marked. Listens (listen.nodes n marked) }
+  flies : hosts_on_air m.outside.outer ≡ 0 → ⊥
+  flies =
+      let first = next_flight airs is.log (on_air m.outside.outer.air.frames) m.outside.outer.air.frames frame is.follows.fly next in
+      none_first (on_air m.outside.outer.air.frames) first.0 frame first.1 out
+
+pub all_heard : (airs : Airs) (these : List Bool) (here : Phase) (past : List Entry) (m : Machine) (event : Event) → Awaits m → HasLive these m.outside.outer → AllHear these here past m → IsHeardThen m event
+all_heard airs these here past m (Outside_does (Arrives drawn route)) is live (All_listen listen) = λ frame next out.
+    let listener = listen.nodes frame.node (marked airs these m is live listen.frames frame next out) in
+    (listener.place, listener_hears m.outside.outer.air.network m.outside.devices frame listener out (reaches airs these m is live listen.frames frame next out))
+all_heard airs these here past m (Outside_does (Arrives drawn route)) is live (One_sleeps n alone frames sleeper at) = λ frame next out.
+    let own : frame.node ≡ n = alone.only frame.node (marked airs these m is live frames frame next out) in
+    let first : place_of frame.node m.outside.devices ≡ Some sleeper.place = ap (λ (k : ℕ). place_of k m.outside.devices) own ∙ sleeper.first in
+    let up : sleeper.device.awake ≡ true = sleeper_up n sleeper.device here past m (flies airs these m is live frames frame next out) at in (
+      sleeper.place,
+      awake_hears m.outside.outer.air.network m.outside.devices frame sleeper.place sleeper.device first sleeper.stands up out (reaches airs these m is live frames frame next out),
+    )
+all_heard airs these here past m (Outside_does event) is live hear = tt
+all_heard airs these here past m event is live hear = tt

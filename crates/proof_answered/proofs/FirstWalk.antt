@@ -28,7 +28,7 @@ use Rattle.world_model.specs.State.{Machine}
 use Rattle.world_model.specs.Events.{Event, Outside_does, Host_does, Host_takes, Decoder_ticks, Refuses, Shows_values, happens, entries, May}
 use Rattle.proof_calm.specs.proof_work.Phases.{AsksNothing}
 use Rattle.proof_calm.specs.proof_work.proof_walk.Phases.{Phase, Said_line, Doing, To_tick, Arriving, Giving, Ticking_devices, Ticking_chip, Ticking_decoder, Ticking_host, Sleeping, Submitting, Moving, Moved, Goes}
-use Rattle.proof_calm.specs.proof_work.proof_walk.Walk.{Walk, WalkWhere}
+use Rattle.proof_calm.specs.proof_work.proof_walk.Walk.{WalkWhere}
 use Rattle.proof_calm.proofs.proof_traffic_Parts.{Airs}
 use Rattle.proof_calm.specs.Awaited.{AwaitsAt, AwaitsNone}
 use Rattle.proof_calm.specs.Passes.{IsPlain, OnLine, frames_in}
@@ -80,7 +80,7 @@ module _ (On : HostState → Type 0) (law : (h : HostState) (event : HostEvent) 
   -- ---- the host's tick
 
   -- where no call is to come, the request under way does not fall silent
-  request_well : (m : Machine) → AwaitsNone m → TieOf false m [] → EndsWell (end_at m.host.state.requests request_ticks)
+  pub request_well : (m : Machine) → AwaitsNone m → TieOf false m [] → EndsWell (end_at m.host.state.requests request_ticks)
   request_well m awaits tie = by tie.tied
     where
       h : HostState
@@ -215,25 +215,6 @@ module _ (air : Airs) (Has : Machine → Event → Type 0) (Is : List Entry → 
         (on.0, (on.1, λ is. does_all here next past m event goes may has.1 is known));
     turn = λ here next past m turns known. (walk.turn here next past m turns known.0, known.1);
   }
-
--- where nothing else is assumed of events
-abbrev HasNothing : Machine → Event → Type 0
-HasNothing m event = Unit {0}
-
-module _ (air : Airs) (Is : List Entry → Type 0) (of_stretch : IsOfStretch Is) (theirs : Machine → List Bool) (Ground : Phase → List Entry → Machine → Type 0) (walk : Walk AsksNothing Ground)
-    (says : (here : Phase) (past : List Entry) (m : Machine) → Ground here past m → Is past → Knows (theirs m) here past m × AllSayHeard (unheard m.outside.outer)) where
-  pub first_walk_freely : WalkWhere IsInTime AsksNothing (KnowFirst Is Ground)
-  first_walk_freely = record {
-    said = on.said;
-    event = λ here next past m event goes may in_time known. on.event here next past m event goes may (tt, in_time) known;
-    turn = on.turn;
-  }
-    where
-      ground : WalkWhere HasNothing AsksNothing Ground
-      ground = record { said = walk.said; event = λ here next past m event goes may has known. walk.event here next past m event goes may known; turn = walk.turn }
-
-      on : WalkWhere (AndInTime HasNothing) AsksNothing (KnowFirst Is Ground)
-      on = first_walk air HasNothing Is of_stretch theirs Ground ground says
 
 -- a stretch whatever its lines ask for
 pub any_stretch : IsOfStretch IsStretched

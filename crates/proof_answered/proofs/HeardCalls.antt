@@ -162,7 +162,7 @@ frame_heard : (m : Machine) (drawn : List ℕ) (route : Option Route) → May m 
     → IsRouted m.outside.outer → AllSayHeard (unheard m.outside.outer) → AllSayHeard (unheard (happens m (Outside_does (Arrives drawn route))).outside.outer)
 unfolding May MayOutside MayHappen
 frame_heard m drawn route may heard given later routed all =
-    of_port SaysHeard AllSayHeard (all_piled SaysHeard) 0 (happens m (Outside_does (Arrives drawn route))).outside.outer later.has (subst PortHeard (sym (chip_is SaysHeard AllSayHeard (all_piled SaysHeard) m (Arrives drawn route))) (by (next_of m.outside.outer.air.frames) refl may.1.0))
+    of_port SaysHeard AllSayHeard (all_piled SaysHeard) 0 (happens m (Outside_does (Arrives drawn route))).outside.outer later.has (subst PortHeard (sym (chip_is m (Arrives drawn route))) (by (next_of m.outside.outer.air.frames) refl may.1.0))
   where
     by : (frame : Option Flown) → next_of m.outside.outer.air.frames ≡ frame → MayArriveIf (mesh_of m.outside) frame route → PortHeard (outcome m.outside (Arrives drawn route)).outer.chip.state
     by None next may_arrive = absurd may_arrive
@@ -182,7 +182,7 @@ module _ (air : Airs) where
         let later = (few.event here next past m event goes may heard.0 (λ stretched. at.0)).1 is in
         let next_tied = later.tied is.quiet in (
           later,
-          event_says SaysHeard AllSayHeard (all_piled SaysHeard) air answer_heard (all_behind SaysHeard) here next m event goes may (tied.0, tied.2, tied.3, tied.6)
+          event_says SaysHeard AllSayHeard (all_piled SaysHeard) air answer_heard here next m event (λ judged. all_behind SaysHeard) goes may (tied.0, tied.2, tied.3, tied.6)
               (λ drawn route is given later_given. frame_heard m drawn route (subst (May m) is may) (subst (IsHeardThen m) is heard.1) given later_given tied.3 at.1) tied.1 at.1 next_tied.0,
         )
 

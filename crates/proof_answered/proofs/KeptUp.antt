@@ -158,15 +158,19 @@ kept_up x Restarts keeps up = absurd keeps
 
 -- ---- it wakes, and is told that there is no more
 
-not_queued : (x : NodeState) → NodeFacts x → x.awake ≡ false → x.no_more ≢ Queued
+pub not_queued : (x : NodeState) → NodeFacts x → x.awake ≡ false → x.no_more ≢ Queued
 not_queued x facts sleeps queued =
     let up : x.awake ≡ true = (subst (λ (no_more : NoMore). NoMoreFacts no_more x.awake x.classes) queued facts.no_more).0 in absurd (let wrong : false ≡ true = sym sleeps ∙ up in cc)
 
--- its Notification comes while it counts as asleep
-pub notified : (x : NodeState) → NodeFacts x → x.awake ≡ false → IsKeptUp (after_node x Notifies)
-notified x facts sleeps =
-    let unasked : tried_again x.no_more ≡ Unasked = tried_unasked x.no_more (not_queued x facts sleeps) in
+-- its Notification comes while nobody asked that it be told that there is no more
+pub notified_free : (x : NodeState) → x.no_more ≢ Queued → IsKeptUp (after_node x Notifies)
+notified_free x free =
+    let unasked : tried_again x.no_more ≡ Unasked = tried_unasked x.no_more free in
     unasked_occasion (record x { awake = true; no_more = tried_again x.no_more }) unasked (record { awake = refl; unasked = λ left. unasked })
+
+-- so it is while it counts as asleep
+pub notified : (x : NodeState) → NodeFacts x → x.awake ≡ false → IsKeptUp (after_node x Notifies)
+notified x facts sleeps = notified_free x (not_queued x facts sleeps)
 
 -- its No More Information ends
 pub told_sleeps : (x : NodeState) → x.listens ≡ false → (after_node x Ends_no_more).awake ≡ false

@@ -6,15 +6,18 @@ use Rattle.route_table.specs.Network.{Network}
 use Rattle.air_frames.specs.declared.frame.Heading.{Heading}
 use Rattle.air_frames.specs.declared.frame.Heading.TheVariants.{Outward}
 use Rattle.air_frames.specs.Flown.{Flown}
+use Rattle.device_kinds.specs.declared.kind.Kind.{Kind}
+use Rattle.device_kinds.specs.Kind.{listens}
 use Rattle.device_sim.specs.Event.{DeviceEvent, device_after}
 use Rattle.device_sim.specs.State.{State}
 use Rattle.law_transcript.specs.Devices.{after_events}
 use Rattle.mesh_sim.specs.Fates.{dead_hop_of, fate_by, fate_of, listener_of, place_of, awake_at, is_awake}
 use Rattle.mesh_sim.specs.declared.fate.Fate.TheVariants.{AtDevice, Lost}
-use Rattle.proof_device.specs.GoingOn.{AreSame, GoOn, GoesOn}
+use Rattle.proof_device.specs.GoingOn.{AreSame, GoOn, GoesOn, IsSame}
 use Rattle.proof_calm.specs.Live.{IsLive}
 use Rattle.law_time.proofs.Listening.{event_up}
 use Rattle.proof_answered.specs.Listening.{HasListener, IsUp}
+use Rattle.proof_answered.specs.Sleepers.{HasSleeper}
 
 -- ---- what it hears
 
@@ -62,4 +65,16 @@ all_stay node olds news go same is =
       first = same_place node olds news same ∙ is.first;
       stands = later.1.0;
       is_up = subst IsUp (sym later.1.1.1) (events_up is.device later.1.1.0 is.is_up);
+    }
+
+-- and one of a kind that sleeps is still one
+pub sleeper_stays : (node : ℕ) (olds news : List State) → AreSame olds news → HasSleeper node olds → HasSleeper node news
+sleeper_stays node olds news same is =
+    let later = stands_now IsSame olds news same is.place is.device is.stands in
+    record {
+      place = is.place;
+      device = later.0;
+      first = same_place node olds news same ∙ is.first;
+      stands = later.1.0;
+      sleeps = ap (λ (kind : Kind). listens kind) later.1.1.kind ∙ is.sleeps;
     }

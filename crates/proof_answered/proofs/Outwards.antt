@@ -1,14 +1,11 @@
--- Where the devices of all joined nodes listen, each frame of the host on the air is for one of these, at each phase of quiet lines and ticks.
+-- Where the chip is asked for some nodes alone, each frame of the host on the air is for one of these, at each phase of quiet lines and ticks.
 use Rattle.std.proofs.Common.{◌≡◌, ◌≤◌, ◌<◌, ℕ, zero, suc, ◌+◌, ◌-◌, Bool, true, false, nat_lt, if◌then◌else◌, List, [], ◌∷◌, ◌++◌, length, refl, sym, ap, ◌∙◌, subst, append_assoc, arith}
 use Rattle.std.proofs.lemmas.List.{append-nil}
 use Rattle.std.specs.Prelude.{◌||◌, Option, Some, None, option_map, slice_get}
 use Rattle.std.specs.Option.{is_none, unwrap_or}
 use Rattle.std.specs.List.{AllByRecursion}
 use Rattle.zw_base.proofs.Each.{all-append, all-get, all-weaker}
-use Rattle.zw_text.specs.declared.line.Line.{Line}
-use Rattle.zw_text.specs.Transcript.{line_of}
 use Rattle.zw_text.specs.declared.entry.Entry.{Entry}
-use Rattle.zw_text.specs.declared.entry.Entry.TheVariants as entry
 use Rattle.serial_frame.specs.Frame.{FrameParts}
 use Rattle.serial_frame.specs.Stream.{Rest}
 use Rattle.serial_frame.specs.declared.item.Item.{Item}
@@ -43,13 +40,11 @@ use Rattle.outside_model.specs.Chip.{chip_does, put_out}
 use Rattle.outside_model.specs.Devices.{acts_at, acts_by_hand}
 use Rattle.outside_model.specs.State.{OuterState, Outside, Outcome, each, with_chip}
 use Rattle.outside_model.specs.Events.{OuterEvent, Begins_line, Begins_tick, Host_writes, Host_takes, Host_notes, Host_begins, Arrives, Gives, Device_ticks, Chip_ticks, Chip_takes, Wakes_device, Shows, Cuts, has_entered, mesh_of, outcome, happens as happens_outside, May as MayOutside}
-use Rattle.world_model.specs.Events.{Event, Outside_does, Host_does, Host_takes as Host_takes_all, Decoder_ticks, Refuses as refuses_line, Restarts, Shows_values, happens, entries, May}
+use Rattle.world_model.specs.Events.{Event, Outside_does, Host_does, Host_takes as Host_takes_all, Decoder_ticks, Refuses as refuses_line, Restarts, Shows_values, happens, May}
 use Rattle.world_model.specs.State.{Machine}
 use Rattle.proof_device.specs.GoingOn.{AreSame, GoOn}
-use Rattle.proof_calm.specs.proof_work.Phases.{AsksNothing}
 use Rattle.proof_calm.specs.proof_work.proof_walk.Outside.{CoversOuter}
-use Rattle.proof_calm.specs.proof_work.proof_walk.Phases.{Phase, Between, Said_line, Begun, Doing, To_tick, Ticked, Arriving, Giving, Ticking_devices, Ticking_chip, Ticking_decoder, Ticking_host, Sleeping, Submitting, Moving, Moved, Goes, Turns}
-use Rattle.proof_calm.specs.proof_work.proof_walk.Walk.{WalkWhere}
+use Rattle.proof_calm.specs.proof_work.proof_walk.Phases.{Phase, Between, Said_line, Begun, Doing, To_tick, Ticked, Arriving, Giving, Ticking_devices, Ticking_chip, Ticking_decoder, Ticking_host, Sleeping, Submitting, Moving, Moved, Goes}
 use Rattle.proof_calm.proofs.Aloft.{next_all}
 use Rattle.proof_calm.proofs.Times.{does_chip}
 use Rattle.proof_calm.specs.proof_traffic.Flights.{Fly, flown_now}
@@ -64,30 +59,31 @@ use Rattle.proof_calm.proofs.proof_traffic_Parts.{Airs}
 use Rattle.proof_calm.specs.Awaited.{Awaits, AwaitsAt}
 use Rattle.proof_calm.specs.Live.{AreAskedFor, AsksFor, HasLive, IsAskedFor, IsLive, IsLiveOf}
 use Rattle.proof_calm.specs.Marks.{IsQuietEvent}
-use Rattle.proof_calm.specs.Tied.{unheard}
+use Rattle.proof_calm.specs.Quiet.{AreQuiet}
 use Rattle.proof_calm.proofs.Peopled.{covers_of}
-use Rattle.proof_calm.proofs.Unmarked.{nothing_asked}
-use Rattle.proof_answered.specs.Few.{IsStretched, Knows}
-use Rattle.proof_answered.specs.Heard.{AllSayHeard, IsHeardFor, IsHeardThen, KnowHeard}
-use Rattle.proof_answered.specs.Outward.{AllGoTo, AllListen, EachGoesTo, GoesTo, IsFor, IsOf, IsSentTo, KnowListening}
+use Rattle.proof_answered.specs.Few.{Knows}
+use Rattle.proof_answered.specs.Outward.{AllFor, AllGoTo, AllListen, EachGoesTo, GoesTo, IsFor, IsOf, IsSentTo}
 use Rattle.proof_answered.proofs.Flying.{chip_counts}
-use Rattle.proof_answered.proofs.Listeners.{all_stay, listener_hears}
-use Rattle.proof_answered.proofs.Walking.{stretched_before}
+use Rattle.proof_answered.proofs.Listeners.{all_stay}
 
 -- ---- frames of devices
 
 none_later : (heading : Heading) (n : ℕ) → one_outward heading + n ≡ 0 → n ≡ 0
 none_later heading n none = omega (arith, none)
 
-is_home : (these : List Bool) (frame : Flown) (n : ℕ) (heading : Heading) → frame.heading ≡ heading → one_outward heading + n ≡ 0 → IsFor these frame
-is_home these frame n Homeward is none = λ out. absurd (let no : Homeward ≡ Outward = sym is ∙ out in cc)
-is_home these frame n Outward is none = absurd (let no : 1 + n ≡ 0 = none in omega (arith, no))
+-- where it is one of the host, that is so
+abbrev pub IsOut : (Flown → Type 0) → Flown → Type 0
+IsOut P frame = frame.heading ≡ Outward → P frame
 
-home_for : (these : List Bool) (frames : List Flown) → outward frames ≡ 0 → AllByRecursion (IsFor these) frames
-home_for these [] none = tt
-home_for these (frame ∷ frames) none = (is_home these frame (outward frames) frame.heading refl none, home_for these frames (none_later frame.heading (outward frames) none))
+is_home : (P : Flown → Type 0) (frame : Flown) (n : ℕ) (heading : Heading) → frame.heading ≡ heading → one_outward heading + n ≡ 0 → IsOut P frame
+is_home P frame n Homeward is none = λ out. absurd (let no : Homeward ≡ Outward = sym is ∙ out in cc)
+is_home P frame n Outward is none = absurd (let no : 1 + n ≡ 0 = none in omega (arith, no))
 
--- ---- what the chip puts on the air is for joined nodes
+pub home_out : (P : Flown → Type 0) (frames : List Flown) → outward frames ≡ 0 → AllByRecursion (IsOut P) frames
+home_out P [] none = tt
+home_out P (frame ∷ frames) none = (is_home P frame (outward frames) frame.heading refl none, home_out P frames (none_later frame.heading (outward frames) none))
+
+-- ---- what the chip puts on the air is for these
 
 said_to : (these : List Bool) (out : ChipOut) → IsSaid out → GoesTo these out
 said_to these (Write unit) said = tt
@@ -254,36 +250,36 @@ next_flight airs log (flight ∷ rest) frames frame fly next =
     let same : flight ≡ frame = cc in
     (rest, ap (λ (f : Flown). f ∷ rest) same)
 
-module _ (these : List Bool) where
+module _ (P : Flown → Type 0) where
   -- those of a machine
-  abbrev AreFor : OuterState → Type 0
-  AreFor o = AllByRecursion (IsFor these) (on_air o.air.frames)
+  abbrev AreOut : OuterState → Type 0
+  AreOut o = AllByRecursion (IsOut P) (on_air o.air.frames)
 
-  same_for : (o p : OuterState) → p.air ≡ o.air → AreFor o → AreFor p
-  same_for o p air all = subst (λ (a : AirState). AllByRecursion (IsFor these) (on_air a.frames)) (sym air) all
+  same_for : (o p : OuterState) → p.air ≡ o.air → AreOut o → AreOut p
+  same_for o p air all = subst (λ (a : AirState). AllByRecursion (IsOut P) (on_air a.frames)) (sym air) all
 
-  calm_for : (o p : OuterState) → Calm o p → AreFor o → AreFor p
-  calm_for o p calm all = subst (AllByRecursion (IsFor these)) (sym calm.on) all
+  calm_for : (o p : OuterState) → Calm o p → AreOut o → AreOut p
+  calm_for o p calm all = subst (AllByRecursion (IsOut P)) (sym calm.on) all
 
-  homes_for : (log : List Mark) (flights : List Flown) (frames : FramesState) → Homes log flights frames → AllByRecursion (IsFor these) flights → AllByRecursion (IsFor these) (on_air frames)
+  homes_for : (log : List Mark) (flights : List Flown) (frames : FramesState) → Homes log flights frames → AllByRecursion (IsOut P) flights → AllByRecursion (IsOut P) (on_air frames)
   homes_for log flights frames homes all =
-      subst (AllByRecursion (IsFor these)) (flights_are (log ++ homes.more) (flights ++ homes.home) frames homes.fly)
-      (all-append (IsFor these) flights homes.home all (home_for these homes.home homes.none_outward))
+      subst (AllByRecursion (IsOut P)) (flights_are (log ++ homes.more) (flights ++ homes.home) frames homes.fly)
+      (all-append (IsOut P) flights homes.home all (home_out P homes.home homes.none_outward))
 
-  module _ (airs : Airs) (many : length these ≡ 233) (m : Machine) (is : Awaits m) (all : AreFor m.outside.outer) where
+  module _ (airs : Airs) (m : Machine) (is : Awaits m) (all : AreOut m.outside.outer) where
     fly : Fly is.log (on_air m.outside.outer.air.frames) m.outside.outer.air.frames
     fly = is.follows.fly
 
-    arrives_for : (drawn : List ℕ) (route : Option Route) (frame : Flown) → next_of m.outside.outer.air.frames ≡ Some frame → AreFor (happens_outside m.outside (Arrives drawn route)).outer
+    arrives_for : (drawn : List ℕ) (route : Option Route) (frame : Flown) → next_of m.outside.outer.air.frames ≡ Some frame → AreOut (happens_outside m.outside (Arrives drawn route)).outer
     arrives_for drawn route frame next =
         let first = next_flight airs is.log (on_air m.outside.outer.air.frames) m.outside.outer.air.frames frame fly next in
         let there : Fly is.log (frame ∷ first.0) m.outside.outer.air.frames = subst (λ (fs : List Flown). Fly is.log fs m.outside.outer.air.frames) first.1 fly in
         let homes = arrives_home airs is.log frame first.0 m.outside drawn route there in
         let v : Outside = happens_outside m.outside (Arrives drawn route) in
-        subst (AllByRecursion (IsFor these)) (flights_are (is.log ++ homes.more) (first.0 ++ homes.home) v.outer.air.frames homes.fly)
-        (all-append (IsFor these) first.0 homes.home (subst (AllByRecursion (IsFor these)) first.1 all).1 (home_for these homes.home homes.none_outward))
+        subst (AllByRecursion (IsOut P)) (flights_are (is.log ++ homes.more) (first.0 ++ homes.home) v.outer.air.frames homes.fly)
+        (all-append (IsOut P) first.0 homes.home (subst (AllByRecursion (IsOut P)) first.1 all).1 (home_out P homes.home homes.none_outward))
 
-    acts_for : (place : ℕ) (found : Option State) (event : DeviceEvent) (route : Option Route) → slice_get m.outside.devices place ≡ found → AreFor (acts_at m.outside.outer found event route).outer
+    acts_for : (place : ℕ) (found : Option State) (event : DeviceEvent) (route : Option Route) → slice_get m.outside.devices place ≡ found → AreOut (acts_at m.outside.outer found event route).outer
     acts_for place None event route there = all
     acts_for place (Some device) event route there =
         let o : OuterState = m.outside.outer in
@@ -291,73 +287,61 @@ module _ (these : List Bool) where
         homes_for is.log (on_air o.air.frames) (acts_at o (Some device) event route).outer.air.frames
         (answered_if_homes airs.goes is.log (on_air o.air.frames) (is_joined o.air device.node) o.air device.node (option_map backwards route) (device_replies device event) within fly) all
 
-    hand_for : (place : Option ℕ) (event : DeviceEvent) (route : Option Route) → AreFor (acts_by_hand m.outside.outer m.outside.devices place event route).outer
+    hand_for : (place : Option ℕ) (event : DeviceEvent) (route : Option Route) → AreOut (acts_by_hand m.outside.outer m.outside.devices place event route).outer
     hand_for None event route = all
     hand_for (Some place) event route = acts_for place (slice_get m.outside.devices place) event route refl
 
-    entered_for : (x : Outcome) → AreFor x.outer → (told : List Entry) → AreFor (has_entered x.outer told)
+    entered_for : (x : Outcome) → AreOut x.outer → (told : List Entry) → AreOut (has_entered x.outer told)
     entered_for x are told = same_for x.outer (has_entered x.outer told) (entered_leaves x.outer told).air are
 
-    takes_for : (count : ℕ) (rest : Rest) (ways : List (Item × Option Route)) → AreAskedFor these ways → AreFor (outcome m.outside (Chip_takes count rest ways)).outer
-    unfolding outcome
-    takes_for count rest ways sent =
-        let o : OuterState = m.outside.outer in
-        let p : OuterState = (each chip_does (fed_chip o count rest) (judged_all ways)).outer in
-        let adds = judges_add airs these many is.log (on_air o.air.frames) (fed_chip o count rest) ways sent fly in
-        subst (AllByRecursion (IsFor these)) (flights_are (is.log ++ adds.more) (on_air o.air.frames ++ adds.added) p.air.frames adds.fly)
-        (all-append (IsFor these) (on_air o.air.frames) adds.added all (all-weaker (IsSentFor these) (IsFor these) (λ frame sent out. sent.0) adds.added adds.are_so))
+    -- where they are as the chip takes bytes
+    abbrev TakenOut : OuterEvent → Type 0
+    TakenOut event = (count : ℕ) (rest : Rest) (ways : List (Item × Option Route)) → event ≡ Chip_takes count rest ways → AreOut (outcome m.outside (Chip_takes count rest ways)).outer
 
-    outside_for : (event : OuterEvent) → IsQuietEvent event → May m (Outside_does event) → IsSentTo these m (Outside_does event) → AreFor (happens_outside m.outside event).outer
+    outside_for : (event : OuterEvent) → IsQuietEvent event → May m (Outside_does event) → TakenOut event → AreOut (happens_outside m.outside event).outer
     unfolding outcome May MayOutside MayHappen
-    outside_for Begins_line quiet may sent = all
-    outside_for Begins_tick quiet may sent = all
-    outside_for (Chip_takes count rest ways) quiet may sent = entered_for (outcome m.outside (Chip_takes count rest ways)) (takes_for count rest ways sent) (outcome m.outside (Chip_takes count rest ways)).entries
-    outside_for (Arrives drawn route) quiet may sent = by (next_of m.outside.outer.air.frames) refl may.1.0
+    outside_for Begins_line quiet may taken = all
+    outside_for Begins_tick quiet may taken = all
+    outside_for (Chip_takes count rest ways) quiet may taken = entered_for (outcome m.outside (Chip_takes count rest ways)) (taken count rest ways refl) (outcome m.outside (Chip_takes count rest ways)).entries
+    outside_for (Arrives drawn route) quiet may taken = by (next_of m.outside.outer.air.frames) refl may.1.0
       where
-        by : (frame : Option Flown) → next_of m.outside.outer.air.frames ≡ frame → MayArriveIf (mesh_of m.outside) frame route → AreFor (happens_outside m.outside (Arrives drawn route)).outer
+        by : (frame : Option Flown) → next_of m.outside.outer.air.frames ≡ frame → MayArriveIf (mesh_of m.outside) frame route → AreOut (happens_outside m.outside (Arrives drawn route)).outer
         by None next may_arrive = absurd may_arrive
         by (Some frame) next may_arrive = arrives_for drawn route frame next
-    outside_for (Gives route) quiet may sent = same_for m.outside.outer (happens_outside m.outside (Gives route)).outer (given_first m.outside route).air all
-    outside_for (Device_ticks place drawn route) quiet may sent =
+    outside_for (Gives route) quiet may taken = same_for m.outside.outer (happens_outside m.outside (Gives route)).outer (given_first m.outside route).air all
+    outside_for (Device_ticks place drawn route) quiet may taken =
         entered_for (acts_at m.outside.outer (slice_get m.outside.devices place) (Ticks drawn) route) (acts_for place (slice_get m.outside.devices place) (Ticks drawn) route refl)
         (outcome m.outside (Device_ticks place drawn route)).entries
-    outside_for Chip_ticks quiet may sent = same_for m.outside.outer (happens_outside m.outside Chip_ticks).outer (chip_counts m.outside).0 all
-    outside_for (Wakes_device node route) quiet may sent =
+    outside_for Chip_ticks quiet may taken = same_for m.outside.outer (happens_outside m.outside Chip_ticks).outer (chip_counts m.outside).0 all
+    outside_for (Wakes_device node route) quiet may taken =
         entered_for (acts_by_hand m.outside.outer m.outside.devices (place_of node m.outside.devices) Wakes route) (hand_for (place_of node m.outside.devices) Wakes route)
         (outcome m.outside (Wakes_device node route)).entries
-    outside_for (Shows node) quiet may sent = entered_for (outcome m.outside (Shows node)) all (outcome m.outside (Shows node)).entries
-    outside_for (Cuts size) quiet may sent = all
-    outside_for (Host_writes unit) quiet may sent = absurd (let no : false ≡ true = may.0 in cc)
-    outside_for (Host_takes count) quiet may sent = absurd (let no : false ≡ true = may.0 in cc)
-    outside_for (Host_notes note) quiet may sent = absurd (let no : false ≡ true = may.0 in cc)
-    outside_for (Host_begins node sessions) quiet may sent = absurd (let no : false ≡ true = may.0 in cc)
-    outside_for event quiet may sent = absurd quiet
+    outside_for (Shows node) quiet may taken = entered_for (outcome m.outside (Shows node)) all (outcome m.outside (Shows node)).entries
+    outside_for (Cuts size) quiet may taken = all
+    outside_for (Host_writes unit) quiet may taken = absurd (let no : false ≡ true = may.0 in cc)
+    outside_for (Host_takes count) quiet may taken = absurd (let no : false ≡ true = may.0 in cc)
+    outside_for (Host_notes note) quiet may taken = absurd (let no : false ≡ true = may.0 in cc)
+    outside_for (Host_begins node sessions) quiet may taken = absurd (let no : false ≡ true = may.0 in cc)
+    outside_for event quiet may taken = absurd quiet
 
-    event_for : (event : Event) → CoversOuter IsQuietEvent event → May m event → IsSentTo these m event → AreFor (happens m event).outside.outer
+    -- so at each event
+    pub outs_on : (event : Event) → CoversOuter IsQuietEvent event → May m event
+        → ((count : ℕ) (rest : Rest) (ways : List (Item × Option Route)) → event ≡ Outside_does (Chip_takes count rest ways) → AreOut (outcome m.outside (Chip_takes count rest ways)).outer) → AreOut (happens m event).outside.outer
     unfolding happens
-    event_for (Outside_does event) covers may sent = outside_for event covers may sent
-    event_for (Host_does event) covers may sent = calm_for m.outside.outer (happens m (Host_does event)).outside.outer (does_calm airs m event) all
-    event_for (Host_takes_all count rest items events) covers may sent =
+    outs_on (Outside_does event) covers may taken = outside_for event covers may (λ count rest ways is. taken count rest ways (ap (λ (e : OuterEvent). Outside_does e) is))
+    outs_on (Host_does event) covers may taken = calm_for m.outside.outer (happens m (Host_does event)).outside.outer (does_calm airs m event) all
+    outs_on (Host_takes_all count rest items events) covers may taken =
         calm_for m.outside.outer (happens m (Host_takes_all count rest items events)).outside.outer (takes_calm airs m count rest items events) all
-    event_for Decoder_ticks covers may sent = all
-    event_for (refuses_line line refusal) covers may sent = calm_for m.outside.outer (happens m (refuses_line line refusal)).outside.outer (enters_calm airs m _) all
-    event_for (Shows_values node) covers may sent = calm_for m.outside.outer (happens m (Shows_values node)).outside.outer (enters_calm airs m _) all
-    event_for (Restarts state) covers may sent = all
+    outs_on Decoder_ticks covers may taken = all
+    outs_on (refuses_line line refusal) covers may taken = calm_for m.outside.outer (happens m (refuses_line line refusal)).outside.outer (enters_calm airs m _) all
+    outs_on (Shows_values node) covers may taken = calm_for m.outside.outer (happens m (Shows_values node)).outside.outer (enters_calm airs m _) all
+    outs_on (Restarts state) covers may taken = all
 
 -- ---- so the device of each hears it
 
 -- none is lost, and no hop of it is dead
 pub next_is_live : (these : List Bool) (o : OuterState) → HasLive these o → (frame : Flown) → next_of o.air.frames ≡ Some frame → (frame.heading ≡ Homeward → is_marked these frame.node ≡ true) → IsLive o.air.network frame
 next_is_live these o live frame next home = next_all (IsLiveOf these o.air.network) o.air.frames frame live.sized next live.fly home
-
-heard_then : (airs : Airs) (these : List Bool) (m : Machine) (event : Event) → Awaits m → HasLive these m.outside.outer → AllListen these m → IsHeardThen m event
-heard_then airs these m (Outside_does (Arrives drawn route)) is live listen = λ frame next out.
-    let first = next_flight airs is.log (on_air m.outside.outer.air.frames) m.outside.outer.air.frames frame is.follows.fly next in
-    let marked : is_marked these frame.node ≡ true = (subst (AllByRecursion (IsFor these)) first.1 listen.frames).0 out in
-    let listener = listen.nodes frame.node marked in
-    (listener.place, listener_hears m.outside.outer.air.network m.outside.devices frame listener out (next_is_live these m.outside.outer live frame next (λ home. marked)))
-heard_then airs these m (Outside_does event) is live listen = tt
-heard_then airs these m event is live listen = tt
 
 -- ---- from phase to phase
 
@@ -379,37 +363,28 @@ awaits_of (Submitting passes ticks) m at = at
 awaits_of (Moving passes ticks) m at = at
 awaits_of (Moved b passes ticks) m at = at
 
-module _ (airs : Airs) (go : (m : Machine) (event : Event) → GoOn m.outside.devices (happens m event).outside.devices) (same_nodes : (old new : List State) → GoOn old new → AreSame old new) where
-  module _ (these : List Bool) (many : length these ≡ 233) where
-    listens_on : (m : Machine) (event : Event) → CoversOuter IsQuietEvent event → May m event → IsSentTo these m event → Awaits m → AllListen these m → AllListen these (happens m event)
-    listens_on m event covers may sent is listen =
+module _ (airs : Airs) (these : List Bool) (many : length these ≡ 233) where
+  pub takes_for : (m : Machine) (is : Awaits m) → AllFor these m → (count : ℕ) (rest : Rest) (ways : List (Item × Option Route)) → AreAskedFor these ways
+      → AllByRecursion (IsFor these) (on_air (outcome m.outside (Chip_takes count rest ways)).outer.air.frames)
+  unfolding outcome
+  takes_for m is all count rest ways sent =
+      let o : OuterState = m.outside.outer in
+      let p : OuterState = (each chip_does (fed_chip o count rest) (judged_all ways)).outer in
+      let adds = judges_add airs these many is.log (on_air o.air.frames) (fed_chip o count rest) ways sent is.follows.fly in
+      subst (AllByRecursion (IsFor these)) (flights_are (is.log ++ adds.more) (on_air o.air.frames ++ adds.added) p.air.frames adds.fly)
+      (all-append (IsFor these) (on_air o.air.frames) adds.added all (all-weaker (IsSentFor these) (IsFor these) (λ frame sent out. sent.0) adds.added adds.are_so))
+
+  pub frames_on : (here next : Phase) (past : List Entry) (m : Machine) (event : Event) → Goes here m event next → May m event → AreQuiet past → Knows these here past m → IsSentTo these m event → AllFor these m → AllFor these (happens m event)
+  frames_on here next past m event goes may quiet known sent all =
+      let tied = known.tied quiet in
+      let is = awaits_of here m tied.1 in
+      outs_on (λ frame. is_marked these frame.node ≡ true) airs m is all event (covers_of here next m event goes tied.0) may (λ count rest ways takes. takes_for m is all count rest ways (subst (IsSentTo these m) takes sent))
+
+  module _ (go : (m : Machine) (event : Event) → GoOn m.outside.devices (happens m event).outside.devices) (same_nodes : (old new : List State) → GoOn old new → AreSame old new) where
+    pub listens_on : (here next : Phase) (past : List Entry) (m : Machine) (event : Event) → Goes here m event next → May m event → AreQuiet past → Knows these here past m → IsSentTo these m event → AllListen these m → AllListen these (happens m event)
+    listens_on here next past m event goes may quiet known sent listen =
         let n : Machine = happens m event in
         record {
-          frames = event_for these airs many m is listen.frames event covers may sent;
+          frames = frames_on here next past m event goes may quiet known sent listen.frames;
           nodes = λ node marked. all_stay node m.outside.devices n.outside.devices (go m event) (same_nodes m.outside.devices n.outside.devices (go m event)) (listen.nodes node marked);
         }
-
-    module _ (heard : WalkWhere (IsHeardFor these) AsksNothing (KnowHeard these)) where
-      pub hears_on : (here next : Phase) (past : List Entry) (m : Machine) (event : Event) → Goes here m event next → May m event → IsSentTo these m event → IsStretched (past ++ entries m event) → KnowListening these here past m
-          → (Knows these next (past ++ entries m event) (happens m event) × AllSayHeard (unheard (happens m event).outside.outer)) × AllListen these (happens m event)
-      hears_on here next past m event goes may sent is known =
-          let before = stretched_before past (entries m event) is in
-          let at = known before in
-          let tied = at.0.0.tied before.quiet in
-          let awaits : Awaits m = awaits_of here m tied.1 in (
-            (heard.event here next past m event goes may (sent, heard_then airs these m event awaits tied.7.live at.1) (λ stretched. at.0)).1 is,
-            listens_on m event (covers_of here next m event goes tied.0) may sent awaits at.1,
-          )
-
-      said_on : (past : List Entry) (m : Machine) (words : List ℕ) (line : Line) → line_of (entry.Said words) ≡ line ∷ [] → KnowListening these Between past m → KnowListening these (Said_line line) (past ++ entry.Said words ∷ []) m
-      said_on past m words line read known is = let at = known (stretched_before past (entry.Said words ∷ []) is) in ((heard.said past m words line read (λ stretched. at.0)).1 is, at.1)
-
-      turns_on : (here next : Phase) (past : List Entry) (m : Machine) → Turns here m next → KnowListening these here past m → KnowListening these next past m
-      turns_on here next past m turns known is = let at = known is in (heard.turn here next past m turns (λ stretched. at.0) is, at.1)
-
-      pub listening_walk : WalkWhere (IsSentTo these) AsksNothing (KnowListening these)
-      listening_walk = record {
-        said = λ past m words line read known. (tt, said_on past m words line read known);
-        event = λ here next past m event goes may sent known. (nothing_asked past (entries m event), λ is. hears_on here next past m event goes may sent is known);
-        turn = turns_on;
-      }

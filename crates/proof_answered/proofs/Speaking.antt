@@ -3,7 +3,8 @@ use Rattle.std.proofs.Common.{◌≡◌, ◌≤◌, ◌<◌, ℕ, nat_lt, Bool, 
 use Rattle.std.specs.Prelude.{◌⊎◌, ◌||◌, Option, Some, None, option_map, slice_get, slice_index}
 use Rattle.std.specs.Option.{is_none, unwrap_or}
 use Rattle.std.specs.List.{AllByRecursion}
-use Rattle.zw_base.proofs.Each.{all-append, all-get}
+use Rattle.std.proofs.lemmas.List.{append-nil}
+use Rattle.zw_base.proofs.Each.{all-append, all-get, all-weaker}
 use Rattle.zw_text.specs.declared.entry.Entry.{Entry}
 use Rattle.serial_frame.specs.Frame.{FrameParts}
 use Rattle.serial_frame.specs.Stream.{Rest}
@@ -53,11 +54,12 @@ use Rattle.proof_calm.specs.Resting.{LineAt}
 use Rattle.proof_calm.specs.Routed.{IsRouted}
 use Rattle.proof_calm.specs.Live.{AreAskedFor}
 use Rattle.proof_calm.specs.Tied.{RoomAt, TieAt, unheard}
-use Rattle.proof_calm.proofs.Calm.{Calm, does_calm, enters_calm, takes_calm}
+use Rattle.proof_calm.proofs.Calm.{does_calm, enters_calm, takes_calm}
 use Rattle.proof_calm.proofs.ChipNotices.{arrived_air, entered_leaves, given_first}
 use Rattle.proof_calm.proofs.Flights.{flights_are}
 use Rattle.proof_calm.proofs.proof_traffic_Parts.{Airs}
-use Rattle.proof_answered.specs.Outward.{IsOfSaying, IsSentTo}
+use Rattle.proof_answered.specs.Outward.{IsOf, IsOfSaying, IsSentTo}
+use Rattle.proof_answered.specs.Said.{SaysAt, SaysThen}
 use Rattle.proof_answered.specs.Workers.{IsAway, IsCalledFor, IsFromSaying, IsLineFor}
 use Rattle.proof_answered.proofs.Flying.{chip_counts}
 use Rattle.proof_answered.proofs.Outwards.{Adds, IsSentFor, adds_both, adds_none, adds_weaker, judges_add, marked_within, next_flight}
@@ -101,14 +103,14 @@ module _ (same : Same) (these : List Bool) where
 -- ---- one frame arrives
 
 -- a device hears what is for its node
-fate_listens : (lost : Bool) (dead : Option (ℕ × ℕ)) (heading : Heading) (listener : Option ℕ) (place : ℕ) → (if lost then Lost else fate_by dead heading listener) ≡ AtDevice place → listener ≡ Some place
+pub fate_listens : (lost : Bool) (dead : Option (ℕ × ℕ)) (heading : Heading) (listener : Option ℕ) (place : ℕ) → (if lost then Lost else fate_by dead heading listener) ≡ AtDevice place → listener ≡ Some place
 fate_listens true dead heading listener place is = absurd cc
 fate_listens false (Some hop) heading listener place is = absurd cc
 fate_listens false None Homeward listener place is = absurd cc
 fate_listens false None Outward (Some k) place is = let same : k ≡ place = cc in ap (λ (n : ℕ). Some n) same
 fate_listens false None Outward None place is = absurd cc
 
-hears_at : (net : Network) (devices : List State) (frame : Flown) (place : ℕ) → fate_of net devices frame ≡ AtDevice place → place_of frame.node devices ≡ Some place
+pub hears_at : (net : Network) (devices : List State) (frame : Flown) (place : ℕ) → fate_of net devices frame ≡ AtDevice place → place_of frame.node devices ≡ Some place
 hears_at net devices frame place is = listener_is frame.node devices place (fate_listens frame.lost (dead_hop_of net frame) frame.heading (listener_of frame.node devices) place is)
 
 module _ (same : Same) (these : List Bool) where
@@ -195,6 +197,24 @@ speak_any these devices = record {
   ticked = λ place device drawn marked there. any_texts (device_replies device (Ticks drawn));
 }
 
+-- on the air are these, and some behind them
+pub record AirThen (Is : Flown → Type 0) (rest : List Flown) (o : OuterState) : Type 0 where
+  pub added : List Flown
+  pub are : on_air o.air.frames ≡ rest ++ added
+  pub so : AllByRecursion Is added
+
+-- the first has landed
+pub record Lands (Is : Flown → Type 0) (m : Machine) (o : OuterState) : Type 0 where
+  pub frame : Flown
+  pub rest : List Flown
+  pub next : next_of m.outside.outer.air.frames ≡ Some frame
+  pub are : on_air m.outside.outer.air.frames ≡ frame ∷ rest
+  pub later : AirThen Is rest o
+
+pub data AirOn (Is : Flown → Type 0) (m : Machine) (event : Event) : Type 0 where
+  Stays : ((drawn : List ℕ) (route : Option Route) → event ≡ Outside_does (Arrives drawn route) → ⊥) → AirThen Is (on_air m.outside.outer.air.frames) (happens m event).outside.outer → AirOn Is m event
+  Arrived : (drawn : List ℕ) (route : Option Route) → event ≡ Outside_does (Arrives drawn route) → Lands Is m (happens m event).outside.outer → AirOn Is m event
+
 sent_saying : (these : List Bool) (Says : List ℕ → Type 0) (frame : Flown) → IsSentFor these frame → IsOfSaying these Says frame
 sent_saying these Says frame sent = (sent.0, λ home. absurd (let wrong : Outward ≡ Homeward = sym sent.1 ∙ home in cc))
 
@@ -236,153 +256,206 @@ module _ (airs : Airs) (these : List Bool) (Says : List ℕ → Type 0) (many : 
         let before : AirState = landed (acknowledged m.air) in
         answers_add_if (is_joined before flight.node) log later before flight.node (option_map backwards route) (device_replies device event) (inl (marked, says device refl)) (airs.lands log flight later m.air.frames fly)
 
-    fate_adds : (x : Fate) (drawn : List ℕ) (route : Option Route) → fate_of m.air.network m.devices flight ≡ x → SpeakSo these Says m.devices → Adds Is log later (arriving_as m flight x drawn route).air.frames
+    -- what the device answers that hears it is so
+    abbrev AnswersIt : List ℕ → Type 0
+    AnswersIt drawn =
+        (place : ℕ) (device : State) → fate_of m.air.network m.devices flight ≡ AtDevice place → slice_get m.devices place ≡ Some device → AllByRecursion Says (device_replies device (Hears flight.payload drawn))
+
+    fate_adds : (x : Fate) (drawn : List ℕ) (route : Option Route) → fate_of m.air.network m.devices flight ≡ x → AnswersIt drawn → Adds Is log later (arriving_as m flight x drawn route).air.frames
     fate_adds Lost drawn route is speak = lands_add (landed m.air) refl
     fate_adds (Dead from to) drawn route is speak = lands_add (landed m.air) refl
     fate_adds Missed drawn route is speak = lands_add (landed m.air) refl
     fate_adds AtChip drawn route is speak = lands_add (landed m.air) refl
     fate_adds (AtDevice place) drawn route is speak =
-        hears_add place (slice_get m.devices place) (Hears flight.payload drawn) route
-        (λ device there. speak.heard flight.node place device flight.payload drawn marked (hears_at m.air.network m.devices flight place is) there)
+        hears_add place (slice_get m.devices place) (Hears flight.payload drawn) route (λ device there. speak place device is there)
 
-    arrives_add : (drawn : List ℕ) (route : Option Route) → SpeakSo these Says m.devices → Adds Is log later (mesh_after m (mesh.Arrives drawn route)).air.frames
+    arrives_add : (drawn : List ℕ) (route : Option Route) → AnswersIt drawn → Adds Is log later (mesh_after m (mesh.Arrives drawn route)).air.frames
     unfolding mesh_after
     arrives_add drawn route speak = rw (airs.next log flight later m.air.frames fly) (fate_adds (fate_of m.air.network m.devices flight) drawn route refl speak)
 
   -- ---- each event
 
-  abbrev AreOf : OuterState → Type 0
-  AreOf o = AllByRecursion Is (on_air o.air.frames)
+  still_add : (o p : OuterState) → on_air p.air.frames ≡ on_air o.air.frames → AirThen Is (on_air o.air.frames) p
+  still_add o p same = record { added = []; are = same ∙ sym (append-nil (on_air o.air.frames)); so = tt }
 
-  same_of : (o p : OuterState) → p.air ≡ o.air → AreOf o → AreOf p
-  same_of o p air all = subst (λ (a : AirState). AllByRecursion Is (on_air a.frames)) (sym air) all
+  air_add : (rest : List Flown) (o p : OuterState) → p.air ≡ o.air → AirThen Is rest o → AirThen Is rest p
+  air_add rest o p air add = record { added = add.added; are = ap (λ (a : AirState). on_air a.frames) air ∙ add.are; so = add.so }
 
-  calm_of : (o p : OuterState) → Calm o p → AreOf o → AreOf p
-  calm_of o p calm all = subst (AllByRecursion Is) (sym calm.on) all
+  entered_add : (rest : List Flown) (x : Outcome) → AirThen Is rest x.outer → (told : List Entry) → AirThen Is rest (has_entered x.outer told)
+  entered_add rest x add told = air_add rest x.outer (has_entered x.outer told) (entered_leaves x.outer told).air add
 
-  entered_of : (x : Outcome) → AreOf x.outer → (told : List Entry) → AreOf (has_entered x.outer told)
-  entered_of x are told = same_of x.outer (has_entered x.outer told) (entered_leaves x.outer told).air are
+  adds_so : (log : List Mark) (flights : List Flown) (o : OuterState) → Adds Is log flights o.air.frames → AirThen Is flights o
+  adds_so log flights o adds = record { added = adds.added; are = sym (flights_are (log ++ adds.more) (flights ++ adds.added) o.air.frames adds.fly); so = adds.are_so }
 
-  adds_of : (log : List Mark) (flights : List Flown) (frames : FramesState) → AllByRecursion Is flights → Adds Is log flights frames → AllByRecursion Is (on_air frames)
-  adds_of log flights frames all adds =
-      subst (AllByRecursion Is) (flights_are (log ++ adds.more) (flights ++ adds.added) frames adds.fly) (all-append Is flights adds.added all adds.are_so)
+  module _ (m : Machine) (is : Awaits m) (all : AllByRecursion (IsOf these) (on_air m.outside.outer.air.frames)) where
+    abbrev flying : List Flown
+    flying = on_air m.outside.outer.air.frames
 
-  module _ (m : Machine) (is : Awaits m) (all : AreOf m.outside.outer) where
-    fly : Fly is.log (on_air m.outside.outer.air.frames) m.outside.outer.air.frames
+    fly : Fly is.log flying m.outside.outer.air.frames
     fly = is.follows.fly
 
     -- the next one is
-    pub next_is_so : (frame : Flown) → next_of m.outside.outer.air.frames ≡ Some frame → Is frame
-    next_is_so frame next =
-        let first = next_flight airs is.log (on_air m.outside.outer.air.frames) m.outside.outer.air.frames frame fly next in (subst (AllByRecursion Is) first.1 all).0
+    next_marked : (frame : Flown) → next_of m.outside.outer.air.frames ≡ Some frame → is_marked these frame.node ≡ true
+    next_marked frame next = let first = next_flight airs is.log flying m.outside.outer.air.frames frame fly next in (subst (AllByRecursion (IsOf these)) first.1 all).0
 
-    arrives_of : (drawn : List ℕ) (route : Option Route) (frame : Flown) → next_of m.outside.outer.air.frames ≡ Some frame → SpeakSo these Says m.outside.devices → AreOf (happens_outside m.outside (Arrives drawn route)).outer
-    arrives_of drawn route frame next speak =
-        let first = next_flight airs is.log (on_air m.outside.outer.air.frames) m.outside.outer.air.frames frame fly next in
+    arrives_lands : (drawn : List ℕ) (route : Option Route) (frame : Flown) → next_of m.outside.outer.air.frames ≡ Some frame → SaysAt these Says m.outside (Arrives drawn route)
+        → Lands Is m (happens_outside m.outside (Arrives drawn route)).outer
+    arrives_lands drawn route frame next speak =
+        let first = next_flight airs is.log flying m.outside.outer.air.frames frame fly next in
         let there : Fly is.log (frame ∷ first.0) m.outside.outer.air.frames = subst (λ (fs : List Flown). Fly is.log fs m.outside.outer.air.frames) first.1 fly in
-        let adds = arrives_add is.log frame first.0 (mesh_of m.outside) (next_is_so frame next).0 there drawn route speak in
+        let marked = next_marked frame next in
+        let adds = arrives_add is.log frame first.0 (mesh_of m.outside) marked there drawn route (λ place device is_at stands. speak frame place device next marked is_at stands) in
         let v : Outside = happens_outside m.outside (Arrives drawn route) in
-        adds_of is.log first.0 v.outer.air.frames (subst (AllByRecursion Is) first.1 all).1 (subst (λ (a : AirState). Adds Is is.log first.0 a.frames) (sym (arrived_air m.outside drawn route)) adds)
+        record { frame = frame; rest = first.0; next = next; are = first.1; later = adds_so is.log first.0 v.outer (subst (λ (a : AirState). Adds Is is.log first.0 a.frames) (sym (arrived_air m.outside drawn route)) adds) }
 
-    acts_of : (found : Option State) (event : DeviceEvent) (route : Option Route) → ((device : State) → found ≡ Some device → AnswersSo device.node (device_replies device event)) → AreOf (acts_at m.outside.outer found event route).outer
-    acts_of None event route says = all
-    acts_of (Some device) event route says =
+    acts_add : (found : Option State) (event : DeviceEvent) (route : Option Route) → ((device : State) → found ≡ Some device → AnswersSo device.node (device_replies device event)) → AirThen Is flying (acts_at m.outside.outer found event route).outer
+    acts_add None event route says = still_add m.outside.outer m.outside.outer refl
+    acts_add (Some device) event route says =
         let o : OuterState = m.outside.outer in
-        adds_of is.log (on_air o.air.frames) (acts_at o (Some device) event route).outer.air.frames all
-        (answers_add_if (is_joined o.air device.node) is.log (on_air o.air.frames) o.air device.node (option_map backwards route) (device_replies device event) (says device refl) fly)
+        adds_so is.log flying (acts_at o (Some device) event route).outer
+        (answers_add_if (is_joined o.air device.node) is.log flying o.air device.node (option_map backwards route) (device_replies device event) (says device refl) fly)
 
-    wakes_of : (node : ℕ) (place : Option ℕ) (route : Option Route) → place_of node m.outside.devices ≡ place → is_marked these node ≡ true → SpeakSo these Says m.outside.devices
-        → AreOf (acts_by_hand m.outside.outer m.outside.devices place Wakes route).outer
-    wakes_of node None route first marked speak = all
-    wakes_of node (Some place) route first marked speak =
-        acts_of (slice_get m.outside.devices place) Wakes route
-        (λ device there.
-        inl (subst (λ (n : ℕ). is_marked these n ≡ true) (sym (place_is node m.outside.devices place device first there)) marked, speak.woken node place device marked first there))
+    wakes_add : (node : ℕ) (place : Option ℕ) (route : Option Route) → place_of node m.outside.devices ≡ place → is_marked these node ≡ true → SaysAt these Says m.outside (Wakes_device node route)
+        → AirThen Is flying (acts_by_hand m.outside.outer m.outside.devices place Wakes route).outer
+    wakes_add node None route first marked speak = still_add m.outside.outer m.outside.outer refl
+    wakes_add node (Some place) route first marked speak =
+        acts_add (slice_get m.outside.devices place) Wakes route
+        (λ device there. inl (subst (λ (n : ℕ). is_marked these n ≡ true) (sym (place_is node m.outside.devices place device first there)) marked, speak place device first there))
 
-    takes_of : (count : ℕ) (rest : Rest) (ways : List (Item × Option Route)) → AreAskedFor these ways → AreOf (outcome m.outside (Chip_takes count rest ways)).outer
+    takes_add : (count : ℕ) (rest : Rest) (ways : List (Item × Option Route)) → AreAskedFor these ways → AirThen Is flying (outcome m.outside (Chip_takes count rest ways)).outer
     unfolding outcome
-    takes_of count rest ways sent =
+    takes_add count rest ways sent =
         let o : OuterState = m.outside.outer in
         let p : OuterState = (each chip_does (fed_chip o count rest) (judged_all ways)).outer in
-        adds_of is.log (on_air o.air.frames) p.air.frames all
-        (adds_weaker (IsSentFor these) Is (sent_saying these Says) is.log (on_air o.air.frames) p.air.frames (judges_add airs these many is.log (on_air o.air.frames) (fed_chip o count rest) ways sent fly))
+        adds_so is.log flying p
+        (adds_weaker (IsSentFor these) Is (sent_saying these Says) is.log flying p.air.frames (judges_add airs these many is.log flying (fed_chip o count rest) ways sent fly))
 
     -- a device of these says so in its tick; another says nothing
-    ticks_of : (same : Same) (place : ℕ) (device : State) (drawn : List ℕ) → slice_get m.outside.devices place ≡ Some device → AllByRecursion (IsAway these) m.outside.devices → SpeakSo these Says m.outside.devices
-        → AnswersSo device.node (device_replies device (Ticks drawn))
-    ticks_of same place device drawn there away speak = by (ticks_quiet same these device drawn (all-get (IsAway these) m.outside.devices place device away there))
+    ticks_say_so : (same : Same) (place : ℕ) (device : State) (drawn : List ℕ) (route : Option Route) → slice_get m.outside.devices place ≡ Some device → AllByRecursion (IsAway these) m.outside.devices
+        → SaysAt these Says m.outside (Device_ticks place drawn route) → AnswersSo device.node (device_replies device (Ticks drawn))
+    ticks_say_so same place device drawn route there away speak = by (ticks_quiet same these device drawn (all-get (IsAway these) m.outside.devices place device away there))
       where
         by : (is_marked these device.node ≡ true) ⊎ (device_replies device (Ticks drawn) ≡ []) → AnswersSo device.node (device_replies device (Ticks drawn))
-        by (inl marked) = inl (marked, speak.ticked place device drawn marked there)
+        by (inl marked) = inl (marked, speak device marked there)
         by (inr none) = inr none
 
-    outside_of : (same : Same) (event : OuterEvent) → IsQuietEvent event → May m (Outside_does event) → IsSentTo these m (Outside_does event) → IsCalledFor these event → AllByRecursion (IsAway these) m.outside.devices
-        → SpeakSo these Says m.outside.devices → AreOf (happens_outside m.outside event).outer
-    unfolding outcome May MayOutside MayHappen
-    outside_of same Begins_line quiet may sent called away speak = all
-    outside_of same Begins_tick quiet may sent called away speak = all
-    outside_of same (Chip_takes count rest ways) quiet may sent called away speak =
-        entered_of (outcome m.outside (Chip_takes count rest ways)) (takes_of count rest ways sent) (outcome m.outside (Chip_takes count rest ways)).entries
-    outside_of same (Arrives drawn route) quiet may sent called away speak = by (next_of m.outside.outer.air.frames) refl may.1.0
-      where
-        by : (frame : Option Flown) → next_of m.outside.outer.air.frames ≡ frame → MayArriveIf (mesh_of m.outside) frame route → AreOf (happens_outside m.outside (Arrives drawn route)).outer
-        by None next may_arrive = absurd may_arrive
-        by (Some frame) next may_arrive = arrives_of drawn route frame next speak
-    outside_of same (Gives route) quiet may sent called away speak = same_of m.outside.outer (happens_outside m.outside (Gives route)).outer (given_first m.outside route).air all
-    outside_of same (Device_ticks place drawn route) quiet may sent called away speak =
-        entered_of (acts_at m.outside.outer (slice_get m.outside.devices place) (Ticks drawn) route)
-        (acts_of (slice_get m.outside.devices place) (Ticks drawn) route (λ device there. ticks_of same place device drawn there away speak)) (outcome m.outside (Device_ticks place drawn route)).entries
-    outside_of same Chip_ticks quiet may sent called away speak = same_of m.outside.outer (happens_outside m.outside Chip_ticks).outer (chip_counts m.outside).0 all
-    outside_of same (Wakes_device node route) quiet may sent called away speak =
-        entered_of (acts_by_hand m.outside.outer m.outside.devices (place_of node m.outside.devices) Wakes route) (wakes_of node (place_of node m.outside.devices) route refl called speak)
-        (outcome m.outside (Wakes_device node route)).entries
-    outside_of same (Shows node) quiet may sent called away speak = entered_of (outcome m.outside (Shows node)) all (outcome m.outside (Shows node)).entries
-    outside_of same (Cuts size) quiet may sent called away speak = all
-    outside_of same (Host_writes unit) quiet may sent called away speak = absurd (let no : false ≡ true = may.0 in cc)
-    outside_of same (Host_takes count) quiet may sent called away speak = absurd (let no : false ≡ true = may.0 in cc)
-    outside_of same (Host_notes note) quiet may sent called away speak = absurd (let no : false ≡ true = may.0 in cc)
-    outside_of same (Host_begins node sessions) quiet may sent called away speak = absurd (let no : false ≡ true = may.0 in cc)
-    outside_of same event quiet may sent called away speak = absurd quiet
+    -- what is on the air after an event: what was there, but for one that has landed, and what was said
+    stays : (event : Event) → ((drawn : List ℕ) (route : Option Route) → event ≡ Outside_does (Arrives drawn route) → ⊥) → AirThen Is flying (happens m event).outside.outer → AirOn Is m event
+    stays event none add = Stays none add
 
-    pub event_of : (same : Same) (event : Event) → CoversOuter IsQuietEvent event → May m event → IsSentTo these m event → IsLineFor these event → AllByRecursion (IsAway these) m.outside.devices
-        → SpeakSo these Says m.outside.devices → AreOf (happens m event).outside.outer
+    stays_still : (event : Event) → ((drawn : List ℕ) (route : Option Route) → event ≡ Outside_does (Arrives drawn route) → ⊥) → on_air (happens m event).outside.outer.air.frames ≡ flying → AirOn Is m event
+    stays_still event none same = Stays none (still_add m.outside.outer (happens m event).outside.outer same)
+
+    outside_on : (same : Same) (event : OuterEvent) → IsQuietEvent event → May m (Outside_does event) → IsSentTo these m (Outside_does event) → IsCalledFor these event → AllByRecursion (IsAway these) m.outside.devices
+        → SaysAt these Says m.outside event → AirOn Is m (Outside_does event)
+    unfolding outcome happens May MayOutside MayHappen
+    outside_on same Begins_line quiet may sent called away speak = stays_still (Outside_does Begins_line) (λ drawn route no. cc) refl
+    outside_on same Begins_tick quiet may sent called away speak = stays_still (Outside_does Begins_tick) (λ drawn route no. cc) refl
+    outside_on same (Chip_takes count rest ways) quiet may sent called away speak =
+        stays (Outside_does (Chip_takes count rest ways)) (λ drawn route no. cc)
+        (entered_add flying (outcome m.outside (Chip_takes count rest ways)) (takes_add count rest ways sent) (outcome m.outside (Chip_takes count rest ways)).entries)
+    outside_on same (Arrives drawn route) quiet may sent called away speak = by (next_of m.outside.outer.air.frames) refl may.1.0
+      where
+        by : (frame : Option Flown) → next_of m.outside.outer.air.frames ≡ frame → MayArriveIf (mesh_of m.outside) frame route → AirOn Is m (Outside_does (Arrives drawn route))
+        by None next may_arrive = absurd may_arrive
+        by (Some frame) next may_arrive = Arrived drawn route refl (arrives_lands drawn route frame next speak)
+    outside_on same (Gives route) quiet may sent called away speak =
+        stays_still (Outside_does (Gives route)) (λ drawn way no. cc) (ap (λ (a : AirState). on_air a.frames) (given_first m.outside route).air)
+    outside_on same (Device_ticks place drawn route) quiet may sent called away speak =
+        stays (Outside_does (Device_ticks place drawn route)) (λ other way no. cc)
+        (entered_add flying (acts_at m.outside.outer (slice_get m.outside.devices place) (Ticks drawn) route)
+        (acts_add (slice_get m.outside.devices place) (Ticks drawn) route (λ device there. ticks_say_so same place device drawn route there away speak)) (outcome m.outside (Device_ticks place drawn route)).entries)
+    outside_on same Chip_ticks quiet may sent called away speak = stays_still (Outside_does Chip_ticks) (λ drawn route no. cc) (ap (λ (a : AirState). on_air a.frames) (chip_counts m.outside).0)
+    outside_on same (Wakes_device node route) quiet may sent called away speak =
+        stays (Outside_does (Wakes_device node route)) (λ drawn way no. cc)
+        (entered_add flying (acts_by_hand m.outside.outer m.outside.devices (place_of node m.outside.devices) Wakes route) (wakes_add node (place_of node m.outside.devices) route refl called speak)
+        (outcome m.outside (Wakes_device node route)).entries)
+    outside_on same (Shows node) quiet may sent called away speak =
+        stays (Outside_does (Shows node)) (λ drawn route no. cc)
+        (entered_add flying (outcome m.outside (Shows node)) (still_add m.outside.outer m.outside.outer refl) (outcome m.outside (Shows node)).entries)
+    outside_on same (Cuts size) quiet may sent called away speak = stays_still (Outside_does (Cuts size)) (λ drawn route no. cc) refl
+    outside_on same (Host_writes unit) quiet may sent called away speak = absurd (let no : false ≡ true = may.0 in cc)
+    outside_on same (Host_takes count) quiet may sent called away speak = absurd (let no : false ≡ true = may.0 in cc)
+    outside_on same (Host_notes note) quiet may sent called away speak = absurd (let no : false ≡ true = may.0 in cc)
+    outside_on same (Host_begins node sessions) quiet may sent called away speak = absurd (let no : false ≡ true = may.0 in cc)
+    outside_on same event quiet may sent called away speak = absurd quiet
+
+    pub event_on : (same : Same) (event : Event) → CoversOuter IsQuietEvent event → May m event → IsSentTo these m event → IsLineFor these event → AllByRecursion (IsAway these) m.outside.devices → SaysThen these Says m event → AirOn Is m event
     unfolding happens
-    event_of same (Outside_does event) covers may sent called away speak = outside_of same event covers may sent called away speak
-    event_of same (Host_does event) covers may sent called away speak = calm_of m.outside.outer (happens m (Host_does event)).outside.outer (does_calm airs m event) all
-    event_of same (Host_takes_all count rest items events) covers may sent called away speak =
-        calm_of m.outside.outer (happens m (Host_takes_all count rest items events)).outside.outer (takes_calm airs m count rest items events) all
-    event_of same Decoder_ticks covers may sent called away speak = all
-    event_of same (refuses_line line refusal) covers may sent called away speak = calm_of m.outside.outer (happens m (refuses_line line refusal)).outside.outer (enters_calm airs m _) all
-    event_of same (Shows_values node) covers may sent called away speak = calm_of m.outside.outer (happens m (Shows_values node)).outside.outer (enters_calm airs m _) all
-    event_of same (Restarts state) covers may sent called away speak = all
+    event_on same (Outside_does event) covers may sent called away speak = outside_on same event covers may sent called away speak
+    event_on same (Host_does event) covers may sent called away speak = stays_still (Host_does event) (λ drawn route no. cc) (does_calm airs m event).on
+    event_on same (Host_takes_all count rest items events) covers may sent called away speak = stays_still (Host_takes_all count rest items events) (λ drawn route no. cc) (takes_calm airs m count rest items events).on
+    event_on same Decoder_ticks covers may sent called away speak = stays_still Decoder_ticks (λ drawn route no. cc) refl
+    event_on same (refuses_line line refusal) covers may sent called away speak = stays_still (refuses_line line refusal) (λ drawn route no. cc) (enters_calm airs m _).on
+    event_on same (Shows_values node) covers may sent called away speak = stays_still (Shows_values node) (λ drawn route no. cc) (enters_calm airs m _).on
+    event_on same (Restarts state) covers may sent called away speak = stays_still (Restarts state) (λ drawn route no. cc) refl
+
+  -- so each is, where each was
+  on_so : (m : Machine) (event : Event) → AirOn Is m event → AllByRecursion Is (on_air m.outside.outer.air.frames) → AllByRecursion Is (on_air (happens m event).outside.outer.air.frames)
+  on_so m event (Stays none add) all = subst (AllByRecursion Is) (sym add.are) (all-append Is (on_air m.outside.outer.air.frames) add.added all add.so)
+  on_so m event (Arrived drawn route arrives lands) all =
+      let add = lands.later in
+      subst (AllByRecursion Is) (sym add.are) (all-append Is lands.rest add.added (subst (AllByRecursion Is) lands.are all).1 add.so)
+
+  module _ (m : Machine) (is : Awaits m) (all : AllByRecursion Is (on_air m.outside.outer.air.frames)) where
+    -- the next one is
+    pub next_is_so : (frame : Flown) → next_of m.outside.outer.air.frames ≡ Some frame → Is frame
+    next_is_so frame next =
+        let first = next_flight airs is.log (on_air m.outside.outer.air.frames) m.outside.outer.air.frames frame is.follows.fly next in (subst (AllByRecursion Is) first.1 all).0
+
+    -- so where that is so of whatever they hear
+    outside_so : (event : OuterEvent) → IsCalledFor these event → SpeakSo these Says m.outside.devices → SaysAt these Says m.outside event
+    outside_so (Arrives drawn route) called speak =
+        λ frame place device next marked at there. speak.heard frame.node place device frame.payload drawn marked (hears_at m.outside.outer.air.network m.outside.devices frame place at) there
+    outside_so (Device_ticks place drawn route) called speak = λ device marked there. speak.ticked place device drawn marked there
+    outside_so (Wakes_device node route) called speak = λ place device first there. speak.woken node place device called first there
+    outside_so event called speak = tt
+
+    event_so : (event : Event) → IsLineFor these event → SpeakSo these Says m.outside.devices → SaysThen these Says m event
+    event_so (Outside_does event) called speak = outside_so event called speak
+    event_so event called speak = tt
+
+    pub event_of : (same : Same) (event : Event) → CoversOuter IsQuietEvent event → May m event → IsSentTo these m event → IsLineFor these event → AllByRecursion (IsAway these) m.outside.devices → SpeakSo these Says m.outside.devices
+        → AllByRecursion Is (on_air (happens m event).outside.outer.air.frames)
+    event_of same event covers may sent called away speak =
+        let marked = all-weaker Is (IsOf these) (λ frame of. of.0) (on_air m.outside.outer.air.frames) all in
+        on_so m event (event_on m is marked same event covers may sent called away (event_so event called speak)) all
 
 -- ---- payloads that come to the chip
+
+module _ (Says : ℕ → List ℕ → Type 0) where
+  -- where a frame brings a payload of a node, that is so
+  abbrev BringsSo : FrameParts → Type 0
+  BringsSo frame = (n : ℕ) (payload : List ℕ) → frame ≡ notice_frame (ApplicationCommandHandler 0 n payload) → Says n payload
+
+  pub answer_brings : BringsSo answer_taken
+  answer_brings n payload e = let no = ap (λ (f : FrameParts). f.kind) e in absurd cc
+
+  pub update_brings : (update : Update) → BringsSo (notice_frame (ApplicationUpdate update))
+  update_brings update n payload e = let no = ap (λ (f : FrameParts). f.func) e in absurd cc
+
+  pub call_brings : (sent : Sending) (status : TransmitStatus) → BringsSo (callback_frame sent status)
+  call_brings sent status n payload e = let no = ap (λ (f : FrameParts). f.func) e in absurd cc
+
+  pub payload_brings : (from : ℕ) (payload : List ℕ) → Says from payload → BringsSo (notice_frame (ApplicationCommandHandler 0 from payload))
+  payload_brings from payload says n other e =
+      let same : from ≡ n = ap (λ (f : FrameParts). slice_index f.body 1) e in
+      let text : payload ≡ other = ap (λ (f : FrameParts). drop 3 f.body) e in
+      subst (λ (k : ℕ). Says k other) same (subst (λ (l : List ℕ). Says from l) text says)
 
 module _ (these : List Bool) (Says : List ℕ → Type 0) where
   abbrev Comes : FrameParts → Type 0
   Comes = IsFromSaying these Says
 
-  answer_from : Comes answer_taken
-  answer_from n payload e = let no = ap (λ (f : FrameParts). f.kind) e in absurd cc
-
-  update_from : (update : Update) → Comes (notice_frame (ApplicationUpdate update))
-  update_from update n payload e = let no = ap (λ (f : FrameParts). f.func) e in absurd cc
-
-  call_from : (sent : Sending) (status : TransmitStatus) → Comes (callback_frame sent status)
-  call_from sent status n payload e = let no = ap (λ (f : FrameParts). f.func) e in absurd cc
-
-  payload_from : (from : ℕ) (payload : List ℕ) → is_marked these from ≡ true → Says payload → Comes (notice_frame (ApplicationCommandHandler 0 from payload))
-  payload_from from payload marked says n other e =
-      let same : from ≡ n = ap (λ (f : FrameParts). slice_index f.body 1) e in
-      let text : payload ≡ other = ap (λ (f : FrameParts). drop 3 f.body) e in
-      (subst (λ (k : ℕ). is_marked these k ≡ true) same marked, subst Says text says)
+  abbrev Both : ℕ → List ℕ → Type 0
+  Both n payload = (is_marked these n ≡ true) × Says payload
 
   -- at each event: a frame that arrives is of one of these, and says so
   pub pending_from : (airs : Airs) (here next : Phase) (m : Machine) (event : Event) → Goes here m event next → May m event → LineAt here m × RoomAt here m × IsRouted m.outside.outer × TieAt here m → AwaitsAt here m → LineAt next (happens m event)
       → ((frame : Flown) → next_of m.outside.outer.air.frames ≡ Some frame → IsOfSaying these Says frame) → AllByRecursion (IsFromSaying these Says) (unheard m.outside.outer)
       → AllByRecursion (IsFromSaying these Says) (unheard (happens m event).outside.outer)
   pending_from airs here next m event goes may at awaits later next_is all =
-      event_says Comes (AllByRecursion Comes) (all_piled Comes) airs answer_from (all_behind Comes) here next m event goes may at
+      event_says Comes (AllByRecursion Comes) (all_piled Comes) airs (answer_brings Both) here next m event (λ judged. all_behind Comes) goes may at
       (λ drawn route arrives given then_given.
-      arrives_says Comes (AllByRecursion Comes) (all_piled Comes) update_from call_from m drawn route given then_given
-      (λ frame is home. payload_from frame.node frame.payload (next_is frame is).0 ((next_is frame is).1 home)) all) awaits all later
+      arrives_says Comes (AllByRecursion Comes) (all_piled Comes) (update_brings Both) (call_brings Both) m drawn route given then_given
+      (λ frame is home. payload_brings Both frame.node frame.payload ((next_is frame is).0, (next_is frame is).1 home)) all) awaits all later

@@ -25,7 +25,7 @@ use Rattle.world_model.specs.State.{Machine, host_does, host_entries}
 use Rattle.proof_calm.specs.proof_work.Phases.{AsksNothing}
 use Rattle.proof_calm.specs.proof_work.proof_walk.Phases.{Phase, Between, Said_line, Begun, Doing, To_tick, Ticked, Arriving, Giving, Ticking_devices, Ticking_chip, Ticking_decoder, Ticking_host, Sleeping, Submitting, Moving, Moved, Goes, Turns, after_pump, passes_after}
 use Rattle.proof_calm.specs.proof_work.proof_walk.Outside.{CoversOuter}
-use Rattle.proof_calm.specs.proof_work.proof_walk.Walk.{Walk, WalkWhere}
+use Rattle.proof_calm.specs.proof_work.proof_walk.Walk.{WalkWhere}
 use Rattle.proof_calm.proofs.proof_traffic_Parts.{Airs}
 use Rattle.proof_calm.specs.proof_traffic.OnAir.{on_air}
 use Rattle.proof_calm.specs.Awaited.{Awaits}
@@ -36,12 +36,14 @@ use Rattle.proof_calm.proofs.Peopled.{covers_of}
 use Rattle.proof_calm.proofs.Quiet.{all_both}
 use Rattle.proof_calm.proofs.Unmarked.{nothing_asked}
 use Rattle.world_model.proofs.Hosting.{devices_host-all}
+use Rattle.proof_answered.specs.Heard.{IsHeardThen}
 use Rattle.proof_answered.specs.Outward.{IsOf, IsOfSaying, IsSentTo}
-use Rattle.proof_answered.specs.Workers.{AllFrom, IsAway, IsFrom, IsFromSaying, IsLineFor, IsOrderFor, IsWorkedFor, IsWorkFor, KnowStaff, KnowWorkers, LinesAt, OnlySpeak, Staffed, is_accepted_for, is_line_for}
+use Rattle.proof_answered.specs.Workers.{AllFrom, IsAway, IsFrom, IsFromSaying, IsLineFor, IsOrderFor, IsWorkedFor, IsWorkFor, IsWorkHeard, KnowStaff, KnowWorkers, LinesAt, OnlySpeak, Staffed, is_accepted_for, is_line_for}
 use Rattle.proof_answered.proofs.Outwards.{awaits_of}
 use Rattle.proof_answered.proofs.Speaking.{AnyText, Same, event_of, next_is_so, outside_away, pending_from, speak_any}
 use Rattle.proof_answered.proofs.Staffing.{sent_on}
 use Rattle.proof_answered.proofs.Walking.{stretched_before, takes_still}
+use Rattle.proof_answered.proofs.WokenLast.{woken_before}
 
 -- ---- lines that were said
 
@@ -50,6 +52,7 @@ worked_before these past told is = record {
   stretched = stretched_before past told is.stretched;
   lines = (all_both (is_line_for these) (lines_run past) (lines_run told) (ap (λ (ls : List Line). list_all (is_line_for these) ls) (sym (shown-append line_of past told)) ∙ is.lines)).0;
   accepted = (all_both (is_accepted_for these) past told is.accepted).0;
+  woken = λ n marked. woken_before n past told (is.woken n marked);
 }
 
 worked_said : (these : List Bool) (past : List Entry) (words : List ℕ) (line : Line) → line_of (entry.Said words) ≡ line ∷ [] → IsWorkedFor these (past ++ entry.Said words ∷ []) → is_line_for these line ≡ true
@@ -171,18 +174,18 @@ module _ (airs : Airs) (same : Same) (these : List Bool) (many : length these �
   event_away m (Shows_values node) covers is_for marked all = all
   event_away m (Restarts state) covers is_for marked all = all
 
-  module _ (workers : WalkWhere (IsWorkFor these) AsksNothing (KnowWorkers these)) where
-    does_all : (here next : Phase) (past : List Entry) (m : Machine) (event : Event) → Goes here m event next → May m event → IsWorkedFor these (past ++ entries m event) → KnowStaff these here past m
+  module _ (workers : WalkWhere (IsWorkHeard these) AsksNothing (KnowWorkers these)) where
+    does_all : (here next : Phase) (past : List Entry) (m : Machine) (event : Event) → Goes here m event next → May m event → IsHeardThen m event → IsWorkedFor these (past ++ entries m event) → KnowStaff these here past m
         → KnowWorkers these next (past ++ entries m event) (happens m event) × Staffed these next (happens m event)
-    does_all here next past m event goes may is known =
+    does_all here next past m event goes may heard is known =
         let before = worked_before these past (entries m event) is in
         let at = known before in
         let speak : OnlySpeak these m = at.1.speak in
-        let tied = (at.0.0 before.stretched).0.0.tied before.stretched.quiet in
+        let tied = (at.0.0 before.stretched).0.tied before.stretched.quiet in
         let is_for : IsLineFor these event = line_on these here next m event goes at.1.lines in
         let accepted = (all_both (is_accepted_for these) past (entries m event) is.accepted).1 in
-        let later = (workers.event here next past m event goes may (work_of these m event accepted speak.pending) at.0).1 in
-        let next_tied = (later.0 is.stretched).0.0.tied is.stretched.quiet in
+        let later = (workers.event here next past m event goes may (work_of these m event accepted speak.pending, heard) at.0).1 in
+        let next_tied = (later.0 is.stretched).0.tied is.stretched.quiet in
         let awaits : Awaits m = awaits_of here m tied.1 in
         let covers = covers_of here next m event goes tied.0 in
         let sent : IsSentTo these m event = sent_on these here next m event goes may tied.0 tied.6 (at.0.1 before.stretched).request in
@@ -203,7 +206,7 @@ module _ (airs : Airs) (same : Same) (these : List Bool) (many : length these �
           },
         )
 
-    pub staff_walk : Walk AsksNothing (KnowStaff these)
+    pub staff_walk : WalkWhere IsHeardThen AsksNothing (KnowStaff these)
     staff_walk = record {
       said = λ past m words line read known. (
         tt,
@@ -211,9 +214,9 @@ module _ (airs : Airs) (same : Same) (these : List Bool) (many : length these �
             let at = known (worked_before these past (entry.Said words ∷ []) is) in
             ((workers.said past m words line read at.0).1, record { lines = worked_said these past words line read is; speak = at.1.speak }),
       );
-      event = λ here next past m event goes may known. (nothing_asked past (entries m event), λ is. does_all here next past m event goes may is known);
+      event = λ here next past m event goes may heard known. (nothing_asked past (entries m event), λ is. does_all here next past m event goes may heard is known);
       turn = λ here next past m turns known is.
           let at = known is in
-          let tied = (at.0.0 is.stretched).0.0.tied is.stretched.quiet in
+          let tied = (at.0.0 is.stretched).0.tied is.stretched.quiet in
           (workers.turn here next past m turns at.0, record { lines = lines_turn these here next m turns tied.0 at.1.lines; speak = at.1.speak });
     }

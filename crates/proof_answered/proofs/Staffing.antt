@@ -59,8 +59,9 @@ use Rattle.proof_calm.proofs.Reading.{fed_units}
 use Rattle.proof_calm.proofs.Requested.{moved_frames}
 use Rattle.proof_calm.proofs.Serving.{Payloads, next_asks, no_more_named, none_works}
 use Rattle.proof_calm.proofs.Unmarked.{nothing_asked}
-use Rattle.proof_answered.specs.Outward.{IsSentTo, KnowListening}
-use Rattle.proof_answered.specs.Workers.{AllFrom, IsFrom, IsStill, IsWorkFor, KnowsWorkers, KnowWorkers}
+use Rattle.proof_answered.specs.Heard.{IsHeardFor, KnowHeard}
+use Rattle.proof_answered.specs.Outward.{IsSentTo}
+use Rattle.proof_answered.specs.Workers.{AllFrom, IsFrom, IsStill, IsWorkFor, IsWorkHeard, KnowsWorkers, KnowWorkers}
 use Rattle.proof_answered.proofs.Walking.{stretched_before}
 
 -- ---- a node for which nothing is to be done
@@ -309,22 +310,20 @@ module _ (these : List Bool) where
     ack_frame_sent : (ways : List (Item × Option Route)) → map (λ (w : Item × Option Route). w.0) ways ≡ Good Ack ∷ Good (Framed frame) ∷ [] → AreAskedFor these ways
     ack_frame_sent ways are = let two = two_ways ways (Good Ack) (Good (Framed frame)) are in subst (AreAskedFor these) (sym two.2) (tt, (asks_of these (asked frame) marked, tt))
 
-part_sent : (these : List Bool) (m : Machine) (line : TheLine m) (rest : Rest) (ways : List (Item × Option Route)) → Moves line → ChipMayTake m rest ways → TieOf true m (on_line m.host.state.side.turn) → IsRequestFor these m.host.state.requests.under_way
-    → AreAskedFor these ways
+-- so where a frame that the host begins to write asks for one of these
+abbrev AsksForThese : List Bool → Machine → Type 0
+AsksForThese these m =
+    (frame : FrameParts) → m.host.state.side.turn ≡ Copied frame 1 0 → (n : ℕ) (payload : List ℕ) (options id : ℕ) → asked frame ≡ Some (SendData n payload options id) → is_marked these n ≡ true
+
+part_sent : (these : List Bool) (m : Machine) (line : TheLine m) (rest : Rest) (ways : List (Item × Option Route)) → Moves line → ChipMayTake m rest ways → AsksForThese these m → AreAskedFor these ways
 unfolding May MayOutside
-part_sent these m line rest ways moves may tie for_these = by line moves
+part_sent these m line rest ways moves may marked = by line moves
   where
     o : OuterState
     o = m.outside.outer
 
-    s : ChipState
-    s = o.chip.state
-
     items : List Item
     items = map (λ (w : Item × Option Route). w.0) ways
-
-    marked : (frame : FrameParts) → m.host.state.side.turn ≡ Copied frame 1 0 → (n : ℕ) (payload : List ℕ) (options id : ℕ) → asked frame ≡ Some (SendData n payload options id) → is_marked these n ≡ true
-    marked frame turn = request_marked these (kept m.host.state) s frame (unheard o) for_these (subst (λ (t : Turn). TieBy true (kept m.host.state) s (unheard o) (on_line t)) turn tie)
 
     by : (at : TheLine m) → Moves at → AreAskedFor these ways
     by (Free at) moves = absurd moves
@@ -352,16 +351,27 @@ none_sent these m rest ways done may =
     let fed = fed_none o.to_chip.bytes o.chip.decoder rest (map (λ (w : Item × Option Route). w.0) ways) at.decoder at.up_bytes may.1.feeds in
     subst (AreAskedFor these) (sym (no_ways ways fed.0)) tt
 
+either_sent : (these : List Bool) (passes : ℕ) (m : Machine) (rest : Rest) (ways : List (Item × Option Route)) → IsDone m ⊎ CanMove passes m → ChipMayTake m rest ways → AsksForThese these m → AreAskedFor these ways
+either_sent these passes m rest ways (inl done) may marked = none_sent these m rest ways done may
+either_sent these passes m rest ways (inr can) may marked = part_sent these m can.live.line rest ways can.moves may marked
+
 taken_sent : (these : List Bool) (passes : ℕ) (m : Machine) (rest : Rest) (ways : List (Item × Option Route)) → IsDone m ⊎ CanMove passes m → ChipMayTake m rest ways → TieOf true m (on_line m.host.state.side.turn)
     → IsRequestFor these m.host.state.requests.under_way → AreAskedFor these ways
-taken_sent these passes m rest ways (inl done) may tie for_these = none_sent these m rest ways done may
-taken_sent these passes m rest ways (inr can) may tie for_these = part_sent these m can.live.line rest ways can.moves may tie for_these
+taken_sent these passes m rest ways at may tie for_these =
+    let o : OuterState = m.outside.outer in
+    either_sent these passes m rest ways at may
+    (λ frame turn.
+    request_marked these (kept m.host.state) o.chip.state frame (unheard o) for_these (subst (λ (t : Turn). TieBy true (kept m.host.state) o.chip.state (unheard o) (on_line t)) turn tie))
+
+-- where it writes none, whichever these are
+pub idle_sent : (these : List Bool) (passes : ℕ) (m : Machine) (rest : Rest) (ways : List (Item × Option Route)) → IsDone m ⊎ CanMove passes m → ChipMayTake m rest ways → m.host.state.side.turn ≡ no_turn → AreAskedFor these ways
+idle_sent these passes m rest ways at may idle = either_sent these passes m rest ways at may (λ frame turn. absurd (let no : no_turn ≡ Copied frame 1 0 = sym idle ∙ turn in cc))
 
 -- from phase to phase
 sent_as : (these : List Bool) (m : Machine) (event is : Event) → event ≡ is → IsSentTo these m is → IsSentTo these m event
 sent_as these m event is same sent = subst (IsSentTo these m) (sym same) sent
 
-effect_sent : (these : List Bool) (m : Machine) (event : Event) → IsEffect event → IsSentTo these m event
+pub effect_sent : (these : List Bool) (m : Machine) (event : Event) → IsEffect event → IsSentTo these m event
 effect_sent these m (Outside_does (Wakes_device node route)) is = tt
 effect_sent these m (Outside_does (Shows node)) is = tt
 effect_sent these m (Outside_does (Cuts size)) is = tt
@@ -386,22 +396,22 @@ sent_on these here next m event goes may line_at tie for_these = absurd goes
 
 -- ---- the walk
 
-module _ (airs : Airs) (payloads : Payloads) (these : List Bool) (listening : WalkWhere (IsSentTo these) AsksNothing (KnowListening these)) where
-  pub workers_walk : WalkWhere (IsWorkFor these) AsksNothing (KnowWorkers these)
+module _ (airs : Airs) (payloads : Payloads) (these : List Bool) (heard : WalkWhere (IsHeardFor these) AsksNothing (KnowHeard these)) where
+  pub workers_walk : WalkWhere (IsWorkHeard these) AsksNothing (KnowWorkers these)
   workers_walk = record {
-    said = λ past m words line read known. let on = listening.said past m words line read known.0 in (on.0, (on.1, λ is. known.1 (stretched_before past (entry.Said words ∷ []) is)));
+    said = λ past m words line read known. let on = heard.said past m words line read known.0 in (on.0, (on.1, λ is. known.1 (stretched_before past (entry.Said words ∷ []) is)));
     event = λ here next past m event goes may work known. (
       nothing_asked past (entries m event),
       (
         λ is.
             let before = stretched_before past (entries m event) is in
-            let tied = (known.0 before).0.0.tied before.quiet in
-            (listening.event here next past m event goes may (sent_on these here next m event goes may tied.0 tied.6 (known.1 before).request) known.0).1 is,
+            let tied = (known.0 before).0.tied before.quiet in
+            (heard.event here next past m event goes may (sent_on these here next m event goes may tied.0 tied.6 (known.1 before).request, work.1) known.0).1 is,
         λ is.
             let before = stretched_before past (entries m event) is in
-            let tied = (known.0 before).0.0.tied before.quiet in
-            staffed_on payloads these airs here next m event goes may work tied.0 tied.6 tied.7 (known.1 before),
+            let tied = (known.0 before).0.tied before.quiet in
+            staffed_on payloads these airs here next m event goes may work.0 tied.0 tied.6 tied.7 (known.1 before),
       ),
     );
-    turn = λ here next past m turns known. (listening.turn here next past m turns known.0, known.1);
+    turn = λ here next past m turns known. (heard.turn here next past m turns known.0, known.1);
   }

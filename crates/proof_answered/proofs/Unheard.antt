@@ -78,6 +78,15 @@ pub all_behind : (Says : FrameParts → Type 0) (a b : List FrameParts) → AllB
 all_behind Says [] b all = all
 all_behind Says (frame ∷ a) b all = all_behind Says a b all.1
 
+-- the host judges what is on its way to it
+abbrev pub AreJudged : Event → Type 0
+AreJudged (Host_takes count rest items events) = Unit {0}
+AreJudged event = ⊥
+
+pub chip_is : (m : Machine) (event : OuterEvent) → (happens m (Outside_does event)).outside.outer.chip.state ≡ (outcome m.outside event).outer.chip.state
+unfolding happens
+chip_is m event = entered_state (outcome m.outside event).outer (outcome m.outside event).entries
+
 module _ (Says : FrameParts → Type 0) (On : List FrameParts → Type 0) (piled : IsPiled Says On) where
   abbrev pub AllSay : List FrameParts → Type 0
   AllSay frames = On frames
@@ -159,10 +168,6 @@ module _ (Says : FrameParts → Type 0) (On : List FrameParts → Type 0) (piled
 
   pub of_port : (ticks : ℕ) (o : OuterState) → HasFor ticks o → PortSays o.chip.state → AllSay (unheard o)
   of_port ticks o has all = subst AllSay (sym (has_unheard ticks o has)) all
-
-  pub chip_is : (m : Machine) (event : OuterEvent) → (happens m (Outside_does event)).outside.outer.chip.state ≡ (outcome m.outside event).outer.chip.state
-  unfolding happens
-  chip_is m event = entered_state (outcome m.outside event).outer (outcome m.outside event).entries
 
   pub counts_says : (m : Machine) → IsGiven 0 m → IsGiven 1 (happens m (Outside_does Chip_ticks)) → AllSay (unheard m.outside.outer) → AllSay (unheard (happens m (Outside_does Chip_ticks)).outside.outer)
   unfolding outcome
@@ -305,29 +310,29 @@ module _ (Says : FrameParts → Type 0) (On : List FrameParts → Type 0) (piled
     as_is : (next to : Phase) (m : Machine) (event is : Event) → event ≡ is → next ≡ to → Leads to m is → Leads next m event
     as_is next to m event is event_is next_is leads = subst (λ (e : Event). Leads next m e) (sym event_is) (subst (λ (q : Phase). Leads q m is) (sym next_is) leads)
 
-    pub event_says : (answer : Says answer_taken) (behind : (a b : List FrameParts) → On (a ++ b) → On b) (here next : Phase) (m : Machine) (event : Event) → Goes here m event next → May m event → At here m
+    pub event_says : (answer : Says answer_taken) (here next : Phase) (m : Machine) (event : Event) → (AreJudged event → (a b : List FrameParts) → On (a ++ b) → On b) → Goes here m event next → May m event → At here m
         → ((drawn : List ℕ) (route : Option Route) → event ≡ Outside_does (Arrives drawn route) → IsGiven 0 m → IsGiven 0 (happens m (Outside_does (Arrives drawn route)))
         → AllSay (unheard (happens m (Outside_does (Arrives drawn route))).outside.outer)) → AwaitsAt here m → AllSay (unheard m.outside.outer) → Leads next m event
-    event_says answer behind (Said_line line) next m event (is, to) may at arrives awaits all = as_is next (Begun line) m event (Outside_does Begins_line) is to (λ later. line_says m all)
-    event_says answer behind (Doing line (first ∷ left)) next m event (is, to) may at arrives awaits all = as_is next (Doing line left) m event first is to (λ later. effect_says air m first at.0.0.0 all)
-    event_says answer behind (To_tick (suc ticks)) next m event (is, to) may at arrives awaits all = as_is next (Ticked ticks) m event (Outside_does Begins_tick) is to (λ later. tick_says m all)
-    event_says answer behind (Arriving (suc frames) ticks) next m event (drawn, route, is, to) may at arrives awaits all =
+    event_says answer (Said_line line) next m event behind (is, to) may at arrives awaits all = as_is next (Begun line) m event (Outside_does Begins_line) is to (λ later. line_says m all)
+    event_says answer (Doing line (first ∷ left)) next m event behind (is, to) may at arrives awaits all = as_is next (Doing line left) m event first is to (λ later. effect_says air m first at.0.0.0 all)
+    event_says answer (To_tick (suc ticks)) next m event behind (is, to) may at arrives awaits all = as_is next (Ticked ticks) m event (Outside_does Begins_tick) is to (λ later. tick_says m all)
+    event_says answer (Arriving (suc frames) ticks) next m event behind (drawn, route, is, to) may at arrives awaits all =
         as_is next (Arriving frames ticks) m event (Outside_does (Arrives drawn route)) is to
         (λ later. arrives drawn route is at.0 later)
-    event_says answer behind (Giving (suc results) ticks) next m event (route, is, to) may at arrives awaits all = absurd (none_given m results at.2 awaits.many)
-    event_says answer behind (Ticking_devices place (suc count) ticks) next m event (drawn, route, is, to) may at arrives awaits all =
+    event_says answer (Giving (suc results) ticks) next m event behind (route, is, to) may at arrives awaits all = absurd (none_given m results at.2 awaits.many)
+    event_says answer (Ticking_devices place (suc count) ticks) next m event behind (drawn, route, is, to) may at arrives awaits all =
         as_is next (Ticking_devices (place + 1) count ticks) m event (Outside_does (Device_ticks place drawn route)) is to (λ later. device_says m place drawn route all)
-    event_says answer behind (Ticking_chip ticks) next m event (is, to) may at arrives awaits all = as_is next (Ticking_decoder ticks) m event (Outside_does Chip_ticks) is to (λ later. counts_says m at.0 later all)
-    event_says answer behind (Ticking_decoder ticks) next m event (is, to) may at arrives awaits all =
+    event_says answer (Ticking_chip ticks) next m event behind (is, to) may at arrives awaits all = as_is next (Ticking_decoder ticks) m event (Outside_does Chip_ticks) is to (λ later. counts_says m at.0 later all)
+    event_says answer (Ticking_decoder ticks) next m event behind (is, to) may at arrives awaits all =
         as_is next (Ticking_host (tick_events m.host.state) ticks) m event Decoder_ticks is to (λ later. decoder_says m all)
-    event_says answer behind (Ticking_host (first ∷ events) ticks) next m event (is, to) may at arrives awaits all = as_is next (Ticking_host events ticks) m event (Host_does first) is to (λ later. does_says air m first all)
-    event_says answer behind (Sleeping passes ticks) next m event (node, wants, is, to) may at arrives awaits all =
+    event_says answer (Ticking_host (first ∷ events) ticks) next m event behind (is, to) may at arrives awaits all = as_is next (Ticking_host events ticks) m event (Host_does first) is to (λ later. does_says air m first all)
+    event_says answer (Sleeping passes ticks) next m event behind (node, wants, is, to) may at arrives awaits all =
         as_is next (Sleeping passes ticks) m event (Host_does (no_more_event m.host.state node)) is to (λ later. does_says air m (no_more_event m.host.state node) all)
-    event_says answer behind (Submitting passes ticks) next m event (asked, next_is, is, to) may at arrives awaits all = as_is next (Submitting passes ticks) m event (Host_does asked) is to (λ later. does_says air m asked all)
-    event_says answer behind (Moving passes ticks) next m event (rest, ways, is, to) may at arrives awaits all =
+    event_says answer (Submitting passes ticks) next m event behind (asked, next_is, is, to) may at arrives awaits all = as_is next (Submitting passes ticks) m event (Host_does asked) is to (λ later. does_says air m asked all)
+    event_says answer (Moving passes ticks) next m event behind (rest, ways, is, to) may at arrives awaits all =
         as_is next (Moved true passes ticks) m event (Outside_does (Chip_takes (length m.outside.outer.to_chip.bytes) rest ways)) is to
         (λ later. chip_part_says answer passes m rest ways (subst (May m) is may) at.0 at.1 at.3 later all)
-    event_says answer behind (Moved b passes ticks) next m event (rest, items, done, is, to) may at arrives awaits all =
+    event_says answer (Moved b passes ticks) next m event behind (rest, items, done, is, to) may at arrives awaits all =
         as_is next (Sleeping passes ticks) m event (Host_takes (length m.outside.outer.to_host.bytes) rest items done) is to
-        (λ later. host_part_says air m rest items done behind b passes (subst (May m) is may) at.0 all)
-    event_says answer behind here next m event goes may at arrives awaits all = absurd goes
+        (λ later. host_part_says air m rest items done (behind (subst AreJudged (sym is) tt)) b passes (subst (May m) is may) at.0 all)
+    event_says answer here next m event behind goes may at arrives awaits all = absurd goes

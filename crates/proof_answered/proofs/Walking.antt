@@ -4,6 +4,7 @@ use Rattle.std.proofs.lemmas.Bool.{cases_eq, cases_lt}
 use Rattle.std.proofs.lemmas.List.{append-nil, length-append, length-set}
 use Rattle.std.proofs.lemmas.List.Concat.{flat_map-append}
 use Rattle.std.specs.Prelude.{◌⊎◌, Option, Some, None, slice_get, slice_set}
+use Rattle.std.specs.Option.{is_some}
 use Rattle.std.specs.List.{flat_map}
 use Rattle.zw_text.specs.declared.line.Line.{Line}
 use Rattle.zw_text.specs.declared.line.Line.TheVariants as lines
@@ -39,7 +40,7 @@ use Rattle.proof_calm.specs.proof_work.Phases.{AsksNothing}
 use Rattle.proof_calm.specs.proof_work.proof_walk.Phases.{Phase, Between, Said_line, Begun, Doing, To_tick, Ticked, Arriving, Giving, Ticking_devices, Ticking_chip, Ticking_decoder, Ticking_host, Sleeping, Submitting, Moving, Moved, Turns, Goes, after_pump, passes_after}
 use Rattle.proof_calm.specs.proof_work.proof_walk.Walk.{WalkWhere}
 use Rattle.world_model.proofs.Hosting.{devices_host-all, routed_still}
-use Rattle.proof_calm.specs.proof_traffic.Facts.{flying_in}
+use Rattle.proof_calm.specs.proof_traffic.Facts.{flying_in, one_if}
 use Rattle.proof_calm.specs.proof_traffic.Flights.{Fly}
 use Rattle.proof_calm.specs.proof_traffic.OnAir.{on_air, hosts_on_air}
 use Rattle.proof_calm.specs.proof_traffic.OutsideTraffic.{flags, one_outward, outward}
@@ -64,7 +65,7 @@ use Rattle.proof_answered.proofs.Works.{ticks_say, ticks_work}
 
 -- ---- the calls, and the frames that they are to come for
 
-flying_most : (calls : List Bool) → flying_in calls ≤ length calls
+pub flying_most : (calls : List Bool) → flying_in calls ≤ length calls
 flying_most [] = omega arith
 flying_most (flies ∷ calls) = let one = few_if flies in let rest = flying_most calls in omega (arith, one, rest)
 
@@ -77,12 +78,22 @@ few_calls m is none =
     let one = few_if is.course.sending in
     omega (arith, same, each, gave_up, one)
 
-one_host : (m : Machine) → Awaits m → m.outside.outer.chip.state.aborted ≡ 0 → hosts_on_air m.outside.outer ≤ 1
-one_host m is none =
+-- one frame of the host at most is on the air, and only while the chip sends
+pub hosts_sent : (m : Machine) → Awaits m → m.outside.outer.chip.state.aborted ≡ 0 → hosts_on_air m.outside.outer ≤ one_if (is_some m.outside.outer.chip.state.sending)
+hosts_sent m is none =
     let all = is.follows.await.frames in
     let most = flying_most (flags m.outside.outer.calls) in
-    let few = few_calls m is none in
-    omega (arith, all, most, few)
+    let same = ap (λ (l : List Bool). length l) is.follows.knows.calls in
+    let each = is.each_call in
+    let gave_up = is.follows.knows.aborted ∙ none in
+    let sends = ap one_if is.follows.knows.sending in
+    omega (arith, all, most, same, each, gave_up, sends)
+
+pub one_host : (m : Machine) → Awaits m → m.outside.outer.chip.state.aborted ≡ 0 → hosts_on_air m.outside.outer ≤ 1
+one_host m is none =
+    let sent = hosts_sent m is none in
+    let one = few_if (is_some m.outside.outer.chip.state.sending) in
+    omega (arith, sent, one)
 
 flags_same : (calls : List Call) → length (flags calls) ≡ length calls
 flags_same [] = refl
@@ -216,21 +227,25 @@ home_more sent later landed frames few same = omega (arith, few, same)
 away_less : (sent later landed frames : ℕ) → sent - landed ≤ suc frames → later ≤ sent + 2 → later - (landed + 1) ≤ frames + 2
 away_less sent later landed frames few more = omega (arith, few, more)
 
-module _ (airs : Airs) (worked : Worked) (m : Machine) (drawn : List ℕ) (route : Option Route) (frames : ℕ) where
-  abbrev then_there : Machine
-  then_there = happens m (Outside_does (Arrives drawn route))
+module _ (airs : Airs) (m : Machine) (drawn : List ℕ) (route : Option Route) where
+  abbrev landed_there : Machine
+  landed_there = happens m (Outside_does (Arrives drawn route))
 
   -- how many of the host's frames are there then
-  hosts_less : (log : List Mark) (flight : Flown) (rest : List Flown) → on_air m.outside.outer.air.frames ≡ flight ∷ rest → Fly log (flight ∷ rest) m.outside.outer.air.frames
-      → hosts_on_air m.outside.outer ≡ one_outward flight.heading + hosts_on_air then_there.outside.outer
+  pub hosts_less : (log : List Mark) (flight : Flown) (rest : List Flown) → on_air m.outside.outer.air.frames ≡ flight ∷ rest → Fly log (flight ∷ rest) m.outside.outer.air.frames
+      → hosts_on_air m.outside.outer ≡ one_outward flight.heading + hosts_on_air landed_there.outside.outer
   hosts_less log flight rest are fly =
-      let homes : Homes log rest then_there.outside.outer.air.frames =
+      let homes : Homes log rest landed_there.outside.outer.air.frames =
       subst (λ (w : Outside). Homes log rest w.outer.air.frames) (sym (outer_of m (Arrives drawn route))) (arrives_home airs log flight rest m.outside drawn route fly) in
-      let later : hosts_on_air then_there.outside.outer ≡ outward (rest ++ homes.home) = ap outward (sym (flights_are (log ++ homes.more) (rest ++ homes.home) then_there.outside.outer.air.frames homes.fly)) in
+      let later : hosts_on_air landed_there.outside.outer ≡ outward (rest ++ homes.home) = ap outward (sym (flights_are (log ++ homes.more) (rest ++ homes.home) landed_there.outside.outer.air.frames homes.fly)) in
       let both = outward-append rest homes.home in
       let none = homes.none_outward in
       let before : hosts_on_air m.outside.outer ≡ one_outward flight.heading + outward rest = ap outward are in
       omega (arith, later, both, none, before)
+
+module _ (airs : Airs) (worked : Worked) (m : Machine) (drawn : List ℕ) (route : Option Route) (frames : ℕ) where
+  abbrev then_there : Machine
+  then_there = happens m (Outside_does (Arrives drawn route))
 
   at_arrival : (flight : Flown) → Arrival m.outside then_there.outside flight → hosts_on_air m.outside.outer ≤ 1 → hosts_on_air m.outside.outer ≡ one_outward flight.heading + hosts_on_air then_there.outside.outer
       → AreArriving (suc frames) m → AreArriving frames then_there
@@ -272,7 +287,7 @@ module _ (airs : Airs) (worked : Worked) (m : Machine) (drawn : List ℕ) (route
           let arrival : Arrival m.outside then_there.outside flight =
           subst (λ (w : Outside). Arrival m.outside w flight) (sym (outer_of m (Arrives drawn route)))
           (arrives worked m.outside flight drawn route (airs.next log flight (later ++ is.behind) m.outside.outer.air.frames fly)) in
-          at_arrival flight arrival (one_host m is.awaits kept) (hosts_less log flight (later ++ is.behind) are fly) arriving
+          at_arrival flight arrival (one_host m is.awaits kept) (hosts_less airs m drawn route log flight (later ++ is.behind) are fly) arriving
 
 -- all have
 have_arrived : (m : Machine) → AreArriving 0 m → HaveArrived m

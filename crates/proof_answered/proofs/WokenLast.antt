@@ -34,7 +34,7 @@ before_one (Orders ∷ ts) one more is = before_one ts one more is
 before_one (Wakes ∷ []) one more is = absurd (let wrong : false ≡ true = is in cc)
 before_one (Wakes ∷ other ∷ ts) one more is = absurd (let wrong : false ≡ true = is in cc)
 
-turns_both : (n : ℕ) (past told : List Entry) → turns n (past ++ told) ≡ turns n past ++ turns n told
+pub turns_both : (n : ℕ) (past told : List Entry) → turns n (past ++ told) ≡ turns n past ++ turns n told
 turns_both n past told = ap (λ (ls : List Line). flat ls) (shown-append line_of past told) ∙ flat_map-append (turn_of n) (lines_run past) (lines_run told)
   where
     flat : List Line → List Turn

@@ -6,4 +6,5 @@ pub mod FirstAttempts
 pub mod Turns
 pub mod Workers
 pub mod Sleepers
+pub mod Said
 pub use Rattle.proof_calm.specs as proof_calm

@@ -1,7 +1,6 @@
 -- For which nodes the frames of the host on the air are, and that the devices of these listen (this project's own rule).
 use Rattle.std.specs.Prelude.{◌≡◌, ℕ, true, Bool, List, [], ◌∷◌, Option}
 use Rattle.std.specs.List.{AllByRecursion}
-use Rattle.zw_text.specs.declared.entry.Entry.{Entry}
 use Rattle.air_frames.specs.Flown.{Flown}
 use Rattle.air_frames.specs.declared.frame.Heading.TheVariants.{Homeward, Outward}
 use Rattle.serial_frame.specs.declared.item.Item.{Item}
@@ -14,11 +13,7 @@ use Rattle.chip_sim.specs.declared.out.ChipOut.TheVariants.{OnAir}
 use Rattle.world_model.specs.State.{Machine}
 use Rattle.world_model.specs.Events.{Event}
 use Rattle.proof_calm.specs.proof_traffic.OnAir.{on_air}
-use Rattle.proof_calm.specs.proof_work.proof_walk.Phases.{Phase}
 use Rattle.proof_calm.specs.Live.{IsAskedAt}
-use Rattle.proof_calm.specs.Tied.{unheard}
-use Rattle.proof_answered.specs.Few.{IsStretched, Knows}
-use Rattle.proof_answered.specs.Heard.{AllSayHeard}
 use Rattle.proof_answered.specs.Listening.{HasListener}
 
 -- one of the host is for a node of these
@@ -33,9 +28,13 @@ IsOf these frame = is_marked these frame.node ≡ true
 abbrev pub IsOfSaying : List Bool → (List ℕ → Type 0) → Flown → Type 0
 IsOfSaying these Says frame = IsOf these frame × (frame.heading ≡ Homeward → Says frame.payload)
 
--- each that is on the air is for one of these, and the device of each of them listens
+-- each that is on the air is for one of these
+abbrev pub AllFor : List Bool → Machine → Type 0
+AllFor these m = AllByRecursion (IsFor these) (on_air m.outside.outer.air.frames)
+
+-- and the device of each of them listens
 pub record AllListen (these : List Bool) (m : Machine) : Type 0 where
-  pub frames : AllByRecursion (IsFor these) (on_air m.outside.outer.air.frames)
+  pub frames : AllFor these m
   pub nodes : (n : ℕ) → is_marked these n ≡ true → HasListener n m.outside.devices
 
 -- ---- what is assumed of events
@@ -56,12 +55,3 @@ EachGoesTo these s (way ∷ ways) = AllGoTo these (outs s (Judged way.0 way.1)) 
 -- that is so where it is asked for these alone
 abbrev pub IsSentTo : List Bool → Machine → Event → Type 0
 IsSentTo these m event = IsAskedAt these event
-
--- ---- at each phase
-
-abbrev pub KnowListening : List Bool → Phase → List Entry → Machine → Type 0
-KnowListening these here past m = IsStretched past → (Knows these here past m × AllSayHeard (unheard m.outside.outer)) × AllListen these m
-
--- of the joined nodes
-abbrev pub KnowNetwork : Phase → List Entry → Machine → Type 0
-KnowNetwork here past m = KnowListening m.outside.outer.chip.state.joined here past m

@@ -23,7 +23,9 @@ use Rattle.proof_calm.specs.proof_work.proof_walk.Phases.{Phase, Said_line, Begu
 use Rattle.proof_calm.specs.Known.{KnowsThese}
 use Rattle.proof_calm.specs.Tied.{unheard}
 use Rattle.proof_answered.specs.Few.{IsStretched}
-use Rattle.proof_answered.specs.Outward.{IsOf, KnowListening}
+use Rattle.proof_answered.specs.Heard.{IsHeardThen, KnowHeard}
+use Rattle.proof_answered.specs.Outward.{IsOf}
+use Rattle.proof_answered.specs.Sleepers.{AreWokenSo}
 
 -- nothing is to be done for a node: no series of it is due or runs, no command waits for it, and it is not awake, or listens, or was never interviewed
 pub record IsStill (n : NodeState) : Type 0 where
@@ -58,6 +60,10 @@ abbrev pub IsWorkFor : List Bool → Machine → Event → Type 0
 IsWorkFor these m (Host_does event) = IsOrderFor these event
 IsWorkFor these m (Host_takes count rest items events) = AllFrom these (unheard m.outside.outer)
 IsWorkFor these m event = Unit {0}
+
+-- and a frame of the host that arrives is heard by a device
+abbrev pub IsWorkHeard : List Bool → Machine → Event → Type 0
+IsWorkHeard these m event = IsWorkFor these m event × IsHeardThen m event
 
 -- ---- who speaks on the air
 
@@ -98,16 +104,17 @@ LinesAt these (Begun line) = is_line_for these line ≡ true
 LinesAt these (Doing line left) = AllByRecursion (IsLineFor these) left
 LinesAt these here = Unit {0}
 
--- a stretch of lines for these
+-- a stretch of lines for these, each of which is woken once at most, after its orders
 pub record IsWorkedFor (these : List Bool) (past : List Entry) : Type 0 where
   pub stretched : IsStretched past
   pub lines : list_all (is_line_for these) (lines_run past) ≡ true
   pub accepted : list_all (is_accepted_for these) past ≡ true
+  pub woken : AreWokenSo these past
 
 -- ---- at each phase
 
 abbrev pub KnowWorkers : List Bool → Phase → List Entry → Machine → Type 0
-KnowWorkers these here past m = KnowListening these here past m × (IsStretched past → KnowsWorkers these m.host.state)
+KnowWorkers these here past m = KnowHeard these here past m × (IsStretched past → KnowsWorkers these m.host.state)
 
 pub record Staffed (these : List Bool) (here : Phase) (m : Machine) : Type 0 where
   pub lines : LinesAt these here

@@ -11,7 +11,6 @@ use Rattle.world_lines.specs.Spoken.{Spoken, after_all, transcript_of}
 use Rattle.world_lines.specs.Done.{AreDone}
 use Rattle.world_lines.specs.Whole.{AreWhole}
 use Rattle.law_transcript.specs.Restarts.{is_restart}
-use Rattle.law_time.specs.Stretches.{AnswersTogether}
 use Rattle.run_all.specs.Around.{Around}
 use Rattle.proof_audit.proofs.BegunChanges.{may-front as may_prefix}
 use Rattle.proof_commands.specs.Laws.{Ran, AreSchedules, IsFairRun, IsStory, TellsAtRestarts, events_of, first, has_restart, last, transcript, transcript_from}
@@ -97,14 +96,10 @@ module _ (again : ReadAgain) (key : List ℕ) (old new : Around) (story : List R
       ∙ (same_transcript (over (last key old before) told_first.kept) stretch ∙ transcript_over (last key old before) told_first.kept stretch)
 
   -- what is so of the lines that were said is so of the story
-  pub answered_so : AnswersTogether key (after_all (fresh key old) (all_said before)).outside.devices (transcript_of (fresh key old) (all_said before))
-      (transcript_of (after_all (fresh key old) (all_said before)) (all_said stretch)) →
-      AnswersTogether key (last key old before).outside.devices (transcript key old before) (transcript_from (last key old before) stretch)
-  answered_so law =
-      subst (λ (T : List Entry). AnswersTogether key (last key old before).outside.devices (transcript key old before) T) stretch_is
-      (subst
-      (λ (T : List Entry). AnswersTogether key (last key old before).outside.devices T (transcript_of (after_all (fresh key old) (all_said before)) (all_said stretch))) before_is
-      (subst
-      (λ (devices : List State).
-      AnswersTogether key devices (transcript_of (fresh key old) (all_said before)) (transcript_of (after_all (fresh key old) (all_said before)) (all_said stretch)))
+  pub answered_so : (Law : List State → List Entry → List Entry → Type 0) → Law (after_all (fresh key old) (all_said before)).outside.devices (transcript_of (fresh key old) (all_said before))
+      (transcript_of (after_all (fresh key old) (all_said before)) (all_said stretch)) → Law (last key old before).outside.devices (transcript key old before) (transcript_from (last key old before) stretch)
+  answered_so Law law =
+      subst (λ (T : List Entry). Law (last key old before).outside.devices (transcript key old before) T) stretch_is
+      (subst (λ (T : List Entry). Law (last key old before).outside.devices T (transcript_of (after_all (fresh key old) (all_said before)) (all_said stretch))) before_is
+      (subst (λ (devices : List State). Law devices (transcript_of (fresh key old) (all_said before)) (transcript_of (after_all (fresh key old) (all_said before)) (all_said stretch)))
       (ap (λ (m : Machine). m.outside.devices) moment_is) law))

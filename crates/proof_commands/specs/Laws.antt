@@ -45,7 +45,7 @@ use Rattle.law_time.specs.Choice.{NumbersCallbacks, SendsOneByOne}
 use Rattle.law_time.specs.Errands.{SaysHowDone}
 use Rattle.law_time.specs.Interviews.{EndsInterviews}
 use Rattle.law_time.specs.Questions.{AnswersQuestions}
-use Rattle.law_time.specs.Stretches.{AnswersTogether}
+use Rattle.law_time.specs.Stretches.{AnswersAsleep, AnswersTogether}
 use Rattle.law_time.specs.Holds.{HoldsAsAsked}
 use Rattle.law_time.specs.Waking.{FallsAsleep, WakesAsTold}
 use Rattle.law_host.specs.Heard.{heard_by_host}
@@ -496,13 +496,14 @@ abbrev pub HasHeadline : List ℕ → Around → Around → Type 0
 HasHeadline key old new = InFairRuns key old new
     (λ story. (node : ℕ) (device : State) → device_of node new.devices ≡ Some device → is_supervised device ≡ true → HeadlineOf (always (listing_of old.devices)) node (transcript key old story) device)
 
--- Wherever its lines go on from a calm moment as a stretch in which at most 16 nodes are at work, plain listeners all, each command of these has the final outcome that its
--- device's kind says once 500 ticks have passed since the last order.
+-- Wherever its lines go on from a calm moment as a stretch in which at most 16 nodes are at work, plain listeners all, or one plain node that sleeps, each command of these has
+-- the final outcome that its device's kind says once 500 ticks have passed since the last order or `wake` line.
 abbrev pub AnswersCommands : List ℕ → Around → Around → Type 0
 AnswersCommands key old new =
     InFairRuns key old new
     (λ story. (before stretch more : List Ran) → story ≡ before ++ (stretch ++ more) → AreSchedules (first key old) (before ++ stretch)
-    → AnswersTogether key (last key old before).outside.devices (transcript key old before) (transcript_from (last key old before) stretch))
+    → AnswersTogether key (last key old before).outside.devices (transcript key old before) (transcript_from (last key old before) stretch)
+    × AnswersAsleep key (last key old before).outside.devices (transcript key old before) (transcript_from (last key old before) stretch))
 
 -- success of a command of such a node is reported after its change
 abbrev pub ReportsAfterChange : List ℕ → Around → Around → Type 0

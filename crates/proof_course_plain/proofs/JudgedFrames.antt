@@ -1,29 +1,25 @@
--- The first device of a node makes of its sessions what is asked of it, at each event of the machine: the host leaves the devices as they are.
-use Rattle.std.proofs.Common.{◌≡◌, ◌≢◌, ℕ, ◌<◌, ◌==◌, ◌⊎◌, inl, inr, Bool, true, false, Option, Some, None, List, [], ◌∷◌, refl, ap, sym, ◌∙◌, subst, arith}
+-- The first device of a node makes of its sessions what is asked of it, at each event of the machine, where it does as it hears, ticks and is woken: the host leaves the devices as they are.
+use Rattle.std.proofs.Common.{◌≡◌, ◌≢◌, ℕ, ◌==◌, ◌⊎◌, inl, inr, Bool, true, false, Option, Some, None, List, [], ◌∷◌, refl, ap, sym, ◌∙◌, subst, arith}
 use Rattle.std.specs.Prelude.{slice_get, slice_set}
-use Rattle.std.proofs.lemmas.Bool.{eqb-true, eq-eqb}
-use Rattle.proof_course.specs.Flying.{Flight}
-use Rattle.proof_course.specs.SessionFacts.{CourseFacts}
-use Rattle.proof_course.specs.Sessions.{Course, Cargo}
+use Rattle.std.proofs.lemmas.Bool.{eqb-true}
 use Rattle.route_table.specs.declared.route.Route.{Route}
-use Rattle.serial_frame.specs.declared.item.Item.{Item}
 use Rattle.air_frames.specs.declared.ages.Refusal.{Refusal}
 use Rattle.air_frames.specs.declared.frame.Heading.{Heading}
 use Rattle.air_frames.specs.declared.frame.Heading.TheVariants.{Outward, Homeward}
 use Rattle.air_frames.specs.Flown.{Flown}
-use Rattle.air_frames.specs.Frames.{landing, remembered}
+use Rattle.air_frames.specs.Frames.{next_of, remembered}
 use Rattle.air_frames.specs.Ages.{refusal_of}
-use Rattle.air_frames.specs.History.{Mark}
 use Rattle.device_sim.specs.State.{State}
 use Rattle.device_sim.specs.Event.{Hears, Ticks, Wakes, Sets, device_after}
 use Rattle.mesh_sim.specs.declared.fate.Fate.{Fate}
 use Rattle.mesh_sim.specs.declared.fate.Fate.TheVariants as fate
+use Rattle.mesh_sim.specs.Air.{AirState}
 use Rattle.mesh_sim.specs.Fates.{Mesh, place_of, listener_of, fate_of, dead_hop_of}
-use Rattle.mesh_sim.specs.Steps.{landed, acknowledged, heard_at, arriving_as, heard_again, repeating_by, repeating, mesh_after}
+use Rattle.mesh_sim.specs.Steps.{landed, acknowledged, heard_at, arriving_as, arriving, heard_again, repeating_by, repeating, mesh_after}
 use Rattle.mesh_sim.specs.Steps as mesh
 use Rattle.outside_model.specs.State.{Outside}
 use Rattle.outside_model.specs.Devices.{device_set, set_by_hand}
-use Rattle.outside_model.specs.Events.{OuterEvent, Host_takes as host_takes, Host_notes, Arrives, Repeats, Device_ticks, Wakes_device, Sets_device, mesh_of, devices_repeated, devices_after, happens as happens_outside}
+use Rattle.outside_model.specs.Events.{OuterEvent, Host_takes as host_takes, Host_notes, Arrives, Repeats, Device_ticks, Wakes_device, Sets_device, devices_repeated, devices_after, happens as happens_outside}
 use Rattle.host_model.specs.Did.{outs_all}
 use Rattle.world_model.specs.State.{Machine}
 use Rattle.world_model.specs.Events.{Event, Outside_does, Host_does, Host_takes, Decoder_ticks, Refuses, Shows_values, Restarts, fed, shown_values, happens}
@@ -32,16 +28,10 @@ use Rattle.zw_text.specs.declared.entry.Entry.TheVariants.{Refused}
 use Rattle.proof_once.proofs.Hosting.{devices_host-all, routed_still}
 use Rattle.proof_traffic.proofs.ChangesOutside.{place_is, listener_is, fate_listens, get_set}
 use Rattle.proof_course_plain.specs.Meaning.{Asked}
-use Rattle.proof_course_plain.specs.Air.{BearsBy, OnAir, Lands, WasThere}
-use Rattle.proof_course_plain.specs.Device.{AtDevice}
-use Rattle.proof_course_plain.specs.Making.{Names}
-use Rattle.proof_course_plain.specs.Mesh.{HasDevice, InMesh}
-use Rattle.proof_course_plain.specs.World.{WorldFollows}
-use Rattle.proof_course_plain.specs.Judged.{Judges, JudgesAt, IsNoHandOutside, IsNoHand}
-use Rattle.proof_course_plain.proofs.Arrivals.{Laws, out_by, awake_at_place, arriving_lands, arriving_named, named_again}
-use Rattle.proof_course_plain.proofs.JudgedMessages.{Judging, ticks_judge, wakes_judge}
+use Rattle.proof_course_plain.specs.Judged.{Judges, JudgesAt, JudgesEach, IsNoHandOutside, IsNoHand}
+use Rattle.proof_course_plain.proofs.Arrivals.{out_by, awake_at_place}
 use Rattle.proof_course_plain.proofs.MadeSettings.{get_other}
-use Rattle.proof_course_plain.proofs.Replies.{Stands, stands_of, one_stands}
+use Rattle.proof_course_plain.proofs.Replies.{one_stands}
 
 -- ---- what the host does leaves the devices
 
@@ -76,171 +66,155 @@ one_side m event = inl (devices_still m event tt)
 
 -- ---- the devices of a node
 
-module _ (node : ℕ) (orders : List Asked) where
+module _ (node : ℕ) (orders : List Asked) (commands : List ℕ) (devices : List State) (place : ℕ) (device : State) (first : place_of node devices ≡ Some place) (stands : slice_get devices place ≡ Some device) where
   -- they are as they were
-  stays : (c : Course) (devices : List State) → HasDevice node c devices → JudgesAt node orders c.host.commands devices devices
-  stays c devices has = record {
-    place = has.place;
-    device = has.device;
-    later = has.device;
-    first = has.first;
-    stood = has.stands;
-    stands = has.stands;
+  stays : JudgesAt node orders commands devices devices
+  stays = record {
+    place = place;
+    device = device;
+    later = device;
+    first = first;
+    stood = stands;
+    stands = stands;
     judged = inl (record { sessions = refl; journal = refl });
   }
 
-  stayed : (c : Course) (devices later : List State) → HasDevice node c devices → later ≡ devices → JudgesAt node orders c.host.commands devices later
-  stayed c devices later has same = subst (λ (ds : List State). JudgesAt node orders c.host.commands devices ds) (sym same) (stays c devices has)
+  stayed : (later : List State) → later ≡ devices → JudgesAt node orders commands devices later
+  stayed later same = subst (λ (ds : List State). JudgesAt node orders commands devices ds) (sym same) stays
 
   -- one of them is another: the first of the node, or one elsewhere
-  one_set : (c : Course) (devices : List State) (has : HasDevice node c devices) (place : ℕ) (device new : State) → slice_get devices place ≡ Some device
-      → (place ≡ has.place → device ≡ has.device → Judges orders c.host.commands device new) → JudgesAt node orders c.host.commands devices (slice_set devices place new)
-  one_set c devices has place device new stood own = by (has.place == place) refl
+  one_set : (at : ℕ) (one new : State) → slice_get devices at ≡ Some one → (at ≡ place → one ≡ device → Judges orders commands one new) → JudgesAt node orders commands devices (slice_set devices at new)
+  one_set at one new stood own = by (place == at) refl
     where
-      by : (b : Bool) → (has.place == place) ≡ b → JudgesAt node orders c.host.commands devices (slice_set devices place new)
+      by : (b : Bool) → (place == at) ≡ b → JudgesAt node orders commands devices (slice_set devices at new)
       by true e =
-          let here : place ≡ has.place = sym (eqb-true has.place place e) in
+          let here : at ≡ place = sym (eqb-true place at e) in
           record {
-            place = place;
-            device = device;
+            place = at;
+            device = one;
             later = new;
-            first = has.first ∙ ap Some (sym here);
+            first = first ∙ ap Some (sym here);
             stood = stood;
-            stands = get_set devices place device new stood;
-            judged = own here (one_stands devices place has.place device has.device stood has.stands here);
+            stands = get_set devices at one new stood;
+            judged = own here (one_stands devices at place one device stood stands here);
           }
       by false e = record {
-        place = has.place;
-        device = has.device;
-        later = has.device;
-        first = has.first;
-        stood = has.stands;
-        stands = get_other devices place has.place new (grind (arith, e)) ∙ has.stands;
+        place = place;
+        device = device;
+        later = device;
+        first = first;
+        stood = stands;
+        stands = get_other devices at place new (grind (arith, e)) ∙ stands;
         judged = inl (record { sessions = refl; journal = refl });
       }
 
   -- ---- frames
 
-  module _ (laws : Laws) (judges : Judging) where
-    frame_judged : (c : Course) (devices : List State) (frame : Flown) (flight : Flight Cargo) (place : ℕ) (device : State) (drawn : List ℕ) → Stands node orders c devices
-        → BearsBy Outward (frame.node == node) orders c.host.commands frame flight → listener_of frame.node devices ≡ Some place → slice_get devices place ≡ Some device → Names c.device flight.cargo
-        → JudgesAt node orders c.host.commands devices (slice_set devices place (device_after device (Hears frame.payload drawn)))
-    frame_judged c devices frame flight place device drawn h bears listens stood names =
-        one_set c devices h.has place device (device_after device (Hears frame.payload drawn)) stood own
-      where
-        named : device.node ≡ frame.node
-        named = place_is frame.node devices place device (listener_is frame.node devices place listens) stood
+  module _ (air : AirState) (each : JudgesEach node orders commands air.frames device) where
+    abbrev m : Mesh
+    m = record { air = air; devices = devices }
 
-        own : place ≡ h.has.place → device ≡ h.has.device → Judges orders c.host.commands device (device_after device (Hears frame.payload drawn))
-        own here one =
-            let mine : device.node ≡ node = place_is node devices place device (h.has.first ∙ ap Some (sym here)) stood in
-            let means = subst (λ (b : Bool). BearsBy Outward b orders c.host.commands frame flight) (eq-eqb frame.node node (sym named ∙ mine)) bears in
-            judges orders c.host.commands c device flight.cargo frame.payload drawn (subst (λ (d : State). AtDevice c d) (sym one) h.has.at)
-            (awake_at_place devices frame.node place device listens stood) means.1 names (h.made place device stood mine)
+    frame_judged : (frame : Flown) (drawn : List ℕ) (at : ℕ) (one : State) → listener_of frame.node devices ≡ Some at → slice_get devices at ≡ Some one
+        → (frame.node ≡ node → device.awake ≡ true → Judges orders commands device (device_after device (Hears frame.payload drawn)))
+        → JudgesAt node orders commands devices (slice_set devices at (device_after one (Hears frame.payload drawn)))
+    frame_judged frame drawn at one listens stood judged = one_set at one (device_after one (Hears frame.payload drawn)) stood own
+      where
+        named : one.node ≡ frame.node
+        named = place_is frame.node devices at one (listener_is frame.node devices at listens) stood
+
+        own : at ≡ place → one ≡ device → Judges orders commands one (device_after one (Hears frame.payload drawn))
+        own here same =
+            let mine : one.node ≡ node = place_is node devices at one (first ∙ ap Some (sym here)) stood in
+            subst (λ (d : State). Judges orders commands d (device_after d (Hears frame.payload drawn))) (sym same)
+            (judged (sym named ∙ mine) (ap (λ (d : State). d.awake) (sym same) ∙ awake_at_place devices frame.node at one listens stood))
 
     -- the next frame arrives
-    module _ (c : Course) (m : Mesh) (frame : Flown) (later : List Flown) (log : List Mark) (on_air : OnAir node orders c.host c.air c.old log (frame ∷ later) m.air.frames) (h : Stands node orders c m.devices) (course : CourseFacts c)
-        (drawn : List ℕ) (route : Option Route) where
-      abbrev l : Lands node orders c.host c.air c.old log frame later (landing m.air.frames)
-      l = arriving_lands laws node orders c m frame later log on_air h course drawn route
+    at_device : (frame : Flown) (drawn : List ℕ) (route : Option Route) (at : ℕ) (found : Option State) → next_of air.frames ≡ Some frame → slice_get devices at ≡ found → fate_of air.network devices frame ≡ fate.AtDevice at
+        → JudgesAt node orders commands devices (heard_at (record m { air = landed (acknowledged air) }) at found frame.node route (Hears frame.payload drawn)).devices
+    at_device frame drawn route at None next stood is = stays
+    at_device frame drawn route at (Some one) next stood is =
+        frame_judged frame drawn at one (fate_listens frame.lost (dead_hop_of air.network frame) frame.heading (listener_of frame.node devices) at is) stood
+        (λ own awake. each.arrives frame drawn next own (out_by frame.lost (dead_hop_of air.network frame) frame.heading (listener_of frame.node devices) at is) awake)
 
-      at_device : (place : ℕ) (found : Option State) → slice_get m.devices place ≡ found → fate_of m.air.network m.devices frame ≡ fate.AtDevice place
-          → JudgesAt node orders c.host.commands m.devices (heard_at (record m { air = landed (acknowledged m.air) }) place found frame.node route (Hears frame.payload drawn)).devices
-      at_device place None stood is = stays c m.devices h.has
-      at_device place (Some one) stood is =
-          let outward : frame.heading ≡ Outward = out_by frame.lost (dead_hop_of m.air.network frame) frame.heading (listener_of frame.node m.devices) place is in
-          frame_judged c m.devices frame l.flight place one drawn h (subst (λ (heading : Heading). BearsBy heading (frame.node == node) orders c.host.commands frame l.flight) outward l.bears)
-          (fate_listens frame.lost (dead_hop_of m.air.network frame) frame.heading (listener_of frame.node m.devices) place is) stood (arriving_named laws node orders c m frame later log on_air h course drawn route l.flight.cargo refl)
+    by_fate : (frame : Flown) (drawn : List ℕ) (route : Option Route) (x : Fate) → next_of air.frames ≡ Some frame → fate_of air.network devices frame ≡ x → JudgesAt node orders commands devices (arriving_as m frame x drawn route).devices
+    by_fate frame drawn route fate.Lost next is = stays
+    by_fate frame drawn route (fate.Dead from to) next is = stays
+    by_fate frame drawn route fate.Missed next is = stays
+    by_fate frame drawn route fate.AtChip next is = stays
+    by_fate frame drawn route (fate.AtDevice at) next is = at_device frame drawn route at (slice_get devices at) next refl is
 
-      by_fate : (x : Fate) → fate_of m.air.network m.devices frame ≡ x → JudgesAt node orders c.host.commands m.devices (arriving_as m frame x drawn route).devices
-      by_fate fate.Lost is = stays c m.devices h.has
-      by_fate (fate.Dead from to) is = stays c m.devices h.has
-      by_fate fate.Missed is = stays c m.devices h.has
-      by_fate fate.AtChip is = stays c m.devices h.has
-      by_fate (fate.AtDevice place) is = at_device place (slice_get m.devices place) refl is
-
-    arrival_judged : (c : Course) (m : Mesh) (drawn : List ℕ) (route : Option Route) (log : List Mark) (flights : List Flown) → OnAir node orders c.host c.air c.old log flights m.air.frames → Stands node orders c m.devices → CourseFacts c
-        → JudgesAt node orders c.host.commands m.devices (mesh_after m (mesh.Arrives drawn route)).devices
-    unfolding mesh_after
-    arrival_judged c m drawn route log [] on_air h course = rw (laws.none log m.air.frames on_air.fly) (stays c m.devices h.has)
-    arrival_judged c m drawn route log (frame ∷ later) on_air h course =
-        rw (laws.next log frame later m.air.frames on_air.fly) (by_fate c m frame later log on_air h course drawn route (fate_of m.air.network m.devices frame) refl)
+    arriving_judged : (drawn : List ℕ) (route : Option Route) (found : Option Flown) → next_of air.frames ≡ found → JudgesAt node orders commands devices (arriving m found drawn route).devices
+    arriving_judged drawn route None next = stays
+    arriving_judged drawn route (Some frame) next = by_fate frame drawn route (fate_of air.network devices frame) next refl
 
     -- a frame is heard again
-    module _ (c : Course) (m : Mesh) (number : ℕ) (frame : Flown) (course : CourseFacts c) (is : InMesh node orders c m) (was : WasThere node orders c.host c.old frame) (drawn : List ℕ) (route : Option Route) where
-      device_again : (place : ℕ) (found : Option State) → slice_get m.devices place ≡ found → listener_of frame.node m.devices ≡ Some place → frame.heading ≡ Outward
-          → JudgesAt node orders c.host.commands m.devices (heard_at m place found frame.node route (Hears frame.payload drawn)).devices
-      device_again place None stood listens outward = stays c m.devices is.device
-      device_again place (Some one) stood listens outward =
-          frame_judged c m.devices frame was.flight place one drawn (stands_of node orders c m is)
-          (subst (λ (heading : Heading). BearsBy heading (frame.node == node) orders c.host.commands frame was.flight) outward was.bears) listens stood
-          (named_again laws node orders c m number frame course is was drawn route was.flight.cargo refl)
+    module _ (number : ℕ) (frame : Flown) (drawn : List ℕ) (route : Option Route) (fresh : refusal_of air.frames number ≡ None) (known : remembered air.frames number ≡ Some frame) where
+      device_again : (at : ℕ) (found : Option State) → slice_get devices at ≡ found → listener_of frame.node devices ≡ Some at → frame.heading ≡ Outward
+          → JudgesAt node orders commands devices (heard_at m at found frame.node route (Hears frame.payload drawn)).devices
+      device_again at None stood listens outward = stays
+      device_again at (Some one) stood listens outward = frame_judged frame drawn at one listens stood (λ own awake. each.repeats number frame drawn fresh known own outward awake)
 
-      listener_again : (listener : Option ℕ) → listener_of frame.node m.devices ≡ listener → frame.heading ≡ Outward
-          → JudgesAt node orders c.host.commands m.devices (heard_again m listener frame.node route (Hears frame.payload drawn)).devices
-      listener_again None listens outward = stays c m.devices is.device
-      listener_again (Some place) listens outward = device_again place (slice_get m.devices place) refl listens outward
+      listener_again : (listener : Option ℕ) → listener_of frame.node devices ≡ listener → frame.heading ≡ Outward
+          → JudgesAt node orders commands devices (heard_again m listener frame.node route (Hears frame.payload drawn)).devices
+      listener_again None listens outward = stays
+      listener_again (Some at) listens outward = device_again at (slice_get devices at) refl listens outward
 
-      again_by : (heading : Heading) → frame.heading ≡ heading → JudgesAt node orders c.host.commands m.devices (repeating_by heading m frame drawn route).devices
-      again_by Outward e = listener_again (listener_of frame.node m.devices) refl e
-      again_by Homeward e = stays c m.devices is.device
+      again_by : (heading : Heading) → frame.heading ≡ heading → JudgesAt node orders commands devices (repeating_by heading m frame drawn route).devices
+      again_by Outward e = listener_again (listener_of frame.node devices) refl e
+      again_by Homeward e = stays
 
-    repeat_judged : (c : Course) (m : Mesh) (number : ℕ) (drawn : List ℕ) (route : Option Route) (found : Option Flown) → remembered m.air.frames number ≡ found → node < 233 → CourseFacts c → InMesh node orders c m
-        → refusal_of m.air.frames number ≡ None → JudgesAt node orders c.host.commands m.devices (repeating m found drawn route).devices
-    repeat_judged c m number drawn route None e within course is fresh = stays c m.devices is.device
-    repeat_judged c m number drawn route (Some frame) e within course is fresh =
-        again_by c m number frame course is (laws.repeated node orders c.host c.air c.old is.log is.flights m.air.frames number frame within is.on_air fresh e) drawn route frame.heading refl
+    repeat_judged : (number : ℕ) (drawn : List ℕ) (route : Option Route) (found : Option Flown) → remembered air.frames number ≡ found → refusal_of air.frames number ≡ None
+        → JudgesAt node orders commands devices (repeating m found drawn route).devices
+    repeat_judged number drawn route None known fresh = stays
+    repeat_judged number drawn route (Some frame) known fresh = again_by number frame drawn route fresh known frame.heading refl
 
-    -- ---- an event outside the host
+    -- ---- a tick, a wake-up, a hand elsewhere
 
-    repeats_judged : (c : Course) (w : Outside) (number : ℕ) (drawn : List ℕ) (route : Option Route) (refused : Option Refusal) → refusal_of w.outer.air.frames number ≡ refused → node < 233 → CourseFacts c → InMesh node orders c (mesh_of w)
-        → JudgesAt node orders c.host.commands w.devices (devices_repeated w refused (mesh.Repeats number drawn route))
-    unfolding mesh_after
-    repeats_judged c w number drawn route (Some refused) e within course is = stays c w.devices is.device
-    repeats_judged c w number drawn route None e within course is = repeat_judged c (mesh_of w) number drawn route (remembered w.outer.air.frames number) refl within course is e
+    tick_judged : (at : ℕ) (found : Option State) (drawn : List ℕ) → slice_get devices at ≡ found → JudgesAt node orders commands devices (device_set devices at found (Ticks drawn))
+    tick_judged at None drawn stood = stays
+    tick_judged at (Some one) drawn stood =
+        one_set at one (device_after one (Ticks drawn)) stood (λ here same. subst (λ (d : State). Judges orders commands d (device_after d (Ticks drawn))) (sym same) (each.ticks drawn))
 
-    tick_judged : (c : Course) (devices : List State) (has : HasDevice node c devices) (place : ℕ) (found : Option State) (drawn : List ℕ) → slice_get devices place ≡ found
-        → JudgesAt node orders c.host.commands devices (device_set devices place found (Ticks drawn))
-    tick_judged c devices has place None drawn stood = stays c devices has
-    tick_judged c devices has place (Some device) drawn stood =
-        one_set c devices has place device (device_after device (Ticks drawn)) stood
-        (λ here one. ticks_judge orders c.host.commands c device (subst (λ (d : State). AtDevice c d) (sym one) has.at) drawn)
+    wake_judged : (at : ℕ) (found : Option State) → slice_get devices at ≡ found → JudgesAt node orders commands devices (device_set devices at found Wakes)
+    wake_judged at None stood = stays
+    wake_judged at (Some one) stood = one_set at one (device_after one Wakes) stood (λ here same. subst (λ (d : State). Judges orders commands d (device_after d Wakes)) (sym same) each.wakes)
 
-    wake_judged : (c : Course) (devices : List State) (has : HasDevice node c devices) (place : ℕ) (found : Option State) → slice_get devices place ≡ found
-        → JudgesAt node orders c.host.commands devices (device_set devices place found Wakes)
-    wake_judged c devices has place None stood = stays c devices has
-    wake_judged c devices has place (Some device) stood =
-        one_set c devices has place device (device_after device Wakes) stood
-        (λ here one. wakes_judge orders c.host.commands c device (subst (λ (d : State). AtDevice c d) (sym one) has.at))
+    hand_judged : (n value at : ℕ) (found : Option State) → n ≢ node → place_of n devices ≡ Some at → slice_get devices at ≡ found → JudgesAt node orders commands devices (device_set devices at found (Sets value))
+    hand_judged n value at None other there stood = stays
+    hand_judged n value at (Some one) other there stood =
+        one_set at one (device_after one (Sets value)) stood (λ here same. absurd (other (sym (place_is n devices at one there stood) ∙ place_is node devices at one (first ∙ ap Some (sym here)) stood)))
 
-    hand_judged : (c : Course) (devices : List State) (has : HasDevice node c devices) (n value place : ℕ) (found : Option State) → n ≢ node → place_of n devices ≡ Some place → slice_get devices place ≡ found
-        → JudgesAt node orders c.host.commands devices (device_set devices place found (Sets value))
-    hand_judged c devices has n value place None other first stood = stays c devices has
-    hand_judged c devices has n value place (Some device) other first stood =
-        one_set c devices has place device (device_after device (Sets value)) stood
-        (λ here one. absurd (other (sym (place_is n devices place device first stood) ∙ place_is node devices place device (has.first ∙ ap Some (sym here)) stood)))
+    wakes_judged : (at : Option ℕ) → JudgesAt node orders commands devices (set_by_hand devices at Wakes)
+    wakes_judged None = stays
+    wakes_judged (Some at) = wake_judged at (slice_get devices at) refl
 
-    wakes_judged : (c : Course) (devices : List State) (has : HasDevice node c devices) (place : Option ℕ) → JudgesAt node orders c.host.commands devices (set_by_hand devices place Wakes)
-    wakes_judged c devices has None = stays c devices has
-    wakes_judged c devices has (Some place) = wake_judged c devices has place (slice_get devices place) refl
+    sets_judged : (n value : ℕ) (at : Option ℕ) → n ≢ node → place_of n devices ≡ at → JudgesAt node orders commands devices (set_by_hand devices at (Sets value))
+    sets_judged n value None other there = stays
+    sets_judged n value (Some at) other there = hand_judged n value at (slice_get devices at) other there refl
 
-    sets_judged : (c : Course) (devices : List State) (has : HasDevice node c devices) (n value : ℕ) (place : Option ℕ) → n ≢ node → place_of n devices ≡ place → JudgesAt node orders c.host.commands devices (set_by_hand devices place (Sets value))
-    sets_judged c devices has n value None other first = stays c devices has
-    sets_judged c devices has n value (Some place) other first = hand_judged c devices has n value place (slice_get devices place) other first refl
+-- ---- an event outside the host
 
-    outer_judged : (c : Course) (w : Outside) (event : OuterEvent) → node < 233 → CourseFacts c → InMesh node orders c (mesh_of w) → IsNoHandOutside node event → JudgesAt node orders c.host.commands w.devices (devices_after w event)
-    unfolding devices_after
-    outer_judged c w (Arrives drawn route) within course is none = arrival_judged c (mesh_of w) drawn route is.log is.flights is.on_air (stands_of node orders c (mesh_of w) is) course
-    outer_judged c w (Repeats number drawn route) within course is none = repeats_judged c w number drawn route (refusal_of w.outer.air.frames number) refl within course is
-    outer_judged c w (Device_ticks place drawn route) within course is none = tick_judged c w.devices is.device place (slice_get w.devices place) drawn refl
-    outer_judged c w (Wakes_device n route) within course is none = wakes_judged c w.devices is.device (place_of n w.devices)
-    outer_judged c w (Sets_device n value route) within course is none = sets_judged c w.devices is.device n value (place_of n w.devices) none refl
-    outer_judged c w event within course is none = stays c w.devices is.device
+module _ (node : ℕ) (orders : List Asked) (commands : List ℕ) (w : Outside) (place : ℕ) (device : State) (first : place_of node w.devices ≡ Some place) (stands : slice_get w.devices place ≡ Some device)
+    (each : JudgesEach node orders commands w.outer.air.frames device) where
+  repeats_judged : (number : ℕ) (drawn : List ℕ) (route : Option Route) (refused : Option Refusal) → refusal_of w.outer.air.frames number ≡ refused
+      → JudgesAt node orders commands w.devices (devices_repeated w refused (mesh.Repeats number drawn route))
+  unfolding mesh_after
+  repeats_judged number drawn route (Some refused) e = stays node orders commands w.devices place device first stands
+  repeats_judged number drawn route None e = repeat_judged node orders commands w.devices place device first stands w.outer.air each number drawn route (remembered w.outer.air.frames number) refl e
 
-    -- ---- an event of the machine
+  outer_judged : (event : OuterEvent) → IsNoHandOutside node event → JudgesAt node orders commands w.devices (devices_after w event)
+  unfolding devices_after mesh_after
+  outer_judged (Arrives drawn route) none = arriving_judged node orders commands w.devices place device first stands w.outer.air each drawn route (next_of w.outer.air.frames) refl
+  outer_judged (Repeats number drawn route) none = repeats_judged number drawn route (refusal_of w.outer.air.frames number) refl
+  outer_judged (Device_ticks at drawn route) none = tick_judged node orders commands w.devices place device first stands w.outer.air each at (slice_get w.devices at) drawn refl
+  outer_judged (Wakes_device n route) none = wakes_judged node orders commands w.devices place device first stands w.outer.air each (place_of n w.devices)
+  outer_judged (Sets_device n value route) none = sets_judged node orders commands w.devices place device first stands w.outer.air each n value (place_of n w.devices) none refl
+  outer_judged event none = stays node orders commands w.devices place device first stands
 
-    pub event_judged : (c : Course) (up down : List Item) (m : Machine) (event : Event) → node < 233 → WorldFollows node orders c up down m → IsNoHand node event
-        → JudgesAt node orders c.host.commands m.outside.devices (happens m event).outside.devices
-    unfolding happens
-    event_judged c up down m (Outside_does event) within follows none = outer_judged c m.outside event within follows.course follows.outside.mesh none
-    event_judged c up down m event within follows none = stayed c m.outside.devices (happens m event).outside.devices follows.outside.mesh.device (devices_still m event tt)
+-- ---- an event of the machine
+
+pub event_judged : (node : ℕ) (orders : List Asked) (commands : List ℕ) (m : Machine) (event : Event) (place : ℕ) (device : State) → place_of node m.outside.devices ≡ Some place → slice_get m.outside.devices place ≡ Some device
+    → JudgesEach node orders commands m.outside.outer.air.frames device → IsNoHand node event → JudgesAt node orders commands m.outside.devices (happens m event).outside.devices
+unfolding happens
+event_judged node orders commands m (Outside_does event) place device first stands each none = outer_judged node orders commands m.outside place device first stands each event none
+event_judged node orders commands m event place device first stands each none = stayed node orders commands m.outside.devices place device first stands (happens m event).outside.devices (devices_still m event tt)

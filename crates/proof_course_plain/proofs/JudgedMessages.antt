@@ -15,6 +15,7 @@ use Rattle.device_stack.specs.Ticking.{ticked, woken}
 use Rattle.device_sim.specs.State.{State}
 use Rattle.device_sim.specs.Event.{Hears, Ticks, Wakes, outcome_of, device_after, device_replies}
 use Rattle.proof_once.specs.proof_messages.Asking.{verdict_on, IsLeft, Follows}
+use Rattle.proof_once.specs.proof_messages.Ending.{HasEnded}
 use Rattle.proof_once.specs.proof_messages.Segments.{KeepsSegment, MakesWhole}
 use Rattle.proof_once.proofs.SessionMessages.{knows_supervision}
 use Rattle.proof_course_plain.specs.Meaning.{Asked, IsMessageOf, IsSegmentOf, IsMessage, HostMeans}
@@ -25,7 +26,7 @@ use Rattle.proof_course_plain.proofs.MadeSettings.{Laws}
 use Rattle.proof_course_plain.proofs.Segments.{IsNext, IsAnother, segment_heard}
 
 -- what is left as it was
-left_judges : (orders : List Asked) (commands : List ℕ) (old new : State) → IsLeft old new → Judges orders commands old new
+pub left_judges : (orders : List Asked) (commands : List ℕ) (old new : State) → IsLeft old new → Judges orders commands old new
 left_judges orders commands old new left = inl (record { sessions = left.0.sessions; journal = left.0.journal })
 
 -- another device with the same sessions and changes
@@ -62,7 +63,7 @@ module _ (orders : List Asked) (commands : List ℕ) (device new : State) (sessi
   heard_by (Again status) e left = left_judges orders commands device new left
   heard_by Old e left = left_judges orders commands device new left
 
-  follows_judges : Follows device new (verdict_on device is.asked.carriage is.asked.order) (heard_of device.sessions (wire_id session)) → Judges orders commands device new
+  pub follows_judges : Follows device new (verdict_on device is.asked.carriage is.asked.order) (heard_of device.sessions (wire_id session)) → Judges orders commands device new
   follows_judges follows = heard_by (heard_of device.sessions (wire_id session)) refl follows
 
 message_judges : Laws → (orders : List Asked) (commands : List ℕ) (c : Course) (device : State) (session : ℕ) (payload drawn : List ℕ) → AtDevice c device → device.awake ≡ true → IsMessageOf orders commands session payload
@@ -116,14 +117,14 @@ payload_judges laws orders commands c device Of_node payload drawn at awake is n
 
 -- ---- a tick, a wake-up
 
-module _ (orders : List Asked) (commands : List ℕ) (c : Course) (device : State) (at : AtDevice c device) where
+module _ (orders : List Asked) (commands finals : List ℕ) (device : State) (ended : HasEnded device finals) where
   tick_judges : (none last : Bool) → device.work_left == 0 ≡ none → device.work_left == 1 ≡ last → Judges orders commands device (ticked device).device
   unfolding ticked
   tick_judges true last n l = inl (record { sessions = rw n refl; journal = rw n refl })
   tick_judges false false n l = inl (record { sessions = rw (n, l) refl; journal = rw (n, l) refl })
   tick_judges false true n l =
       let one : device.work_left ≡ 1 = eqb-true device.work_left 1 l in
-      inr (inr (record { working = at.ended.at_work (omega (arith, one)); sessions = rw (n, l) refl }))
+      inr (inr (record { working = ended.at_work (omega (arith, one)); sessions = rw (n, l) refl }))
 
   pub ticks_judge : (drawn : List ℕ) → Judges orders commands device (device_after device (Ticks drawn))
   unfolding device_after outcome_of

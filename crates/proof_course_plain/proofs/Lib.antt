@@ -12,6 +12,7 @@ pub mod Idle
 pub mod Replies
 pub mod Arrivals
 pub mod JudgedFrames
+mod JudgedArrivals
 pub mod WayLabels
 pub mod ChipSide
 pub mod ChipNotices

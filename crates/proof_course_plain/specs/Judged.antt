@@ -1,11 +1,16 @@
 -- What one event makes of the sessions of a device (this project's own; Supervision Report is that of the Z-Wave Transport-Encapsulation Command Class
 -- Specification): it takes the next one with the verdict of its kind on the values that it has, ends the work that it is at, or is left as it was.
-use Rattle.std.specs.Prelude.{◌≡◌, ◌≢◌, ◌⊎◌, ℕ, ◌+◌, ◌≤◌, List, [], ◌∷◌, Some, slice_get}
+use Rattle.std.specs.Prelude.{◌≡◌, ◌≢◌, ◌⊎◌, ℕ, ◌+◌, ◌≤◌, true, List, [], ◌∷◌, Some, None, slice_get}
 use Rattle.supervision.specs.declared.session.TheConstants.{WORKING, SUCCESS}
 use Rattle.proof_course.specs.Parts.{numbered}
+use Rattle.air_frames.specs.declared.frame.Heading.TheVariants.{Outward}
+use Rattle.air_frames.specs.Ages.{refusal_of}
+use Rattle.air_frames.specs.Flown.{Flown}
+use Rattle.air_frames.specs.Frames.{FramesState, next_of, remembered}
 use Rattle.host_orders.specs.Refusals.{IsFit}
 use Rattle.device_kinds.specs.Judging.{status_of}
 use Rattle.device_sim.specs.State.{State}
+use Rattle.device_sim.specs.Event.{Hears, Ticks, Wakes, device_after}
 use Rattle.mesh_sim.specs.Fates.{place_of}
 use Rattle.outside_model.specs.Events.{OuterEvent, Sets_device}
 use Rattle.world_model.specs.Events.{Event, Outside_does}
@@ -37,6 +42,14 @@ pub record EndsWork (old new : State) : Type 0 where
 
 abbrev pub Judges : List Asked → List ℕ → State → State → Type 0
 Judges orders commands old new = IsStill old new ⊎ (TakesAsAsked orders commands old new ⊎ EndsWork old new)
+
+-- so it is with a device of a node that hears the next frame, or one that may be heard again, that ticks, or that is woken
+pub record JudgesEach (node : ℕ) (orders : List Asked) (commands : List ℕ) (frames : FramesState) (device : State) : Type 0 where
+  pub arrives : (frame : Flown) (drawn : List ℕ) → next_of frames ≡ Some frame → frame.node ≡ node → frame.heading ≡ Outward → device.awake ≡ true → Judges orders commands device (device_after device (Hears frame.payload drawn))
+  pub repeats : (number : ℕ) (frame : Flown) (drawn : List ℕ) → refusal_of frames number ≡ None → remembered frames number ≡ Some frame → frame.node ≡ node → frame.heading ≡ Outward → device.awake ≡ true
+      → Judges orders commands device (device_after device (Hears frame.payload drawn))
+  pub ticks : (drawn : List ℕ) → Judges orders commands device (device_after device (Ticks drawn))
+  pub wakes : Judges orders commands device (device_after device Wakes)
 
 -- ---- the devices
 

@@ -37,6 +37,7 @@ use Rattle.proof_course_plain.proofs.ChangesOutside.{place_is, listener_is, fate
 use Rattle.proof_course_plain.specs.Meaning.{Asked}
 use Rattle.proof_course_plain.specs.Making.{Makes, Names, HearsNone}
 use Rattle.proof_course_plain.specs.Device.{IsIdle}
+use Rattle.proof_course_plain.specs.Judged.{Judges}
 use Rattle.proof_course_plain.specs.Mesh.{brought_by, brought}
 use Rattle.proof_course_plain.proofs.MadeSettings.{all_make_set}
 use Rattle.proof_course_plain.proofs.Idle.{idle_makes}
@@ -64,6 +65,8 @@ pub record Laws : Type 0 where
       → HostMeans past node payload held → Names c.sessions.device (as_session held) → NamesNonce c held → (joined ≡ false → c.node.given ≡ 0) → HearsAs past node c device since held joined (hears_event payload drawn)
   pub makes : (past : Past) (node : ℕ) (c : Courses) (device : State) (held : Held) (payload drawn : List ℕ) → AtLock past c device → device.node ≡ node → HostMeans past node payload held → Names c.sessions.device (as_session held)
       → NamesNonce c held → Makes past.orders past.commands device → Makes past.orders past.commands (device_after device (hears_event payload drawn))
+  pub judges : (past : Past) (node : ℕ) (c : Courses) (device : State) (held : Held) (payload drawn : List ℕ) → AtLock past c device → device.node ≡ node → HostMeans past node payload held → Names c.sessions.device (as_session held)
+      → NamesNonce c held → Judges past.orders past.commands device (device_after device (hears_event payload drawn))
   pub other : (past : Past) (c : Courses) (device : State) (event : DeviceEvent) → AtLock past c device → HearsNone event → AtLock past c (device_after device event) × (device_replies device event ≡ [])
   pub keeps : (orders : List Asked) (commands : List ℕ) (device : State) (event : DeviceEvent) → HearsNone event → Makes orders commands device → Makes orders commands (device_after device event)
   pub idle : (device : State) (drawn : List ℕ) → IsIdle device → IsIdle (device_after device (Ticks drawn)) × (device_replies device (Ticks drawn) ≡ [])
@@ -350,13 +353,12 @@ module _ (laws : Laws) (past : Past) (node : ℕ) where
 
   -- ---- the next frame arrives
 
-  module _ (c : Courses) (mesh : Mesh) (frame : Flown) (later : List Flown) (is : InMesh past node c mesh) (on_air : OnAir past node c is.log (frame ∷ later) mesh.air.frames) (facts : CoursesFacts c) (within : node < 233)
-      (drawn : List ℕ) (eight : length drawn ≡ 8) (route : Option Route) where
-    abbrev l : Lands past node c is.log frame later (landing mesh.air.frames)
+  module _ (c : Courses) (mesh : Mesh) (frame : Flown) (later : List Flown) (is : InMesh past node c mesh) (on_air : OnAir past node c is.log (frame ∷ later) mesh.air.frames) (facts : CoursesFacts c) (within : node < 233) where
+    abbrev pub l : Lands past node c is.log frame later (landing mesh.air.frames)
     l = laws.lands past node c is.log frame later mesh.air.frames on_air
 
     -- without the frame
-    abbrev before : Courses
+    abbrev pub before : Courses
     before = landed c l.rest
 
     hears : Hears c before l.aloft.begun l.aloft.held
@@ -393,7 +395,7 @@ module _ (laws : Laws) (past : Past) (node : ℕ) where
     node_facts : NodeFacts before.node
     node_facts = subst (λ (fs : List (Flight node_nonces.Cargo)). NodeFacts (node_nonces.lands c.node fs false)) l.nonces (laws.node_facts c.node (node_nonces.Lands false) facts.node tt)
 
-    names : (held : Held) → l.aloft.held ≡ held → Names before.sessions.device (as_session held)
+    pub names : (held : Held) → l.aloft.held ≡ held → Names before.sessions.device (as_session held)
     names (Up (Sealed session number)) is = (
       laws.landing_names c.sessions (record { session = session; is_segment = false }) l.aloft.begun (map of_sessions l.rest) facts.sessions
           (l.sessions ∙ ap (λ (h : Held). record { cargo = as_session h; since = l.aloft.begun } ∷ map of_sessions l.rest) is),
@@ -405,43 +407,44 @@ module _ (laws : Laws) (past : Past) (node : ℕ) where
     names (Down (Shows number)) is = tt
     names Of_node is = tt
 
-    names_nonce : (held : Held) → l.aloft.held ≡ held → NamesNonce before held
+    pub names_nonce : (held : Held) → l.aloft.held ≡ held → NamesNonce before held
     names_nonce (Up (Sealed session number)) is = laws.node_landing c.node number l.aloft.given (map of_node l.rest) facts.node (l.nonces ∙ ap (λ (h : Held). record { cargo = as_node h; since = l.aloft.given } ∷ map of_node l.rest) is)
     names_nonce (Up (Offer number)) is = laws.host_landing c.host number l.aloft.shown (map of_host l.rest) facts.host (l.offers ∙ ap (λ (h : Held). record { cargo = as_host h; since = l.aloft.shown } ∷ map of_host l.rest) is)
     names_nonce Of_host is = tt
     names_nonce (Down said) is = tt
     names_nonce Of_node is = tt
 
-    lost_by : (event : AirEvent) (status : ℕ) (dead : Option (ℕ × ℕ)) (number : ℕ) → brought_by event ≡ [] → MeshGoes past node c (record mesh { air = air_landed mesh.air }) (brought (event ∷ done_of frame.heading number status dead))
-    lost_by event status dead number none =
-        subst (λ g. MeshGoes past node c (record mesh { air = air_landed mesh.air }) g)
-        (sym (brought-append (event ∷ []) (done_of frame.heading number status dead) ∙ (ap (λ g. (g ++ []) ++ brought (done_of frame.heading number status dead)) none ∙ done_brings frame.heading number status dead)))
-        (unheard c before (record mesh { air = air_landed mesh.air }) hears.still ways (there (air_landed mesh.air) refl refl))
+    module _ (drawn : List ℕ) (eight : length drawn ≡ 8) (route : Option Route) where
+      lost_by : (event : AirEvent) (status : ℕ) (dead : Option (ℕ × ℕ)) (number : ℕ) → brought_by event ≡ [] → MeshGoes past node c (record mesh { air = air_landed mesh.air }) (brought (event ∷ done_of frame.heading number status dead))
+      lost_by event status dead number none =
+          subst (λ g. MeshGoes past node c (record mesh { air = air_landed mesh.air }) g)
+          (sym (brought-append (event ∷ []) (done_of frame.heading number status dead) ∙ (ap (λ g. (g ++ []) ++ brought (done_of frame.heading number status dead)) none ∙ done_brings frame.heading number status dead)))
+          (unheard c before (record mesh { air = air_landed mesh.air }) hears.still ways (there (air_landed mesh.air) refl refl))
 
-    at_device : (number place : ℕ) (found : Option State) → slice_get mesh.devices place ≡ found → fate_of mesh.air.network mesh.devices frame ≡ fate.AtDevice place
-        → MeshGoes past node c (heard_at (record mesh { air = air_landed (acknowledged mesh.air) }) place found frame.node route (hears_event frame.payload drawn))
-        (brought (outs_at (record mesh { air = air_landed (acknowledged mesh.air) }) found number frame.node route (hears_event frame.payload drawn) ++ Done number (status_of mesh.air) None ∷ []))
-    at_device number place None stood is = unheard c before (record mesh { air = air_landed (acknowledged mesh.air) }) hears.still ways (there (air_landed (acknowledged mesh.air)) refl refl)
-    at_device number place (Some one) stood is =
-        let now : Mesh = record mesh { air = air_landed (acknowledged mesh.air) } in
-        let outward : frame.heading ≡ Outward = out_by frame.lost (dead_hop_of mesh.air.network frame) frame.heading (listener_of frame.node mesh.devices) place is in
-        let listens : listener_of frame.node mesh.devices ≡ Some place = fate_listens frame.lost (dead_hop_of mesh.air.network frame) frame.heading (listener_of frame.node mesh.devices) place is in
-        let nothing : brought (outs_hearing now.air number frame.node route one (hears_event frame.payload drawn) ++ Done number (status_of mesh.air) None ∷ []) ≡ [] =
-        brought-append (outs_hearing now.air number frame.node route one (hears_event frame.payload drawn)) (Done number (status_of mesh.air) None ∷ [])
-        ∙ ap (λ g. g ++ []) (hearing_brings now.air number frame.node route one (hears_event frame.payload drawn)) in
-        subst (λ g. MeshGoes past node c (heard_at now place (Some one) frame.node route (hears_event frame.payload drawn)) g) (sym nothing)
-        (device_hears c before now frame l.aloft.begun l.aloft.held place one drawn route within eight hears ways (there (air_landed (acknowledged mesh.air)) refl refl) node_facts
-        (subst (λ (heading : Heading). MeansBy heading (frame.node == node) past node frame.payload l.aloft.held) outward l.bears.1) listens stood (names l.aloft.held refl) (names_nonce l.aloft.held refl))
+      at_device : (number place : ℕ) (found : Option State) → slice_get mesh.devices place ≡ found → fate_of mesh.air.network mesh.devices frame ≡ fate.AtDevice place
+          → MeshGoes past node c (heard_at (record mesh { air = air_landed (acknowledged mesh.air) }) place found frame.node route (hears_event frame.payload drawn))
+          (brought (outs_at (record mesh { air = air_landed (acknowledged mesh.air) }) found number frame.node route (hears_event frame.payload drawn) ++ Done number (status_of mesh.air) None ∷ []))
+      at_device number place None stood is = unheard c before (record mesh { air = air_landed (acknowledged mesh.air) }) hears.still ways (there (air_landed (acknowledged mesh.air)) refl refl)
+      at_device number place (Some one) stood is =
+          let now : Mesh = record mesh { air = air_landed (acknowledged mesh.air) } in
+          let outward : frame.heading ≡ Outward = out_by frame.lost (dead_hop_of mesh.air.network frame) frame.heading (listener_of frame.node mesh.devices) place is in
+          let listens : listener_of frame.node mesh.devices ≡ Some place = fate_listens frame.lost (dead_hop_of mesh.air.network frame) frame.heading (listener_of frame.node mesh.devices) place is in
+          let nothing : brought (outs_hearing now.air number frame.node route one (hears_event frame.payload drawn) ++ Done number (status_of mesh.air) None ∷ []) ≡ [] =
+          brought-append (outs_hearing now.air number frame.node route one (hears_event frame.payload drawn)) (Done number (status_of mesh.air) None ∷ [])
+          ∙ ap (λ g. g ++ []) (hearing_brings now.air number frame.node route one (hears_event frame.payload drawn)) in
+          subst (λ g. MeshGoes past node c (heard_at now place (Some one) frame.node route (hears_event frame.payload drawn)) g) (sym nothing)
+          (device_hears c before now frame l.aloft.begun l.aloft.held place one drawn route within eight hears ways (there (air_landed (acknowledged mesh.air)) refl refl) node_facts
+          (subst (λ (heading : Heading). MeansBy heading (frame.node == node) past node frame.payload l.aloft.held) outward l.bears.1) listens stood (names l.aloft.held refl) (names_nonce l.aloft.held refl))
 
-    by_fate : (number : ℕ) (x : Fate) → fate_of mesh.air.network mesh.devices frame ≡ x → MeshGoes past node c (arriving_as mesh frame x drawn route) (brought (arrival_outs_as mesh number frame x drawn route))
-    by_fate number fate.Lost is = lost_by (Lost number) 1 None number refl
-    by_fate number (fate.Dead from to) is = lost_by (Unheard number) 1 (Some (from, to)) number refl
-    by_fate number fate.Missed is = lost_by (Unheard number) 1 None number refl
-    by_fate number fate.AtChip is =
-        let home : frame.heading ≡ Homeward = home_by frame.lost (dead_hop_of mesh.air.network frame) frame.heading (listener_of frame.node mesh.devices) is in
-        chip_hears c before (record mesh { air = air_landed mesh.air }) frame l.aloft.begun l.aloft.held hears ways (there (air_landed mesh.air) refl refl)
-        (subst (λ (heading : Heading). MeansBy heading (frame.node == node) past node frame.payload l.aloft.held) home l.bears.1)
-    by_fate number (fate.AtDevice place) is = at_device number place (slice_get mesh.devices place) refl is
+      by_fate : (number : ℕ) (x : Fate) → fate_of mesh.air.network mesh.devices frame ≡ x → MeshGoes past node c (arriving_as mesh frame x drawn route) (brought (arrival_outs_as mesh number frame x drawn route))
+      by_fate number fate.Lost is = lost_by (Lost number) 1 None number refl
+      by_fate number (fate.Dead from to) is = lost_by (Unheard number) 1 (Some (from, to)) number refl
+      by_fate number fate.Missed is = lost_by (Unheard number) 1 None number refl
+      by_fate number fate.AtChip is =
+          let home : frame.heading ≡ Homeward = home_by frame.lost (dead_hop_of mesh.air.network frame) frame.heading (listener_of frame.node mesh.devices) is in
+          chip_hears c before (record mesh { air = air_landed mesh.air }) frame l.aloft.begun l.aloft.held hears ways (there (air_landed mesh.air) refl refl)
+          (subst (λ (heading : Heading). MeansBy heading (frame.node == node) past node frame.payload l.aloft.held) home l.bears.1)
+      by_fate number (fate.AtDevice place) is = at_device number place (slice_get mesh.devices place) refl is
 
   arrives_by : (c : Courses) (mesh : Mesh) (drawn : List ℕ) (route : Option Route) (is : InMesh past node c mesh) (flights : List Flown) → OnAir past node c is.log flights mesh.air.frames → node < 233 → CoursesFacts c
       → MayHappen mesh (Arrives drawn route) → MeshGoes past node c (mesh_after mesh (Arrives drawn route)) (brought (mesh_outs mesh (Arrives drawn route)))
@@ -456,7 +459,7 @@ module _ (laws : Laws) (past : Past) (node : ℕ) where
 
   -- ---- a frame is heard again
 
-  module _ (c : Courses) (mesh : Mesh) (number : ℕ) (frame : Flown) (facts : CoursesFacts c) (is : InMesh past node c mesh) (was : WasThere past node c frame) (within : node < 233) (drawn : List ℕ) (eight : length drawn ≡ 8) (route : Option Route) where
+  module _ (c : Courses) (mesh : Mesh) (number : ℕ) (frame : Flown) (facts : CoursesFacts c) (is : InMesh past node c mesh) (was : WasThere past node c frame) (within : node < 233) where
     message_again : Goes c.sessions (sessions_hears c.sessions was.aloft.begun (as_session was.aloft.held) true)
     message_again = subst (λ (found : Option (Flight SessionCargo)). Goes c.sessions (sessions_repeat c.sessions found true)) was.sessions
         (goes_once c.sessions (repeats_step was.at true) (subst (λ (found : Option (Flight SessionCargo)). MayRepeat c.sessions found) (sym was.sessions) was.fresh))
@@ -490,7 +493,7 @@ module _ (laws : Laws) (past : Past) (node : ℕ) where
       nonce = λ goes_out. nonce_again was.aloft.held goes_out refl was.recent;
     }
 
-    names_again : (held : Held) → was.aloft.held ≡ held → Names c.sessions.device (as_session held)
+    pub names_again : (held : Held) → was.aloft.held ≡ held → Names c.sessions.device (as_session held)
     names_again (Up (Sealed session number)) is = (
       laws.repeated_names c.sessions (record { session = session; is_segment = false }) was.aloft.begun was.at facts.sessions
           (was.sessions ∙ ap (λ (h : Held). Some (record { cargo = as_session h; since = was.aloft.begun })) is)
@@ -503,7 +506,7 @@ module _ (laws : Laws) (past : Past) (node : ℕ) where
     names_again (Down (Shows number)) is = tt
     names_again Of_node is = tt
 
-    nonces_again : (held : Held) → was.aloft.held ≡ held → IsRecentBy held c was.aloft → NamesNonce c held
+    pub nonces_again : (held : Held) → was.aloft.held ≡ held → IsRecentBy held c was.aloft → NamesNonce c held
     nonces_again (Up (Sealed session number)) is recent =
         laws.node_repeated c.node number was.aloft.given was.at facts.node (was.nonces ∙ ap (λ (h : Held). Some (record { cargo = as_node h; since = was.aloft.given })) is) recent.given
     nonces_again (Up (Offer number)) is recent =
@@ -512,24 +515,25 @@ module _ (laws : Laws) (past : Past) (node : ℕ) where
     nonces_again (Down said) is recent = tt
     nonces_again Of_node is recent = tt
 
-    device_again : (place : ℕ) (found : Option State) → slice_get mesh.devices place ≡ found → listener_of frame.node mesh.devices ≡ Some place → frame.heading ≡ Outward
-        → MeshGoes past node c (heard_at mesh place found frame.node route (hears_event frame.payload drawn)) (brought (outs_at mesh found number frame.node route (hears_event frame.payload drawn)))
-    device_again place None stood listens outward = unheard c c mesh (goes_nowhere c) (ways_same c) is
-    device_again place (Some one) stood listens outward =
-        subst (λ g. MeshGoes past node c (heard_at mesh place (Some one) frame.node route (hears_event frame.payload drawn)) g) (sym (hearing_brings mesh.air number frame.node route one (hears_event frame.payload drawn)))
-        (device_hears c c mesh frame was.aloft.begun was.aloft.held place one drawn route within eight hears_again (ways_same c) is facts.node
-        (subst (λ (heading : Heading). MeansBy heading (frame.node == node) past node frame.payload was.aloft.held) outward was.bears.1) listens stood (names_again was.aloft.held refl)
-        (nonces_again was.aloft.held refl was.recent))
+    module _ (drawn : List ℕ) (eight : length drawn ≡ 8) (route : Option Route) where
+      device_again : (place : ℕ) (found : Option State) → slice_get mesh.devices place ≡ found → listener_of frame.node mesh.devices ≡ Some place → frame.heading ≡ Outward
+          → MeshGoes past node c (heard_at mesh place found frame.node route (hears_event frame.payload drawn)) (brought (outs_at mesh found number frame.node route (hears_event frame.payload drawn)))
+      device_again place None stood listens outward = unheard c c mesh (goes_nowhere c) (ways_same c) is
+      device_again place (Some one) stood listens outward =
+          subst (λ g. MeshGoes past node c (heard_at mesh place (Some one) frame.node route (hears_event frame.payload drawn)) g) (sym (hearing_brings mesh.air number frame.node route one (hears_event frame.payload drawn)))
+          (device_hears c c mesh frame was.aloft.begun was.aloft.held place one drawn route within eight hears_again (ways_same c) is facts.node
+          (subst (λ (heading : Heading). MeansBy heading (frame.node == node) past node frame.payload was.aloft.held) outward was.bears.1) listens stood (names_again was.aloft.held refl)
+          (nonces_again was.aloft.held refl was.recent))
 
-    listener_again : (listener : Option ℕ) → listener_of frame.node mesh.devices ≡ listener → frame.heading ≡ Outward
-        → MeshGoes past node c (heard_again mesh listener frame.node route (hears_event frame.payload drawn)) (brought (outs_again mesh listener number frame.node route (hears_event frame.payload drawn)))
-    listener_again None listens outward = unheard c c mesh (goes_nowhere c) (ways_same c) is
-    listener_again (Some place) listens outward = device_again place (slice_get mesh.devices place) refl listens outward
+      listener_again : (listener : Option ℕ) → listener_of frame.node mesh.devices ≡ listener → frame.heading ≡ Outward
+          → MeshGoes past node c (heard_again mesh listener frame.node route (hears_event frame.payload drawn)) (brought (outs_again mesh listener number frame.node route (hears_event frame.payload drawn)))
+      listener_again None listens outward = unheard c c mesh (goes_nowhere c) (ways_same c) is
+      listener_again (Some place) listens outward = device_again place (slice_get mesh.devices place) refl listens outward
 
-    again_by : (heading : Heading) → frame.heading ≡ heading → MeshGoes past node c (repeating_by heading mesh frame drawn route) (brought (repeat_outs_by heading mesh number frame drawn route))
-    again_by Outward e = listener_again (listener_of frame.node mesh.devices) refl e
-    again_by Homeward e =
-        chip_hears c c mesh frame was.aloft.begun was.aloft.held hears_again (ways_same c) is (subst (λ (heading : Heading). MeansBy heading (frame.node == node) past node frame.payload was.aloft.held) e was.bears.1)
+      again_by : (heading : Heading) → frame.heading ≡ heading → MeshGoes past node c (repeating_by heading mesh frame drawn route) (brought (repeat_outs_by heading mesh number frame drawn route))
+      again_by Outward e = listener_again (listener_of frame.node mesh.devices) refl e
+      again_by Homeward e =
+          chip_hears c c mesh frame was.aloft.begun was.aloft.held hears_again (ways_same c) is (subst (λ (heading : Heading). MeansBy heading (frame.node == node) past node frame.payload was.aloft.held) e was.bears.1)
 
   repeats_by : (c : Courses) (mesh : Mesh) (number : ℕ) (drawn : List ℕ) (route : Option Route) (found : Option Flown) → remembered mesh.air.frames number ≡ found → node < 233 → length drawn ≡ 8 → CoursesFacts c → InMesh past node c mesh
       → refusal_of mesh.air.frames number ≡ None → MeshGoes past node c (repeating mesh found drawn route) (brought (repeat_outs mesh number found drawn route))

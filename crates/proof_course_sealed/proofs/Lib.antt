@@ -6,9 +6,11 @@ pub mod Elsewhere
 pub mod LockStates
 pub mod HeardPayloads
 pub mod MadeSettings
+mod JudgedPayloads
 pub mod Flights
 pub mod Replies
 pub mod Arrivals
+mod JudgedArrivals
 pub mod Outer
 pub mod OuterEvents
 pub mod KeptBooks
@@ -29,5 +31,6 @@ pub mod TrueLines
 pub mod OtherAsks
 pub mod Runs
 pub mod Places
+mod LockBeginning
 pub use Rattle.proof_course_plain.proofs.AsMade
 pub use Rattle.proof_course_plain.proofs.Once

@@ -2,6 +2,7 @@ pub mod Labels
 pub mod Courses
 pub mod Meaning
 pub mod Lock
+pub mod LockNodes
 pub mod Device
 pub mod Air
 pub mod Mesh

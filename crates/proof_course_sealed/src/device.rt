@@ -6,6 +6,7 @@ ghost use Rattle.device_kinds.specs.declared.kind.Kind.TheVariants as kinds;
 ghost use Rattle.s0_crypto.specs.Sealing.{keys_of};
 ghost use Rattle.device_sim.specs.State.{State, fresh};
 ghost use Rattle.device_sim.specs.Event.{DeviceEvent, Hears, device_after, device_replies};
+ghost use Rattle.proof_course_plain.specs.Judged.{Judges};
 ghost use Rattle.proof_course_plain.specs.Making.{Makes, Names, HearsNone};
 ghost use Rattle.proof_course_sealed.specs.Labels.{Held, as_session};
 ghost use Rattle.proof_course_sealed.specs.Courses.{Courses, first_courses};
@@ -24,7 +25,7 @@ use proof_messages::{
 /// A lock goes on as its courses have it: it takes the message of a session that is sealed for its live nonce, and asks for a nonce for the
 /// report; it seals the report of its last session for the nonce of the host that counts as the last or the next; it gives a nonce where it
 /// is asked for one; and of all else that it hears, and at any other event, it does nothing of these and says nothing. Each change by a
-/// session is of the settings that the session's command asks for.
+/// session is of the settings that the session's command asks for, and each session is taken with the status that a lock gives its commands.
 pub fn locks_follow_the_courses()
     ensures fresh { (node : ℕ) (key : List ℕ) → AtLock (first_past (keys_of key)) first_courses (fresh node kinds.Lock key) }
     ensures hears { (past : Past) (node : ℕ) (c : Courses) (device : State) (since : ℕ) (held : Held) (joined : Bool)
@@ -34,6 +35,9 @@ pub fn locks_follow_the_courses()
     ensures makes { (past : Past) (node : ℕ) (c : Courses) (device : State) (held : Held) (payload drawn : List ℕ) → AtLock past c device →
         device.node ≡ node → HostMeans past node payload held → Names c.sessions.device (as_session held) → NamesNonce c held →
         Makes past.orders past.commands device → Makes past.orders past.commands (device_after device (Hears payload drawn)) }
+    ensures judges { (past : Past) (node : ℕ) (c : Courses) (device : State) (held : Held) (payload drawn : List ℕ) → AtLock past c device →
+        device.node ≡ node → HostMeans past node payload held → Names c.sessions.device (as_session held) → NamesNonce c held →
+        Judges past.orders past.commands device (device_after device (Hears payload drawn)) }
     ensures other { (past : Past) (c : Courses) (device : State) (event : DeviceEvent) → AtLock past c device → HearsNone event →
         AtLock past c (device_after device event) × (device_replies device event ≡ []) }
 {

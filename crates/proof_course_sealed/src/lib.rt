@@ -6,10 +6,12 @@
 //! (`outsides_follow_the_courses`), what the host does and judges (`hosts_do_as_the_courses_have_it`,
 //! `hosts_judge_as_the_courses_have_it`), every event of the machine (`worlds_follow_the_courses`) and so any lines
 //! from the first on (`lines_have_courses`) are steps of such courses; and that each success that the host is told of
-//! the node is true at the moment it is told. There is no code here.
+//! the node is true at the moment it is told. What a lock makes of its sessions at each event is what its kind says of
+//! them (`locks_judge_what_is_asked`). The kinds of devices tell which nodes are locks (`locks_as_made_begin_courses`).
+//! There is no code here.
 //!
 //! The definitions are in `specs/`: `Labels` (what is on its way, by numbers), `Courses` (the three side by side),
-//! `Meaning` (what a label says of bytes); where the courses are: `Lock` and `Device`, `Air`, `Mesh`, `Lines`,
+//! `Meaning` (what a label says of bytes), `LockNodes`; where the courses are: `Lock` and `Device`, `Air`, `Mesh`, `Lines`,
 //! `Outside`, `Host` and `HostGoing`, `World`.
 //! Whoever depends on courses of both kinds names this crate alone: `Plain`, and what is used from `proof_course_plain`
 //! below, are of the other kind.
@@ -18,6 +20,8 @@
 mod air;
 mod device;
 mod host;
+mod judging;
+mod made;
 mod mesh;
 mod outside;
 mod ways;
@@ -26,6 +30,8 @@ mod world;
 pub use air::frames_follow_the_courses;
 pub use device::locks_follow_the_courses;
 pub use host::{hosts_do_as_the_courses_have_it, hosts_judge_as_the_courses_have_it};
+pub use judging::locks_judge_what_is_asked;
+pub use made::locks_as_made_begin_courses;
 pub use mesh::arrivals_follow_the_courses;
 pub use outside::outsides_follow_the_courses;
 pub use proof_course_plain::{

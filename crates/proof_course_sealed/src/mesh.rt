@@ -8,6 +8,7 @@ ghost use Rattle.device_sim.specs.Event.{DeviceEvent, Ticks, device_after, devic
 ghost use Rattle.mesh_sim.specs.Air.{is_joined};
 ghost use Rattle.mesh_sim.specs.Fates.{Mesh, place_of};
 ghost use Rattle.mesh_sim.specs.Steps.{Arrives, Repeats, mesh_after, mesh_outs, MayHappen, answered_if};
+ghost use Rattle.proof_course_plain.specs.Judged.{JudgesEach};
 ghost use Rattle.proof_course_plain.specs.Making.{HearsNone};
 ghost use Rattle.proof_course_plain.specs.Mesh.{brought};
 ghost use Rattle.proof_course_sealed.specs.Courses.{Courses, CoursesFacts};
@@ -26,7 +27,8 @@ use proof_course_plain::{
 
 /// The next frame arrives, or one is heard again that may be: by the lock of the node, by another device, by the chip or by nobody. What a
 /// device answers goes on the air where it is joined; so does what the first device of a node says at an event of its own, at which a lock
-/// says nothing. Any device ticks: where there are more of the node, the others say nothing.
+/// says nothing. Any device ticks: where there are more of the node, the others say nothing. And what the lock makes of its sessions as it hears, ticks
+/// or is woken is what its kind says of them.
 pub fn arrivals_follow_the_courses()
     ensures arrives { (past : Past) (node : ℕ) (c : Courses) (mesh : Mesh) (drawn : List ℕ) (route : Option TheRoute) → node < 233 →
         CoursesFacts c → InMesh past node c mesh → MayHappen mesh (Arrives drawn route) →
@@ -50,6 +52,8 @@ pub fn arrivals_follow_the_courses()
               (device_replies device (Ticks drawn));
           devices = slice_set mesh.devices place (device_after device (Ticks drawn));
         }) [] }
+    ensures judges { (past : Past) (node : ℕ) (c : Courses) (mesh : Mesh) → node < 233 → CoursesFacts c → (is : InMesh past node c mesh) →
+        JudgesEach node past.orders past.commands mesh.air.frames is.device.device }
 {
     frames_fly_in_order();
     frames_follow_the_courses();

@@ -7,7 +7,6 @@ pub mod Opening
 pub mod Knowing
 pub mod Carrying
 pub mod PlainTying
-pub mod LockBeginning
 pub mod LockTying
 pub mod Sorting
 pub use Rattle.proof_spoken.proofs.Entering

@@ -3,7 +3,7 @@ use Rattle.std.proofs.Common.{◌≡◌, ◌⊎◌, Bool, true, false, inl, inr,
 use Rattle.device_kinds.specs.Kind.{lists}
 use Rattle.device_kinds.specs.declared.kind.Kind.{Kind}
 use Rattle.proof_headline.specs.Plain.{IsPlainKind}
-use Rattle.proof_headline.specs.Locks.{IsLockKind}
+use Rattle.proof_course_sealed.specs.LockNodes.{IsLockKind}
 
 by_sealed : (sealed : Bool) (kind : Kind) → lists kind 0x6C ≡ true → lists kind 0x98 ≡ sealed → IsPlainKind kind ⊎ IsLockKind kind
 by_sealed true kind knows is = inr (record { supervised = knows; sealed = is })

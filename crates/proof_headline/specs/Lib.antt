@@ -1,5 +1,4 @@
 pub mod Truly
 pub mod Plain
-pub mod Locks
 pub mod Supervised
 pub use Rattle.proof_spoken.specs.proof_device as proof_device

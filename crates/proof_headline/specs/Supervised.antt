@@ -5,7 +5,7 @@ use Rattle.device_sim.specs.State.{State}
 use Rattle.law_transcript.specs.Nodes.{device_of, is_supervised}
 use Rattle.world_model.specs.Events.{Event}
 use Rattle.proof_headline.specs.Plain.{IsPlain}
-use Rattle.proof_headline.specs.Locks.{IsLockNode}
+use Rattle.proof_course_sealed.specs.LockNodes.{IsLockNode}
 
 -- a node whose device, the first of it in the list, takes commands in sessions: its kind lists Supervision
 pub record IsSupervisedNode (devices : List State) (node : ℕ) : Type 0 where

@@ -12,8 +12,8 @@ ghost use Rattle.world_model.specs.Did.{MayAll};
 ghost use Rattle.proof_spoken.specs.proof_serial.Line.{AreLines};
 ghost use Rattle.proof_headline.specs.Supervised.{IsPlainOrLock, IsSupervisedNode};
 
-use crate::lock_nodes::locks_as_made_begin_courses;
 use crate::plain_nodes::{devices_as_made_begin_courses, orders_go_plain};
+use proof_course_sealed::locks_as_made_begin_courses;
 
 /// Of devices as their makers left them, over any lines: a node whose device lists Supervision is plain, or one of a lock.
 pub fn supervised_nodes_are_plain_or_locks()

@@ -12,8 +12,8 @@
 //! what follows of a host and its devices that are tied (`proof_once`) and with what was said (`proof_spoken`); for
 //! lines that were read it is `lines_have_the_headline`.
 //!
-//! Each law is the contract of a function with an empty body. The definitions are in `specs/`: `Truly`; `Plain`,
-//! `Locks` and `Supervised` say what such nodes and kinds are.
+//! Each law is the contract of a function with an empty body. The definitions are in `specs/`: `Truly`; `Plain`
+//! and `Supervised` say what such nodes and kinds are.
 #![tactic(auto)]
 
 mod devices;
@@ -27,7 +27,7 @@ pub use headline::{
     lines_have_the_headline, others_are_told_nothing, runs_have_the_headline,
     runs_report_after_the_change, successes_follow_changes,
 };
-pub use lock_nodes::{locks_are_tied, locks_as_made_begin_courses};
+pub use lock_nodes::locks_are_tied;
 pub use nodes::{
     askable_nodes_have_the_headline, nodes_are_tied, nodes_have_the_headline,
     nodes_report_after_the_change,

@@ -1,12 +1,9 @@
-//! Locks, which take their commands sealed: which they are by the kinds of their devices, and that both ends are tied.
+//! Locks, which take their commands sealed: that both ends are tied.
 
 ghost use Rattle.std.specs.Prelude.{◌≡◌, ℕ, List, Some, []};
-ghost use Rattle.std.specs.List.{AllByRecursion};
-ghost use Rattle.s0_crypto.specs.Sealing.{keys_of};
 ghost use Rattle.device_sim.specs.State.{State};
-ghost use Rattle.law_transcript.specs.Headline.{IsAsMade};
 ghost use Rattle.law_transcript.specs.Nodes.{device_of};
-ghost use Rattle.proof_headline.specs.Locks.{IsLockKind, IsLockNode};
+ghost use Rattle.proof_course_sealed.specs.LockNodes.{IsLockNode};
 ghost use Rattle.s0_crypto.specs.declared.key_pair.Keys.{Keys};
 ghost use Rattle.world_model.specs.State.{first_machine};
 ghost use Rattle.proof_spoken.specs.proof_once.Tied.{AreTied};
@@ -14,20 +11,8 @@ ghost use Rattle.world_lines.specs.Spoken.{Spoken, after_all};
 ghost use Rattle.world_lines.specs.Done.{AreDone};
 ghost use Rattle.proof_headline.specs.Truly.{LinesAreTrue};
 
-use proof_course_sealed::{
-    idle_devices_stay_idle, lines_ask_plainly, lines_have_courses, locks_follow_the_courses,
-};
+use proof_course_sealed::{lines_ask_plainly, lines_have_courses};
 use proof_spoken::{courses_tie_their_ends, lines_keep_and_ask_well};
-
-/// Of devices as their makers left them, the first of a node is at the beginning of the courses of it, with the keys of the network, where
-/// it takes commands in sessions and sealed; the others of the node are idle.
-pub fn locks_as_made_begin_courses()
-    ensures { (key : List ℕ) (devices : List State) (node : ℕ) (device : State) → AllByRecursion (IsAsMade key) devices → device_of node devices ≡ Some device →
-        IsLockKind device.kind → IsLockNode (keys_of key) devices node }
-{
-    idle_devices_stay_idle();
-    locks_follow_the_courses();
-}
 
 /// Over any lines that were read, a lock is tied to the host in the end, and each success that the host is told of it is true at the moment it is told.
 pub fn locks_are_tied()

@@ -1,5 +1,5 @@
--- What is ordered in a stretch is in hand from then on: it waits behind 16 others at most.
-use Rattle.std.proofs.Common.{◌≡◌, ◌≤◌, ◌<◌, ℕ, zero, suc, ◌+◌, ◌-◌, ◌&&◌, ◌||◌, inl, inr, Bool, true, false, if◌then◌else◌, List, [], ◌∷◌, ◌++◌, length, refl, sym, ap, ◌∙◌, subst, arith}
+-- What is ordered in a stretch is in hand from then on, as is what waits for a node that counts as asleep: it waits behind 16 others at most.
+use Rattle.std.proofs.Common.{◌≡◌, ◌≤◌, ◌<◌, ℕ, zero, suc, ◌+◌, ◌-◌, ◌&&◌, inl, inr, Bool, true, false, if◌then◌else◌, List, [], ◌∷◌, ◌++◌, length, length-append, refl, sym, ap, ◌∙◌, subst, arith}
 use Rattle.std.proofs.lemmas.List.{get_or-set_same, length-set}
 use Rattle.std.specs.Option.{is_some}
 use Rattle.std.specs.Prelude.{◌⊎◌, Option, Some, None}
@@ -28,6 +28,11 @@ use Rattle.world_model.specs.Events.{Event, happens, entries, May}
 use Rattle.world_model.specs.State.{Machine}
 use Rattle.proof_course_plain.specs.proof_host.Tables.{taken_at, taken_by}
 use Rattle.proof_spoken.proofs.Orders.{event_kept}
+use Rattle.law_time.specs.Stretches.{turns, wakes_never}
+use Rattle.proof_answered.specs.proof_calm.proof_traffic.OnAir.{on_air}
+use Rattle.proof_answered.specs.proof_calm.Tied.{unheard}
+use Rattle.proof_answered.specs.Sleepers.{Comes_home, Flies_home, OneWakes}
+use Rattle.proof_answered.specs.Workers.{KnowWorkers, Staffed}
 use Rattle.proof_answered.specs.proof_calm.proof_work.Phases.{AsksNothing}
 use Rattle.proof_answered.specs.proof_calm.proof_work.proof_walk.Phases.{Phase, Between, Goes}
 use Rattle.proof_answered.specs.proof_calm.proof_work.proof_walk.Walk.{WalkWhere}
@@ -36,14 +41,16 @@ use Rattle.proof_answered.proofs.FirstWalk.{first_on}
 use Rattle.proof_answered.proofs.TurnOrder.{turn_most}
 use Rattle.proof_answered.proofs.Unmarked.{nothing_asked}
 use Rattle.proof_answered.proofs.proof_traffic_Parts.{Airs}
-use Rattle.proof_in_time.specs.Coming.{IsKeptFor}
-use Rattle.proof_in_time.specs.InStep.{IsPlainly}
+use Rattle.proof_in_time.specs.Coming.{AreWaiting, IsKeptFor, WaitsFor}
+use Rattle.proof_in_time.specs.Sleeping.{ComesUp, Flies, IsPlainlyUp, Told}
 use Rattle.proof_in_time.specs.InHand.{StandsAt, ticks_blocked, ticks_enough, ticks_of_all}
-use Rattle.proof_in_time.proofs.InHand.{Any, Due, Ends, HandAt, HasTurn, Idles, KeptLaws, Runs, any_kept, ends_kept, event_hand, goes_on, hand_as, three_true}
+use Rattle.proof_in_time.proofs.InHand.{Due, Ended, EndsLater, Goes_on, HasTurn, Idles, KeptLaws, Rests, Runs, Sleeps_on, event_hand, later_hand_as, later_kept, three_true}
 use Rattle.proof_in_time.proofs.InTurn.{ComesTo, In_turn}
 use Rattle.proof_in_time.proofs.Keeping.{kept_before, none_unkept, told_kept}
 use Rattle.proof_in_time.proofs.Lasting.{in_time, node_within}
-use Rattle.proof_in_time.proofs.Nearing.{IsHeldSoon, IsOverSoon, KnowServed, RunsOn, Soon, idle_of}
+use Rattle.proof_in_time.proofs.Nearing.{EndsSoon, Ends_soon, Enough, IsHeldSoon, IsOverSoon, Never, NeverRests, RunsOn, Soon, WaitsOn, Wakes_soon, idle_of}
+use Rattle.proof_in_time.proofs.Rising.{HasRisen, IsServed, RestsAt, one_comes, one_flies, rests_at, risen_or, risen_served, serves_now}
+use Rattle.proof_in_time.proofs.Serving.{KnowServed}
 
 -- ---- a node that is given a command
 
@@ -51,43 +58,78 @@ use Rattle.proof_in_time.proofs.Nearing.{IsHeldSoon, IsOverSoon, KnowServed, Run
 abbrev pub Few : ℕ → Type 0
 Few more = more ≤ 17
 
+abbrev pub Fewer : ℕ → Type 0
+Fewer more = more ≤ 16
+
+-- whatever becomes of the node
+abbrev pub FewWait : ℕ → NodeState → Type 0
+FewWait command x = EndsLater command Few Few Few NeverRests Fewer x
+
 module _ (command : ℕ) where
-  few_kept : KeptLaws (Ends command Few Few Few)
-  few_kept = ends_kept command Few Few Few (λ more few. few) (λ more few. omega (arith, few)) (λ more few. omega (arith, few)) (λ more few. omega (arith, few)) (λ more few. few)
+  pub few_kept : KeptLaws (FewWait command)
+  few_kept =
+      later_kept command Few Few Few (λ more few. few) (λ more few. omega (arith, few)) (λ more few. omega (arith, few)) (λ more few. omega (arith, few)) (λ more few. few) NeverRests (λ more wait w. w) (λ more wait w. absurd w) (λ more wait w. absurd w)
+      (λ more wait w. absurd w) Fewer (λ more few. omega (arith, few)) (λ more few. omega (arith, few))
 
-  -- where a session is open whose series is over, another series is due then
-  renewed : (y : NodeState) (session place : ℕ) → y.listens ≡ true → open_session y.book ≡ Some session → y.series ≡ series.Idle → StandsAt command place y.waiting → place ≤ 16 → Ends command Few Few Few (after_occasion y)
-  renewed y session place listens opened idle at few =
-      let all : (is_open y && is_up y && is_idle y.series) ≡ true =
-      three_true (is_open y) (is_up y) (is_idle y.series) (ap (λ (o : Option ℕ). is_some o) opened) (ap (λ (b : Bool). b || y.awake) listens) (ap is_idle idle) in
-      subst (λ (b : Bool). Ends command Few Few Few (if b then new_series y else y)) (sym all) (Due (suc place) session opened refl at (omega (arith, few)) (λ blocked. omega (arith, few)))
+  -- it waits where a series is due or runs, or none is open
+  busy_waits : (y : NodeState) (place : ℕ) → StandsAt command place y.waiting → place ≤ 16 → (session : ℕ) → open_session y.book ≡ Some session → (y.series ≡ series.Due) ⊎ (y.series ≡ series.Running) → FewWait command y
+  busy_waits y place at few session open_is (inl due) = Goes_on (Due (suc place) session open_is due at (omega (arith, few)) (λ blocked. omega (arith, few)))
+  busy_waits y place at few session open_is (inr run) = Goes_on (Runs (suc place) session open_is run at (omega (arith, few)) (λ blocked. omega (arith, few)))
 
-  accepted_ends : (x : NodeState) → NodeFacts x → x.listens ≡ true → Ends command Few Few Few (after_node (after_node x (Puts command)) node_accepts)
-  accepted_ends x facts listens = by (open_session x.book) refl
+  -- where a session is open whose series is over, another series is due then, or the node counts as asleep
+  renewed : (y : NodeState) (session place : ℕ) → open_session y.book ≡ Some session → y.series ≡ series.Idle → StandsAt command place y.waiting → place ≤ 16 → FewWait command (after_occasion y)
+  renewed y session place opened idle at few = by (is_up y) refl
     where
-      y : NodeState
-      y = after_node x (Puts command)
+      by : (b : Bool) → is_up y ≡ b → FewWait command (after_occasion y)
+      by true up =
+          let all : (is_open y && is_up y && is_idle y.series) ≡ true = three_true (is_open y) (is_up y) (is_idle y.series) (ap (λ (o : Option ℕ). is_some o) opened) up (ap is_idle idle) in
+          subst (λ (b : Bool). FewWait command (if b then new_series y else y)) (sym all) (Goes_on (Due (suc place) session opened refl at (omega (arith, few)) (λ blocked. omega (arith, few))))
+      by false down = few_kept.occasion y (Sleeps_on place down idle at few)
 
+  accepted_waits : (x : NodeState) → NodeFacts x → FewWait command (after_node (after_node x (Puts command)) node_accepts)
+  accepted_waits x facts = by (open_session x.book) refl
+    where
       few : length x.waiting ≤ 16
       few = facts.waiting
 
       at : StandsAt command (length x.waiting) (after_node x (Puts command)).waiting
       at = record { before = x.waiting; behind = []; are = refl; place_is = refl }
 
-      opened : (session : ℕ) → open_session x.book ≡ Some session → (s : Series) → x.series ≡ s → Ends command Few Few Few (after_occasion (after_node x (Puts command)))
-      opened session open_is series.Idle so = renewed (after_node x (Puts command)) session (length x.waiting) listens open_is so at few
-      opened session open_is series.Due so = few_kept.occasion (after_node x (Puts command)) (Due (suc (length x.waiting)) session open_is so at (omega (arith, few)) (λ blocked. omega (arith, few)))
-      opened session open_is series.Running so = few_kept.occasion (after_node x (Puts command)) (Runs (suc (length x.waiting)) session open_is so at (omega (arith, few)) (λ blocked. omega (arith, few)))
+      opened : (session : ℕ) → open_session x.book ≡ Some session → (s : Series) → x.series ≡ s → FewWait command (after_occasion (after_node x (Puts command)))
+      opened session open_is series.Idle so = renewed (after_node x (Puts command)) session (length x.waiting) open_is so at few
+      opened session open_is series.Due so = few_kept.occasion (after_node x (Puts command)) (busy_waits (after_node x (Puts command)) (length x.waiting) at few session open_is (inl so))
+      opened session open_is series.Running so = few_kept.occasion (after_node x (Puts command)) (busy_waits (after_node x (Puts command)) (length x.waiting) at few session open_is (inr so))
 
-      by : (o : Option ℕ) → open_session x.book ≡ o → Ends command Few Few Few (after_occasion (after_node x (Puts command)))
-      by None none = few_kept.occasion (after_node x (Puts command)) (Idles (length x.waiting) none (idle_of x facts none) at (λ free. omega (arith, few)) (λ blocked. omega (arith, few)))
+      by : (o : Option ℕ) → open_session x.book ≡ o → FewWait command (after_occasion (after_node x (Puts command)))
+      by None none = few_kept.occasion (after_node x (Puts command)) (Goes_on (Idles (length x.waiting) none (idle_of x facts none) at (λ free. omega (arith, few)) (λ blocked. omega (arith, few))))
+      by (Some session) open_is = opened session open_is x.series refl
+
+  -- one that waits for a node that counts as asleep
+  pub asleep_waits : (x : NodeState) (place : ℕ) → NodeFacts x → is_up x ≡ false → StandsAt command place x.waiting → FewWait command x
+  asleep_waits x place facts down at = by (open_session x.book) refl
+    where
+      few : place ≤ 16
+      few =
+          let all : length x.waiting ≡ length at.before + length (command ∷ at.behind) = ap (λ (ws : List ℕ). length ws) at.are ∙ length-append at.before (command ∷ at.behind) in
+          let is = at.place_is in
+          let most = facts.waiting in
+          omega (arith, all, is, most)
+
+      opened : (session : ℕ) → open_session x.book ≡ Some session → (s : Series) → x.series ≡ s → FewWait command x
+      opened session open_is series.Idle so = Sleeps_on place down so at few
+      opened session open_is series.Due so = busy_waits x place at few session open_is (inl so)
+      opened session open_is series.Running so = busy_waits x place at few session open_is (inr so)
+
+      by : (o : Option ℕ) → open_session x.book ≡ o → FewWait command x
+      by None none = Goes_on (Idles place none (idle_of x facts none) at (λ free. omega (arith, few)) (λ blocked. omega (arith, few)))
       by (Some session) open_is = opened session open_is x.series refl
 
 -- ---- a host, from the first of its commands that counts on
 
--- each command of the node behind so many is in hand
-abbrev pub InHandFrom : ℕ → ℕ → HostState → Type 0
-InHandFrom n start h = (command : ℕ) (taken : Taken) → taken_at h.commands command ≡ Some taken → taken.order.node ≡ n → start + 1 ≤ command → Ends command Few Few Few (node_of h n)
+-- each command of the node behind so many is in hand, and each that waited for it then
+pub record InHandFrom (n start : ℕ) (waited : List ℕ) (h : HostState) : Type 0 where
+  pub since : (command : ℕ) (taken : Taken) → taken_at h.commands command ≡ Some taken → taken.order.node ≡ n → start + 1 ≤ command → FewWait command (node_of h n)
+  pub before : (command place : ℕ) → StandsAt command place waited → FewWait command (node_of h n)
 
 pushed_at : (commands : List Command) (one : Command) (number : ℕ) (taken : Taken) → taken_at (commands ++ one ∷ []) number ≡ Some taken
     → (taken_at commands number ≡ Some taken) ⊎ ((number ≡ length commands + 1) × (taken_by (Some one) ≡ Some taken))
@@ -109,20 +151,19 @@ none_past [] (suc place) taken found later = absurd cc
 none_past (first ∷ commands) (suc zero) taken found later = absurd (omega (arith, later))
 none_past (first ∷ commands) (suc (suc place)) taken found later = none_past commands (suc place) taken found (omega (arith, later))
 
-pub none_yet : (n : ℕ) (h : HostState) → InHandFrom n (length h.commands) h
-none_yet n h command taken found node later = absurd (none_past h.commands command taken found later)
+-- at the beginning those of before alone are, if the node counts as asleep
+pub none_yet : (n : ℕ) (h : HostState) (waited : List ℕ) → ((command place : ℕ) → StandsAt command place waited → FewWait command (node_of h n)) → InHandFrom n (length h.commands) waited h
+none_yet n h waited before = record { since = λ command taken found node later. absurd (none_past h.commands command taken found later); before = before }
 
-module _ (facts_kept : (h : HostState) (event : HostEvent) → HostFacts h → MayHost h event → HostFacts (after h event)) (n : ℕ) (within : n < 233) (start : ℕ) where
+module _ (facts_kept : (h : HostState) (event : HostEvent) → HostFacts h → MayHost h event → HostFacts (after h event)) (n : ℕ) (within : n < 233) (start : ℕ) (waited : List ℕ) where
   record On (h : HostState) : Type 0 where
     pub facts : HostFacts h
-    pub listens : (node_of h n).listens ≡ true
-    pub all : InHandFrom n start h
+    pub all : InHandFrom n start waited h
 
-  same_hand : (h : HostState) (event : HostEvent) → LastsAt h event → MayHost h event → On h → (command : ℕ) → Ends command Few Few Few (node_of h n) → Ends command Few Few Few (node_of (after h event) n)
-  same_hand h event lasts may on command ends =
-      let later = event_hand (Ends command Few Few Few) (few_kept command) n within h event lasts may
-      (record { places = on.facts.nodes.places; hand = record { listens = on.listens; ends = ends } }) in
-      later.hand.ends
+  same_hand : (h : HostState) (event : HostEvent) → LastsAt h event → MayHost h event → On h → (command : ℕ) → FewWait command (node_of h n) → FewWait command (node_of (after h event) n)
+  same_hand h event lasts may on command waits =
+      let later = event_hand (FewWait command) (few_kept command) n within h event lasts may (record { places = on.facts.nodes.places; hand = waits }) in
+      later.hand
 
   accepted_node : (h : HostState) (order : Order) (carriage : Carriage) → length h.nodes ≡ 233 → order.node < 233
       → node_of (after h (Accepts order carriage)) order.node ≡ after_node (after_node (node_of h order.node) (Puts (length h.commands + 1))) node_accepts
@@ -136,53 +177,53 @@ module _ (facts_kept : (h : HostState) (event : HostEvent) → HostFacts h → M
       between : List NodeState
       between = with_node_among h.nodes order.node (after_node (node_of h order.node) (Puts (length h.commands + 1)))
 
-  accepted_here : (h : HostState) (order : Order) (carriage : Carriage) → On h → order.node ≡ n → Ends (length h.commands + 1) Few Few Few (node_of (after h (Accepts order carriage)) n)
+  accepted_here : (h : HostState) (order : Order) (carriage : Carriage) → On h → order.node ≡ n → FewWait (length h.commands + 1) (node_of (after h (Accepts order carriage)) n)
   accepted_here h order carriage on same =
       let few : order.node < 233 = subst (λ (k : ℕ). k < 233) (sym same) within in
-      let listens : (node_of h order.node).listens ≡ true = subst (λ (k : ℕ). (node_of h k).listens ≡ true) (sym same) on.listens in
-      subst (λ (k : ℕ). Ends (length h.commands + 1) Few Few Few (node_of (after h (Accepts order carriage)) k)) same
-      (subst (Ends (length h.commands + 1) Few Few Few) (sym (accepted_node h order carriage on.facts.nodes.places few)) (accepted_ends (length h.commands + 1) (node_of h order.node) (on.facts.nodes.facts order.node) listens))
+      subst (λ (k : ℕ). FewWait (length h.commands + 1) (node_of (after h (Accepts order carriage)) k)) same
+      (subst (FewWait (length h.commands + 1)) (sym (accepted_node h order carriage on.facts.nodes.places few)) (accepted_waits (length h.commands + 1) (node_of h order.node) (on.facts.nodes.facts order.node)))
 
-  all_after : (h : HostState) (event : HostEvent) → LastsAt h event → MayHost h event → On h → InHandFrom n start (after h event)
-  all_after h (Accepts order carriage) lasts may on command taken found node later = by (pushed_at h.commands _ command taken found)
+  since_after : (h : HostState) (event : HostEvent) → LastsAt h event → MayHost h event → On h → (command : ℕ) (taken : Taken) → taken_at (after h event).commands command ≡ Some taken → taken.order.node ≡ n → start + 1 ≤ command
+      → FewWait command (node_of (after h event) n)
+  since_after h (Accepts order carriage) lasts may on command taken found node later = by (pushed_at h.commands _ command taken found)
     where
-      by : (taken_at h.commands command ≡ Some taken) ⊎ ((command ≡ length h.commands + 1) × (Some (record { order = order; carriage = carriage }) ≡ Some taken)) → Ends command Few Few Few (node_of (after h (Accepts order carriage)) n)
-      by (inl was) = same_hand h (Accepts order carriage) lasts may on command (on.all command taken was node later)
+      by : (taken_at h.commands command ≡ Some taken) ⊎ ((command ≡ length h.commands + 1) × (Some (record { order = order; carriage = carriage }) ≡ Some taken)) → FewWait command (node_of (after h (Accepts order carriage)) n)
+      by (inl was) = same_hand h (Accepts order carriage) lasts may on command (on.all.since command taken was node later)
       by (inr (number, one)) =
           let it : ◌≡◌ {A = Taken} (record { order = order; carriage = carriage }) taken = cc in
           let same : order.node ≡ n = ap (λ (t : Taken). t.order.node) it ∙ node in
-          subst (λ (k : ℕ). Ends k Few Few Few (node_of (after h (Accepts order carriage)) n)) (sym number) (accepted_here h order carriage on same)
-  all_after h event lasts may on command taken found node later =
-      same_hand h event lasts may on command (on.all command taken (sym ((event_kept h event tt).taken command) ∙ found) node later)
+          subst (λ (k : ℕ). FewWait k (node_of (after h (Accepts order carriage)) n)) (sym number) (accepted_here h order carriage on same)
+  since_after h event lasts may on command taken found node later =
+      same_hand h event lasts may on command (on.all.since command taken (sym ((event_kept h event tt).taken command) ∙ found) node later)
 
   on_kept : (h : HostState) (event : HostEvent) → LastsAt h event → MayHost h event → On h → On (after h event)
-  on_kept h event lasts may on = record { facts = facts_kept h event on.facts may; listens = later.hand.listens; all = all_after h event lasts may on }
-    where
-      later : HandAt Any any_kept n (after h event).nodes
-      later = event_hand Any any_kept n within h event lasts may (record { places = on.facts.nodes.places; hand = record { listens = on.listens; ends = tt } })
+  on_kept h event lasts may on = record {
+    facts = facts_kept h event on.facts may;
+    all = record { since = since_after h event lasts may on; before = λ command place at. same_hand h event lasts may on command (on.all.before command place at) };
+  }
 
 -- ---- the walk
 
--- what is known beside: each command of these nodes that was accepted since is in hand
-abbrev pub KnowAccepted : List Bool → ℕ → Phase → List Entry → Machine → Type 0
-KnowAccepted these start here past m = KnowServed these here past m × (IsKeptFor these past → (n : ℕ) → is_marked these n ≡ true → InHandFrom n start m.host.state)
+-- what is known beside: each command of these nodes that was accepted since is in hand, and each that waited
+abbrev pub KnowAccepted : Bool → List Bool → ℕ → (ℕ → List ℕ) → Phase → List Entry → Machine → Type 0
+KnowAccepted listening these start waited here past m = KnowServed listening these here past m × (IsKeptFor these past → (n : ℕ) → is_marked these n ≡ true → InHandFrom n start (waited n) m.host.state)
 
-module _ (airs : Airs) (these : List Bool) (many : length these ≡ 233) (none : is_marked these 0 ≡ false) (facts_kept : (h : HostState) (event : HostEvent) → HostFacts h → MayHost h event → HostFacts (after h event)) (start : ℕ)
-    (served : WalkWhere (IsPlainly these) AsksNothing (KnowServed these)) where
-  accepted_on : (here next : Phase) (past : List Entry) (m : Machine) (event : Event) → Goes here m event next → May m event → IsKeptFor these (past ++ entries m event) → KnowAccepted these start here past m
-      → (n : ℕ) → is_marked these n ≡ true → InHandFrom n start (happens m event).host.state
+module _ (airs : Airs) (these : List Bool) (many : length these ≡ 233) (none : is_marked these 0 ≡ false) (facts_kept : (h : HostState) (event : HostEvent) → HostFacts h → MayHost h event → HostFacts (after h event)) (listening : Bool) (start : ℕ)
+    (waited : ℕ → List ℕ) (served : WalkWhere (IsPlainlyUp these) AsksNothing (KnowServed listening these)) where
+  accepted_on : (here next : Phase) (past : List Entry) (m : Machine) (event : Event) → Goes here m event next → May m event → IsKeptFor these (past ++ entries m event) → KnowAccepted listening these start waited here past m
+      → (n : ℕ) → is_marked these n ≡ true → InHandFrom n start (waited n) (happens m event).host.state
   accepted_on here next past m event goes may is known n marked =
       let before = kept_before these past (entries m event) is in
       let stretched = before.worked.stretched in
-      let staff = known.0.0.0.0 before.worked in
-      let tied = (staff.0.0 stretched).0.0.tied stretched.quiet in
+      let staff = (known.0.0.0 before).0 in
+      let tied = (staff.0.0 stretched).0.tied stretched.quiet in
       let node = node_within these many none n marked in
       let below : n < 233 = (let few = node.1 in omega (arith, few)) in
-      let later = first_on (On facts_kept n below start) (on_kept facts_kept n below start) airs here next m event goes may (in_time these here past m event before known.0.0.0) tied.0 tied.1 tied.6 (staff.0.0 stretched).0.1
-      (λ k same on. absurd (none_unkept m event (told_kept these past (entries m event) is) k same)) (record { facts = tied.7.facts; listens = (known.0.1 before).serve.listens n marked; all = known.1 before n marked }) in
+      let later = first_on (On facts_kept n below start (waited n)) (on_kept facts_kept n below start (waited n)) airs here next m event goes may (in_time these here past m event before known.0.0.0) tied.0 tied.1 tied.6 (staff.0.0 stretched).1
+      (λ k same on. absurd (none_unkept m event (told_kept these past (entries m event) is) k same)) (record { facts = tied.7.facts; all = known.1 before n marked }) in
       later.all
 
-  pub accepted_walk : WalkWhere (IsPlainly these) AsksNothing (KnowAccepted these start)
+  pub accepted_walk : WalkWhere (IsPlainlyUp these) AsksNothing (KnowAccepted listening these start waited)
   accepted_walk = record {
     said = λ past m words line read known. (tt, ((served.said past m words line read known.0).1, λ is. known.1 (kept_before these past (entry.Said words ∷ []) is)));
     event = λ here next past m event goes may plain known. (
@@ -199,14 +240,19 @@ all_most these zero b less = omega arith
 all_most these (suc a) zero less = absurd (omega (arith, less))
 all_most these (suc a) (suc b) less = let more = all_most these a b (omega (arith, less)) in omega (arith, more)
 
-pub soon_of : (these : List Bool) (n command ticks : ℕ) (taken : Taken) (start : ℕ) (past : List Entry) (m : Machine) → is_marked these n ≡ true → IsNode n → KnowAccepted these start Between past m → taken_at m.host.state.commands command ≡ Some taken
-    → taken.order.node ≡ n → start + 1 ≤ command → ticks_blocked (node_of m.host.state n) + ticks_of_all these 18 ≤ ticks → IsKeptFor these past → Soon these n command ticks Between m
-soon_of these n command ticks taken start past m marked node known found for_node later enough kept =
-    goes_on command (λ (more : ℕ). ComesTo these n (ticks - ticks_of_all these more) Between m) (λ (more : ℕ). RunsOn n (ticks - ticks_of_all these more) Between m) (λ (more : ℕ). IsHeldSoon these n ticks more Between)
-    (λ (more wait : ℕ). IsOverSoon these n ticks more wait Between) (node_of m.host.state n)
-    (hand_as command Few Few Few (λ (more : ℕ). ComesTo these n (ticks - ticks_of_all these more) Between m) (λ (more : ℕ). RunsOn n (ticks - ticks_of_all these more) Between m) (λ (more : ℕ). IsHeldSoon these n ticks more Between) (node_of m.host.state n) due
-    runs held
-    (record { listens = (known.0.1 kept).serve.listens n marked; ends = known.1 kept n marked command taken found for_node later }))
+pub blocked_most : (x : NodeState) → ticks_blocked x ≤ 1
+blocked_most x = by x.blocked
+  where
+    by : (b : Bool) → (if b then 1 else 0) ≤ 1
+    by true = omega arith
+    by false = omega arith
+
+-- a node that is served
+few_ends : (these : List Bool) (n command ticks : ℕ) (m : Machine) → IsNode n → IsServed n m.host.state → WaitsFor n 6 Between m → ticks_blocked (node_of m.host.state n) + ticks_of_all these 18 ≤ ticks → FewWait command (node_of m.host.state n)
+    → EndsSoon these n command ticks Between m
+few_ends these n command ticks m node served six enough waits =
+    later_hand_as command Few Few Few (λ (more : ℕ). ComesTo these n (ticks - ticks_of_all these more) Between m) (λ (more : ℕ). RunsOn n (ticks - ticks_of_all these more) Between m) (λ (more : ℕ). IsHeldSoon these n ticks more Between) NeverRests
+    (λ (more wait : ℕ). IsOverSoon these n ticks more wait Between) Fewer Never (node_of m.host.state n) (λ left. (served left).0) due runs held (λ more wait idle again w. absurd w) waits
   where
     left : (more : ℕ) → Few more → ticks_enough these ≤ ticks - ticks_of_all these more
     left more few = let all = all_most these (suc more) 18 (omega (arith, few)) in omega (arith, all, enough)
@@ -215,10 +261,54 @@ soon_of these n command ticks taken start past m marked node known found for_nod
     due more has few = let most = turn_most these m.host.state.served n node.1 in let some = left more few in In_turn (omega (arith, most, some))
 
     runs : (more : ℕ) → (node_of m.host.state n).series ≡ series.Running → Few more → RunsOn n (ticks - ticks_of_all these more) Between m
-    runs more so few = let some = left more few in record { most = 6; waits = (known.0.0.0.1 kept).waits n marked; few = omega (arith, some) }
+    runs more so few = let some = left more few in record { most = 6; waits = six; few = omega (arith, some) }
 
     held : (more : ℕ) → (node_of m.host.state n).blocked ≡ true → Few more → IsHeldSoon these n ticks more Between
     held more blocked few =
         let all = all_most these (suc more) 18 (omega (arith, few)) in
         let one : ticks_blocked (node_of m.host.state n) ≡ 1 = ap (λ (b : Bool). if b then 1 else 0) blocked in
         omega (arith, all, enough, one)
+
+-- the host listens to these nodes
+pub soon_of : (these : List Bool) (n command ticks : ℕ) (taken : Taken) (start : ℕ) (waited : ℕ → List ℕ) (past : List Entry) (m : Machine) → is_marked these n ≡ true → IsNode n → KnowAccepted true these start waited Between past m
+    → taken_at m.host.state.commands command ≡ Some taken → taken.order.node ≡ n → start + 1 ≤ command → ticks_blocked (node_of m.host.state n) + ticks_of_all these 18 ≤ ticks → IsKeptFor these past → Soon true these n command ticks Between past m
+soon_of these n command ticks taken start waited past m marked node known found for_node later enough kept =
+    let at = known.0.0.0 kept in
+    Ends_soon tt
+    (few_ends these n command ticks m node (serves_now true these n Between past m marked (known.0.1 kept).serve at.1.hears tt) (at.1.waits n marked) enough ((known.1 kept n marked).since command taken found for_node later))
+
+-- it sleeps, and its `wake` line was said: it has risen, or its Notification comes in the next tick
+pub soon_woken : (these : List Bool) (n command ticks start : ℕ) (waited : ℕ → List ℕ) (past : List Entry) (m : Machine) → is_marked these n ≡ true → IsNode n → KnowAccepted false these start waited Between past m → wakes_never (turns n past) ≡ false
+    → (InHandFrom n start (waited n) m.host.state → FewWait command (node_of m.host.state n)) → 2 + ticks_of_all these 18 ≤ ticks → IsKeptFor these past → Soon false these n command ticks Between past m
+soon_woken these n command ticks start waited past m marked node known woken counts enough kept = by (risen_or n rests.0.device Between past m rests.1 woken (λ wakes. wakes))
+  where
+    at : (KnowWorkers these Between past m × Staffed these Between m) × AreWaiting these Between past m
+    at = known.0.0.0 kept
+
+    rests : RestsAt n Between past m
+    rests = rests_at these n Between past m marked (known.0.1 kept).serve at.1.hears
+
+    waits : FewWait command (node_of m.host.state n)
+    waits = counts (known.1 kept n marked)
+
+    few : (more : ℕ) → Few more → Enough these 2 ticks more
+    few more less = let all = all_most these (suc more) 18 (omega (arith, less)) in omega (arith, all, enough)
+
+    as_many : FewWait command (node_of m.host.state n) → WaitsOn these command 2 ticks (node_of m.host.state n)
+    as_many (Goes_on (Ended is)) = Goes_on (Ended is)
+    as_many (Goes_on (Idles more none idle stands d v)) = Goes_on (Idles more none idle stands (λ free. few more (d free)) (λ blocked. few more (v blocked)))
+    as_many (Goes_on (Due more session opened so stands d v)) = Goes_on (Due more session opened so stands (few more d) (λ blocked. few more (v blocked)))
+    as_many (Goes_on (Runs more session opened so stands r v)) = Goes_on (Runs more session opened so stands (few more r) (λ blocked. few more (v blocked)))
+    as_many (Rests more session wait listens opened idle again stands w) = absurd w
+    as_many (Sleeps_on more down idle stands s) = Sleeps_on more down idle stands (few (suc more) (omega (arith, s)))
+
+    comes : OneWakes n m → ComesUp n 1 Between m
+    comes (Flies_home one pending) = Flies (one_flies n (on_air m.outside.outer.air.frames) one) (omega arith)
+    comes (Comes_home frames one) = let from = one_comes n (unheard m.outside.outer) one in Told from.payload from.tells from.has (omega arith)
+
+    by : OneWakes n m ⊎ HasRisen n Between past m → Soon false these n command ticks Between past m
+    by (inl one) = Wakes_soon refl 1 (comes one) (as_many waits)
+    by (inr risen) =
+        let served : IsServed n m.host.state = risen_served n rests.0.device Between past m rests.1 risen in
+        let blocked = blocked_most (node_of m.host.state n) in
+        Ends_soon risen (few_ends these n command ticks m node served (at.1.waits n marked) (omega (arith, enough, blocked)) waits)

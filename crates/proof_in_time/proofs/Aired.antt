@@ -118,7 +118,7 @@ same_node joined n more payload purpose id is asks =
     let later : asks.payload ≡ payload = cc in
     (first, later)
 
-same_taken : (s : ChipState) (joined : List Bool) (purpose : Purpose) (id : ℕ) (f : FrameParts) → f ≡ frame_of purpose id → (asks : AsksToSend joined purpose id) → 1 ≤ id → id ≤ 255 → (takes_it : IsTakenBy s f)
+pub same_taken : (s : ChipState) (joined : List Bool) (purpose : Purpose) (id : ℕ) (f : FrameParts) → f ≡ frame_of purpose id → (asks : AsksToSend joined purpose id) → 1 ≤ id → id ≤ 255 → (takes_it : IsTakenBy s f)
     → (takes_it.node ≡ asks.node) × (takes_it.payload ≡ asks.payload)
 same_taken s joined purpose id f is asks from to takes_it =
     let read : asked f ≡ Some (send asks.node asks.payload id) = ap asked (is ∙ ap request_frame asks.is) ∙ asked_send asks.node asks.payload id asks.is_node asks.some from to in
@@ -180,6 +180,56 @@ taken_air : (m : Machine) (rest : Rest) (ways : List (Item × Option Route)) →
 unfolding happens outcome
 taken_air m rest ways = (entered_leaves (outcome m.outside (Chip_takes (length m.outside.outer.to_chip.bytes) rest ways)).outer (outcome m.outside (Chip_takes (length m.outside.outer.to_chip.bytes) rest ways)).entries).air
 
+module _ (airs : Airs) (m : Machine) (awaits : Awaits m) (n : ℕ) (payload : List ℕ) (within : n < 233) (these : List Bool) (marked : is_marked these n ≡ true) (busy : m.host.state.side.turn ≡ no_turn → ⊥)
+    (same : (t : ChipState) (f : FrameParts) → m.host.state.side.turn ≡ Copied f 1 0 → (takes_it : IsTakenBy t f) → (takes_it.node ≡ n) × (takes_it.payload ≡ payload)) where
+  pub frame_airs : (passes : ℕ) (rest : Rest) (ways : List (Item × Option Route)) → ChipMayTake m rest ways → IsDone m ⊎ CanMove passes m → HasRoom m.outside.outer.chip.state → TieOf true m (on_line m.host.state.side.turn) → IsPeopled these m
+      → Stands (IsOnAir n payload) (on_air (chip_taken m rest ways).outside.outer.air.frames)
+  unfolding May MayOutside
+  frame_airs passes rest ways may (inl done) room tie peopled = absurd (busy done.line.at_host.turn_is)
+  frame_airs passes rest ways may (inr can) room tie peopled =
+      subst (λ (a : AirState). Stands (IsOnAir n payload) (on_air a.frames)) (sym (taken_air m rest ways)) (by can.live.line can.moves (part_tied m can.live.line rest ways can.moves may room tie).0)
+    where
+      items : List Item
+      items = map (λ (w : Item × Option Route). w.0) ways
+
+      reaches : Reaches m.outside.outer.chip.state.table these
+      reaches k of_these = let reached = peopled.live.reached k of_these in (reached.apart, (reached.over, reached.walk))
+
+      alone : (f : FrameParts) → HasNoMarks m.outside.outer → m.host.state.side.turn ≡ Copied f 1 0 → items ≡ Good (Framed f) ∷ [] → TakesEach m.outside.outer.chip.state ways
+          → Stands (IsOnAir n payload) (on_air (each chip_does (taken m.outside.outer rest) (judged_all ways)).outer.air.frames)
+      alone f quiet turn are takes_each =
+          let one = one_way ways (Good (Framed f)) are in
+          let takes_it : IsTakenBy m.outside.outer.chip.state f = (subst (TakesEach m.outside.outer.chip.state) one.1 takes_each).0 in
+          let is = same m.outside.outer.chip.state f turn takes_it in
+          subst (λ (l : List (Item × Option Route)). Stands (IsOnAir n payload) (on_air (each chip_does (taken m.outside.outer rest) (judged_all l)).outer.air.frames)) (sym one.1)
+          (frame_stands airs awaits.log (on_air m.outside.outer.air.frames) n payload within these marked (taken m.outside.outer rest) f one.0 (marks_of m.outside.outer rest quiet) takes_it reaches
+          (subst (λ (l : List (Item × Option Route)). ChipMayAll m.outside.outer.chip.state (judged_all l)) one.1 may.1.judges).0 is.0 is.1 awaits.follows.fly)
+
+      acked : (f : FrameParts) → HasNoMarks m.outside.outer → m.host.state.side.turn ≡ Copied f 1 0 → items ≡ Good Ack ∷ Good (Framed f) ∷ [] → TakesEach m.outside.outer.chip.state ways
+          → Stands (IsOnAir n payload) (on_air (each chip_does (taken m.outside.outer rest) (judged_all ways)).outer.air.frames)
+      acked f quiet turn are takes_each =
+          let two = two_ways ways (Good Ack) (Good (Framed f)) are in
+          let takes_it : IsTakenBy (after_chip m.outside.outer.chip.state (Judged (Good Ack) two.0)) f = (subst (TakesEach m.outside.outer.chip.state) two.2 takes_each).1.0 in
+          let is = same (after_chip m.outside.outer.chip.state (Judged (Good Ack) two.0)) f turn takes_it in
+          subst (λ (l : List (Item × Option Route)). Stands (IsOnAir n payload) (on_air (each chip_does (taken m.outside.outer rest) (judged_all l)).outer.air.frames)) (sym two.2)
+          (ack_frame_stands airs awaits.log (on_air m.outside.outer.air.frames) n payload within these marked (taken m.outside.outer rest) f two.0 two.1 (marks_of m.outside.outer rest quiet) takes_it reaches
+          (subst (λ (l : List (Item × Option Route)). ChipMayAll m.outside.outer.chip.state (judged_all l)) two.2 may.1.judges).1.0 is.0 is.1 awaits.follows.fly)
+
+      by : (at : Line m) → Moves at → TakesEach m.outside.outer.chip.state ways → Stands (IsOnAir n payload) (on_air (each chip_does (taken m.outside.outer rest) (judged_all ways)).outer.air.frames)
+      by (Free at) moves takes_each = absurd moves
+      by (Asks f fits at) moves takes_each =
+          let fed = fed_units (Framed f) [] m.outside.outer.to_chip.bytes m.outside.outer.chip.decoder rest items (fits, tt) at.at_chip.decoder at.at_chip.up_bytes may.1.feeds in
+          alone f at.unmarked at.at_host.turn_is fed.0 takes_each
+      by (Heard first ticks frames at) moves takes_each = absurd (busy at.at_host.turn_is)
+      by (Heard_asks f first ticks frames fits at) moves takes_each =
+          let fed = fed_units Ack (Framed f ∷ []) m.outside.outer.to_chip.bytes m.outside.outer.chip.decoder rest items (tt, (fits, tt)) at.at_chip.decoder at.at_chip.up_bytes may.1.feeds in
+          acked f at.unmarked at.at_host.turn_is fed.0 takes_each
+      by (Sent first ticks frames at) moves takes_each = absurd (busy at.at_host.turn_is)
+      by (Sent_asks f first ticks frames fits at) moves takes_each =
+          let fed = fed_units (Framed f) [] m.outside.outer.to_chip.bytes m.outside.outer.chip.decoder rest items (fits, tt) at.at_chip.decoder at.at_chip.up_bytes may.1.feeds in
+          alone f at.unmarked at.at_host.turn_is fed.0 takes_each
+
+-- an attempt
 module _ (airs : Airs) (m : Machine) (awaits : Awaits m) (n session : ℕ) (within : n < 233) (asks : AsksFor n session m.host.state) (these : List Bool) (marked : is_marked these n ≡ true) where
   -- it is on its way
   frame_taken : (t : ChipState) (f : FrameParts) → m.host.state.side.turn ≡ Copied f 1 0 → TieOf true m (on_line m.host.state.side.turn) → (takes_it : IsTakenBy t f) → (takes_it.node ≡ n) × (takes_it.payload ≡ asks.payload)
@@ -206,47 +256,5 @@ module _ (airs : Airs) (m : Machine) (awaits : Awaits m) (n session : ℕ) (with
 
   pub request_airs : (passes : ℕ) (rest : Rest) (ways : List (Item × Option Route)) → ChipMayTake m rest ways → IsDone m ⊎ CanMove passes m → HasRoom m.outside.outer.chip.state → TieOf true m (on_line m.host.state.side.turn) → IsPeopled these m
       → Stands (IsOnAir n asks.payload) (on_air (chip_taken m rest ways).outside.outer.air.frames)
-  unfolding May MayOutside
-  request_airs passes rest ways may (inl done) room tie peopled = absurd (never_free done.line.at_host.turn_is)
-  request_airs passes rest ways may (inr can) room tie peopled =
-      subst (λ (a : AirState). Stands (IsOnAir n asks.payload) (on_air a.frames)) (sym (taken_air m rest ways)) (by can.live.line can.moves (part_tied m can.live.line rest ways can.moves may room tie).0)
-    where
-      items : List Item
-      items = map (λ (w : Item × Option Route). w.0) ways
-
-      reaches : Reaches m.outside.outer.chip.state.table these
-      reaches k of_these = let reached = peopled.live.reached k of_these in (reached.apart, (reached.over, reached.walk))
-
-      alone : (f : FrameParts) → HasNoMarks m.outside.outer → m.host.state.side.turn ≡ Copied f 1 0 → items ≡ Good (Framed f) ∷ [] → TakesEach m.outside.outer.chip.state ways
-          → Stands (IsOnAir n asks.payload) (on_air (each chip_does (taken m.outside.outer rest) (judged_all ways)).outer.air.frames)
-      alone f quiet turn are takes_each =
-          let one = one_way ways (Good (Framed f)) are in
-          let takes_it : IsTakenBy m.outside.outer.chip.state f = (subst (TakesEach m.outside.outer.chip.state) one.1 takes_each).0 in
-          let same = frame_taken m.outside.outer.chip.state f turn tie takes_it in
-          subst (λ (l : List (Item × Option Route)). Stands (IsOnAir n asks.payload) (on_air (each chip_does (taken m.outside.outer rest) (judged_all l)).outer.air.frames)) (sym one.1)
-          (frame_stands airs awaits.log (on_air m.outside.outer.air.frames) n asks.payload within these marked (taken m.outside.outer rest) f one.0 (marks_of m.outside.outer rest quiet) takes_it reaches
-          (subst (λ (l : List (Item × Option Route)). ChipMayAll m.outside.outer.chip.state (judged_all l)) one.1 may.1.judges).0 same.0 same.1 awaits.follows.fly)
-
-      acked : (f : FrameParts) → HasNoMarks m.outside.outer → m.host.state.side.turn ≡ Copied f 1 0 → items ≡ Good Ack ∷ Good (Framed f) ∷ [] → TakesEach m.outside.outer.chip.state ways
-          → Stands (IsOnAir n asks.payload) (on_air (each chip_does (taken m.outside.outer rest) (judged_all ways)).outer.air.frames)
-      acked f quiet turn are takes_each =
-          let two = two_ways ways (Good Ack) (Good (Framed f)) are in
-          let takes_it : IsTakenBy (after_chip m.outside.outer.chip.state (Judged (Good Ack) two.0)) f = (subst (TakesEach m.outside.outer.chip.state) two.2 takes_each).1.0 in
-          let same = frame_taken (after_chip m.outside.outer.chip.state (Judged (Good Ack) two.0)) f turn tie takes_it in
-          subst (λ (l : List (Item × Option Route)). Stands (IsOnAir n asks.payload) (on_air (each chip_does (taken m.outside.outer rest) (judged_all l)).outer.air.frames)) (sym two.2)
-          (ack_frame_stands airs awaits.log (on_air m.outside.outer.air.frames) n asks.payload within these marked (taken m.outside.outer rest) f two.0 two.1 (marks_of m.outside.outer rest quiet) takes_it reaches
-          (subst (λ (l : List (Item × Option Route)). ChipMayAll m.outside.outer.chip.state (judged_all l)) two.2 may.1.judges).1.0 same.0 same.1 awaits.follows.fly)
-
-      by : (at : Line m) → Moves at → TakesEach m.outside.outer.chip.state ways → Stands (IsOnAir n asks.payload) (on_air (each chip_does (taken m.outside.outer rest) (judged_all ways)).outer.air.frames)
-      by (Free at) moves takes_each = absurd moves
-      by (Asks f fits at) moves takes_each =
-          let fed = fed_units (Framed f) [] m.outside.outer.to_chip.bytes m.outside.outer.chip.decoder rest items (fits, tt) at.at_chip.decoder at.at_chip.up_bytes may.1.feeds in
-          alone f at.unmarked at.at_host.turn_is fed.0 takes_each
-      by (Heard first ticks frames at) moves takes_each = absurd (never_free at.at_host.turn_is)
-      by (Heard_asks f first ticks frames fits at) moves takes_each =
-          let fed = fed_units Ack (Framed f ∷ []) m.outside.outer.to_chip.bytes m.outside.outer.chip.decoder rest items (tt, (fits, tt)) at.at_chip.decoder at.at_chip.up_bytes may.1.feeds in
-          acked f at.unmarked at.at_host.turn_is fed.0 takes_each
-      by (Sent first ticks frames at) moves takes_each = absurd (never_free at.at_host.turn_is)
-      by (Sent_asks f first ticks frames fits at) moves takes_each =
-          let fed = fed_units (Framed f) [] m.outside.outer.to_chip.bytes m.outside.outer.chip.decoder rest items (fits, tt) at.at_chip.decoder at.at_chip.up_bytes may.1.feeds in
-          alone f at.unmarked at.at_host.turn_is fed.0 takes_each
+  request_airs passes rest ways may at room tie peopled =
+      frame_airs airs m awaits n asks.payload within these marked never_free (λ t f turn takes_it. frame_taken t f turn tie takes_it) passes rest ways may at room tie peopled

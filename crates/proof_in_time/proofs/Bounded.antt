@@ -43,12 +43,12 @@ use Rattle.proof_answered.specs.proof_calm.Resting.{IsEffect, IsGiven, IsOfTick}
 use Rattle.proof_answered.specs.proof_calm.Tied.{unheard}
 use Rattle.proof_answered.proofs.Calm.{does_calm, enters_calm}
 use Rattle.proof_answered.proofs.ChipNotices.{entered_leaves}
-use Rattle.proof_answered.proofs.Listeners.{listener_hears}
 use Rattle.proof_answered.proofs.Outwards.{next_is_live}
 use Rattle.mesh_sim.specs.Air.{is_joined}
-use Rattle.mesh_sim.specs.Fates.{fate_of, place_of}
+use Rattle.mesh_sim.specs.Fates.{dead_hop_of, fate_of, listener_of, place_of}
 use Rattle.mesh_sim.specs.declared.fate.Fate.TheVariants.{AtDevice}
 use Rattle.proof_spoken.proofs.KeptKinds.{event_same}
+use Rattle.proof_course_plain.proofs.Arrivals.{awake_at_place}
 use Rattle.proof_course_plain.proofs.ChangesOutside.{place_is}
 use Rattle.proof_course_plain.proofs.Replies.{one_place, one_stands}
 use Rattle.proof_messages.specs.Asking.{takes_openly}
@@ -58,7 +58,8 @@ use Rattle.host_heard.specs.declared.payload.Heard.TheVariants.{Messages}
 use Rattle.host_heard.specs.declared.told.Told.TheVariants.{Report}
 use Rattle.device_kinds.specs.Answers.{report_status}
 use Rattle.proof_answered.proofs.Unheard.{counts_says, decoder_says, device_says, does_says, effect_says, line_says, tick_says}
-use Rattle.proof_answered.specs.Outward.{AllListen}
+use Rattle.proof_answered.specs.Heard.{IsHeardThen}
+use Rattle.proof_answered.proofs.Speaking.{fate_listens, hears_at}
 use Rattle.proof_in_time.specs.Answering.{AnswersSession, Ends as Work_ends, Goes_on as Work_goes_on, IsAtWork, IsDoneOrAtWork, IsInStep, WorksOn}
 use Rattle.proof_in_time.specs.Coming.{AsksFor, Asked, At_work, Coming, Flies, Has, IsAsking, IsBusy, IsMessage, IsReport, IsRequest, Sent, Stands, TellsEnd, Told, WaitsFor, has_ticked, one_later, own_ticks, ticks_left, ticks_of, is_layered}
 use Rattle.proof_in_time.specs.InStep.{HasInStep, HearsInStep}
@@ -285,47 +286,47 @@ module _ (n most : ℕ) (within : n < 233) where
 
 -- ---- at each event
 
-counted_air : (m : Machine) → (happens m (Outside_does Chip_ticks)).outside.outer.air ≡ m.outside.outer.air
+pub counted_air : (m : Machine) → (happens m (Outside_does Chip_ticks)).outside.outer.air ≡ m.outside.outer.air
 unfolding happens
 counted_air m = (chip_counts m.outside).0
 
-shows_adds : (m : Machine) (node : ℕ) → Adds m.outside.outer (happens m (Outside_does (Shows node))).outside.outer
+pub shows_adds : (m : Machine) (node : ℕ) → Adds m.outside.outer (happens m (Outside_does (Shows node))).outside.outer
 unfolding happens outcome
 shows_adds m node = same_adds m.outside.outer (happens m (Outside_does (Shows node))).outside.outer (entered_leaves (outcome m.outside (Shows node)).outer (outcome m.outside (Shows node)).entries).air
 
-decoder_adds : (m : Machine) → Adds m.outside.outer (happens m Decoder_ticks).outside.outer
+pub decoder_adds : (m : Machine) → Adds m.outside.outer (happens m Decoder_ticks).outside.outer
 unfolding happens
 decoder_adds m = same_adds m.outside.outer m.outside.outer refl
 
-line_devices : (m : Machine) → (happens m (Outside_does Begins_line)).outside.devices ≡ m.outside.devices
+pub line_devices : (m : Machine) → (happens m (Outside_does Begins_line)).outside.devices ≡ m.outside.devices
 unfolding happens devices_after
 line_devices m = refl
 
-tick_devices : (m : Machine) → (happens m (Outside_does Begins_tick)).outside.devices ≡ m.outside.devices
+pub tick_devices : (m : Machine) → (happens m (Outside_does Begins_tick)).outside.devices ≡ m.outside.devices
 unfolding happens devices_after
 tick_devices m = refl
 
-counted_devices : (m : Machine) → (happens m (Outside_does Chip_ticks)).outside.devices ≡ m.outside.devices
+pub counted_devices : (m : Machine) → (happens m (Outside_does Chip_ticks)).outside.devices ≡ m.outside.devices
 unfolding happens
 counted_devices m = (chip_counts m.outside).2
 
-shows_devices : (m : Machine) (node : ℕ) → (happens m (Outside_does (Shows node))).outside.devices ≡ m.outside.devices
+pub shows_devices : (m : Machine) (node : ℕ) → (happens m (Outside_does (Shows node))).outside.devices ≡ m.outside.devices
 unfolding happens devices_after
 shows_devices m node = refl
 
-cuts_devices : (m : Machine) (size : ℕ) → (happens m (Outside_does (Cuts size))).outside.devices ≡ m.outside.devices
+pub cuts_devices : (m : Machine) (size : ℕ) → (happens m (Outside_does (Cuts size))).outside.devices ≡ m.outside.devices
 unfolding happens devices_after
 cuts_devices m size = refl
 
-decoder_devices : (m : Machine) → (happens m Decoder_ticks).outside.devices ≡ m.outside.devices
+pub decoder_devices : (m : Machine) → (happens m Decoder_ticks).outside.devices ≡ m.outside.devices
 unfolding happens
 decoder_devices m = refl
 
-refuses_devices : (m : Machine) (of : Line) (refusal : Refusal) → (happens m (Refuses of refusal)).outside.devices ≡ m.outside.devices
+pub refuses_devices : (m : Machine) (of : Line) (refusal : Refusal) → (happens m (Refuses of refusal)).outside.devices ≡ m.outside.devices
 unfolding happens devices_after
 refuses_devices m of refusal = refl
 
-values_devices : (m : Machine) (node : ℕ) → (happens m (Shows_values node)).outside.devices ≡ m.outside.devices
+pub values_devices : (m : Machine) (node : ℕ) → (happens m (Shows_values node)).outside.devices ≡ m.outside.devices
 unfolding happens devices_after
 values_devices m node = refl
 
@@ -560,9 +561,9 @@ module _ (airs : Airs) (these : List Bool) (many : length these ≡ 233) (laws :
   for_five session place left devices few (busy, (place_is, left_is)) = (busy, subst (λ (k : ℕ). k ≤ 5) (sym left_is) few)
 
   pub arrives_wait : (frames ticks : ℕ) (m : Machine) (drawn : List ℕ) (route : Option Route) → May m (Outside_does (Arrives drawn route)) → HasInStep n m → is_joined m.outside.outer.air n ≡ true → NodeFacts (node_of m.host.state n) → Awaits m
-      → AllListen these m → HasLive these m.outside.outer → IsGiven 0 m → IsGiven 0 (happens m (Outside_does (Arrives drawn route))) → length m.outside.outer.chip.state.port.waiting ≤ 31 → WaitsFor n most (Arriving (suc frames) ticks) m
+      → IsHeardThen m (Outside_does (Arrives drawn route)) → HasLive these m.outside.outer → IsGiven 0 m → IsGiven 0 (happens m (Outside_does (Arrives drawn route))) → length m.outside.outer.chip.state.port.waiting ≤ 31 → WaitsFor n most (Arriving (suc frames) ticks) m
       → WaitsFor n most (Arriving frames ticks) (happens m (Outside_does (Arrives drawn route)))
-  arrives_wait frames ticks m drawn route may step joined facts is listen live given later room w =
+  arrives_wait frames ticks m drawn route may step joined facts is hears live given later room w =
       running_waits n most (Arriving (suc frames) ticks) (Arriving frames ticks) (omega arith) m (Arrives drawn route) goes w
     where
       at : Arrived airs m is drawn route
@@ -594,13 +595,15 @@ module _ (airs : Airs) (these : List Bool) (many : length these ≡ 233) (laws :
           → Stands (IsReport n (session_of n m)) (on_air (happens m (Outside_does (Arrives drawn route))).outside.outer.air.frames) ⊎ ((busy : IsBusy n (session_of n m) (happens m (Outside_does (Arrives drawn route))).outside.devices) × (busy.device.work_left ≤ 5))
       answers run request =
           let session : ℕ = begun_of (node_of m.host.state n).book in
-          let listener = listen.nodes at.frame.node (subst (λ (k : ℕ). is_marked these k ≡ true) (sym request.node) marked) in
-          let first : place_of n m.outside.devices ≡ Some listener.place = subst (λ (k : ℕ). place_of k m.outside.devices ≡ Some listener.place) request.node listener.first in
-          let place : step.place ≡ listener.place = one_place n m.outside.devices step.place listener.place step.first first in
-          let device : step.device ≡ listener.device = one_stands m.outside.devices step.place listener.place step.device listener.device step.stands listener.stands place in
-          let fate = listener_hears m.outside.outer.air.network m.outside.devices at.frame listener request.out (alive request.node) in
-          let in_step : HearsInStep session listener.device = subst (HearsInStep session) device (record { plain = step.plain; step = step.step (begun_where (node_of m.host.state n) facts run) }) in
-          heard request listener.place listener.device first listener.stands fate (answer_ends laws session at.frame.payload drawn listener.device request.message listener.is_up.awake in_step)
+          let there = hears at.frame at.next request.out in
+          let first : place_of n m.outside.devices ≡ Some there.0 = subst (λ (k : ℕ). place_of k m.outside.devices ≡ Some there.0) request.node (hears_at m.outside.outer.air.network m.outside.devices at.frame there.0 there.1) in
+          let place : step.place ≡ there.0 = one_place n m.outside.devices step.place there.0 step.first first in
+          let stands : slice_get m.outside.devices there.0 ≡ Some step.device = subst (λ (k : ℕ). slice_get m.outside.devices k ≡ Some step.device) place step.stands in
+          let listener : listener_of at.frame.node m.outside.devices ≡ Some there.0 =
+          fate_listens at.frame.lost (dead_hop_of m.outside.outer.air.network at.frame) at.frame.heading (listener_of at.frame.node m.outside.devices) there.0 there.1 in
+          let awake : step.device.awake ≡ true = awake_at_place m.outside.devices at.frame.node there.0 step.device listener stands in
+          heard request there.0 step.device first stands there.1
+          (answer_ends laws session at.frame.payload drawn step.device request.message awake (record { plain = step.plain; step = step.step (begun_where (node_of m.host.state n) facts run) }))
 
       goes : (node_of m.host.state n).series ≡ series.Running → Goes_on n (Arriving (suc frames) ticks) m (Arriving frames ticks) (happens m (Outside_does (Arrives drawn route)))
       goes run left comes = arrives_comes airs m is drawn route at given later room n alive (session_of n m) left frames ticks (answers run) (arrives_busy laws.still n (session_of n m) m drawn route) comes

@@ -49,7 +49,7 @@ IsNearEnd n session left here devices at = ticks_left here + has_ticked here at.
 abbrev pub many_on_air : Machine → ℕ
 many_on_air m = length (on_air m.outside.outer.air.frames)
 
-stands_within : (Is : Flown → Type 0) (flights : List Flown) (at : Stands Is flights) → length at.before < length flights
+pub stands_within : (Is : Flown → Type 0) (flights : List Flown) (at : Stands Is flights) → length at.before < length flights
 stands_within Is flights at =
     let all = ap (λ (fs : List Flown). length fs) at.are ∙ length-append at.before (at.frame ∷ at.behind) in
     let more : length (at.frame ∷ at.behind) ≡ length at.behind + 1 = omega arith in
@@ -58,7 +58,7 @@ stands_within Is flights at =
 nearer : (a b c left then_left : ℕ) → a + left ≤ b + then_left → b + c ≤ left → a + c ≤ then_left
 nearer a b c left then_left fits few = omega (arith, fits, few)
 
-near : (a b left then_left : ℕ) → a + left ≤ b + then_left → b ≤ left → a ≤ then_left
+pub near : (a b left then_left : ℕ) → a + left ≤ b + then_left → b ≤ left → a ≤ then_left
 near a b left then_left fits few = omega (arith, fits, few)
 
 busy_near : (a b old new left then_left : ℕ) → a + left ≤ b + then_left → new ≡ old → b + old ≤ left → a + new ≤ then_left
@@ -104,14 +104,14 @@ carry n session left then_left here next m later asks works adds has fits comes 
 
 -- ---- a frame arrives
 
-later_once : (place frames : ℕ) → unless_ticking (nat_lt (suc place) (suc frames)) ≡ unless_ticking (nat_lt place frames)
+pub later_once : (place frames : ℕ) → unless_ticking (nat_lt (suc place) (suc frames)) ≡ unless_ticking (nat_lt place frames)
 later_once place frames = by (nat_lt place frames) refl
   where
     by : (b : Bool) → nat_lt place frames ≡ b → unless_ticking (nat_lt (suc place) (suc frames)) ≡ unless_ticking b
     by true is = ap unless_ticking (let so : nat_lt (suc place) (suc frames) ≡ true = grind (arith, nat_tests, is) in so)
     by false is = ap unless_ticking (let so : nat_lt (suc place) (suc frames) ≡ false = grind (arith, nat_tests, is) in so)
 
-nothing_more : (x left : ℕ) → x ≤ left → 0 + x ≤ left
+pub nothing_more : (x left : ℕ) → x ≤ left → 0 + x ≤ left
 nothing_more x left few = omega (arith, few)
 
 nothing_then : (x left : ℕ) → x + 5 ≤ left → 0 + x + 5 ≤ left

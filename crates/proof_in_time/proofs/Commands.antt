@@ -36,10 +36,11 @@ use Rattle.proof_course_plain.proofs.HostEvents.{open_is, owned}
 use Rattle.proof_spoken.specs.Restarts.{StartsWell}
 use Rattle.proof_spoken.proofs.Orders.{IsNoOrder, SameOrders, event_kept, restart_kept}
 use Rattle.proof_spoken.proofs.Plain.{silent_none}
-use Rattle.proof_answered.specs.proof_calm.Resting.{IsEffect, LineAt}
-use Rattle.proof_answered.specs.proof_calm.proof_work.proof_walk.Phases.{Phase, Said_line, Doing, To_tick, Arriving, Giving, Ticking_devices, Ticking_chip, Ticking_decoder, Ticking_host, Sleeping, Submitting, Moving, Moved, Goes}
+use Rattle.proof_answered.specs.proof_calm.Resting.{LineAt}
+use Rattle.proof_answered.specs.proof_calm.proof_work.proof_walk.Phases.{Phase, Goes}
 use Rattle.proof_in_time.specs.InStep.{IsNear, IsNearAt, IsPlainly}
 use Rattle.proof_in_time.specs.Coming.{GoWhole, GoesWhole, IsMessage, IsPlainStart, is_layered}
+use Rattle.proof_in_time.proofs.QuietPhases.{IsNoStart, no_start_of, quiet_at}
 
 -- ---- they are kept
 
@@ -166,28 +167,9 @@ events_whole these h (event ∷ events) no_order go = events_whole these (after 
 -- ---- events of the machine
 
 -- what is not the begin of a host starts none
-steady_as : (m : Machine) (event is : Event) → event ≡ is → StartsWell m is → StartsWell m event
-steady_as m event is same steady = subst (StartsWell m) (sym same) steady
-
-effect_steady : (m : Machine) (event : Event) → IsEffect event → StartsWell m event
-effect_steady m (Restarts state) is = absurd is
-effect_steady m event is = tt
-
-steady_of : (here next : Phase) (m : Machine) (event : Event) → Goes here m event next → LineAt here m → StartsWell m event
-steady_of (Said_line line) next m event (is, to) at = steady_as m event _ is tt
-steady_of (Doing line (first ∷ left)) next m event (is, to) at = steady_as m event first is (effect_steady m first at.0.0)
-steady_of (To_tick (suc ticks)) next m event (is, to) at = steady_as m event _ is tt
-steady_of (Arriving (suc frames) ticks) next m event (drawn, route, is, to) at = steady_as m event _ is tt
-steady_of (Giving (suc results) ticks) next m event (route, is, to) at = steady_as m event _ is tt
-steady_of (Ticking_devices place (suc count) ticks) next m event (drawn, route, is, to) at = steady_as m event _ is tt
-steady_of (Ticking_chip ticks) next m event (is, to) at = steady_as m event _ is tt
-steady_of (Ticking_decoder ticks) next m event (is, to) at = steady_as m event _ is tt
-steady_of (Ticking_host (first ∷ events) ticks) next m event (is, to) at = steady_as m event _ is tt
-steady_of (Sleeping passes ticks) next m event (node, wants, is, to) at = steady_as m event _ is tt
-steady_of (Submitting passes ticks) next m event (asked, next_is, is, to) at = steady_as m event _ is tt
-steady_of (Moving passes ticks) next m event (rest, ways, is, to) at = steady_as m event _ is tt
-steady_of (Moved b passes ticks) next m event (rest, items, done, is, to) at = steady_as m event _ is tt
-steady_of here next m event goes at = absurd goes
+starts_well : (m : Machine) (event : Event) → IsNoStart event → StartsWell m event
+starts_well m (Restarts state) none = absurd none
+starts_well m event none = tt
 
 pub machine_whole : (these : List Bool) (m : Machine) (event : Event) → StartsWell m event → May m event → AreOpen these m.host.state → AreNearAt these event → GoWhole these m.host.state.commands
     → GoWhole these (happens m event).host.state.commands
@@ -202,7 +184,7 @@ machine_whole these m (Restarts state) starts may bare near go = same_whole thes
 
 pub on_whole : (these : List Bool) (here next : Phase) (m : Machine) (event : Event) → Goes here m event next → LineAt here m → May m event → AreOpen these m.host.state → IsPlainly these m event → GoWhole these m.host.state.commands
     → GoWhole these (happens m event).host.state.commands
-on_whole these here next m event goes at may bare plainly go = machine_whole these m event (steady_of here next m event goes at) may bare (λ n marked. (plainly n marked).near) go
+on_whole these here next m event goes at may bare plainly go = machine_whole these m event (starts_well m event (no_start_of here next m event goes (quiet_at here m at))) may bare (λ n marked. (plainly n marked).near) go
 
 -- ---- what an attempt gives
 

@@ -11,7 +11,7 @@ use Rattle.zw_text.specs.declared.entry.Entry.{Entry}
 use Rattle.zw_text.specs.declared.entry.Entry.TheVariants.{Accepted, Said}
 use Rattle.zw_text.specs.declared.entry.Outcome.{Outcome}
 use Rattle.zw_text.specs.declared.entry.Outcome.TheVariants.{Waiting, Begun, Success, Fail, NoSupport, Unanswered}
-use Rattle.zw_text.specs.Transcript.{accepted, accepted_number, accepted_numbers, outcome, shown}
+use Rattle.zw_text.specs.Transcript.{accepted, accepted_number, accepted_numbers, lines_run, outcome, shown}
 use Rattle.law_transcript.specs.Commands.{is_waiting, numbers_of, waiting}
 use Rattle.law_transcript.specs.Lists.{EachAfter, Has, Rises}
 use Rattle.law_transcript.specs.Sessions.{IsFinal}
@@ -31,6 +31,14 @@ use Rattle.world_model.specs.Did.{MayAll, entries_all, happens_all}
 use Rattle.world_model.specs.Events.{Event}
 use Rattle.world_model.specs.State.{Machine}
 use Rattle.world_lines.specs.Spoken.{Spoken, after, after_all, transcript_of}
+use Rattle.world_lines.specs.Done.{AreDone}
+use Rattle.world_lines.specs.Whole.{AreWhole}
+use Rattle.proof_walk.specs.Time.{KnowTime, MayCount}
+use Rattle.proof_walk.specs.Phases.{Between}
+use Rattle.proof_walk.specs.Walk.{Walk}
+use Rattle.proof_walk.proofs.Lines.{lines_lead}
+use Rattle.law_transcript.specs.Restarts.{ticks_asked}
+use Rattle.proof_in_time.specs.InHand.{ticks_begun}
 use Rattle.proof_host.specs.Entries.{IsAside}
 use Rattle.proof_host.specs.Facts.{AreInOrder, Facts}
 use Rattle.proof_host.specs.Laws.{IsUnderWay, MayStand, accepted_for as nodes_accepted, numbers_for}
@@ -55,6 +63,12 @@ lines_keep_facts aside all past m (spoken ∷ more) (is, are) facts =
     let rest = lines_keep_facts aside all ((past ++ Said spoken.words ∷ []) ++ told) (after m spoken) more are (all (past ++ Said spoken.words ∷ []) m spoken.events words is.may is.well) in
     subst (λ (T : List Entry). Facts T (after_all (after m spoken) more).host.state)
     (append_assoc (past ++ Said spoken.words ∷ []) told (transcript_of (after m spoken) more) ∙ append_assoc past (Said spoken.words ∷ []) (told ++ transcript_of (after m spoken) more)) rest
+
+-- ---- its clock, over lines
+
+-- so many ticks have begun as lines asked for
+pub clock_is : Walk MayCount KnowTime → (m : Machine) (lines : List Spoken) → KnowTime Between [] m → AreDone m lines → AreWhole m lines → ticks_begun (after_all m lines) ≡ ticks_asked (lines_run (transcript_of m lines))
+clock_is walk m lines first are whole = let known = (lines_lead MayCount KnowTime walk [] m lines are whole first).1 in let clock = known.0.0.clock in omega (arith, clock)
 
 -- ---- a command whose acceptance was entered
 
@@ -240,12 +254,12 @@ waiting_is n past h facts numbers =
     ∙ ap (λ (l : List ℕ). filter (λ (k : ℕ). is_waiting (outcome k past)) l) (sym numbers)
 
 -- it stands behind 15 others at most
-record StandsSoon (n command : ℕ) (h : HostState) : Type 0 where
-  more : ℕ
-  few : more ≤ 15
-  stands : StandsAt command more (node_of h n).waiting
+pub record StandsSoon (n command : ℕ) (h : HostState) : Type 0 where
+  pub more : ℕ
+  pub few : more ≤ 15
+  pub stands : StandsAt command more (node_of h n).waiting
 
-stands_soon : (n command : ℕ) (past : List Entry) (h : HostState) → Facts past h → numbers_of (accepted n past) ≡ numbers_for n past → Has (waiting n past) command → StandsSoon n command h
+pub stands_soon : (n command : ℕ) (past : List Entry) (h : HostState) → Facts past h → numbers_of (accepted n past) ≡ numbers_for n past → Has (waiting n past) command → StandsSoon n command h
 stands_soon n command past h facts numbers has =
     let at = stands_in (node_of h n).waiting command (subst (λ (l : List ℕ). Has l command) (sym (waiting_is n past h facts numbers)) has) in
     let within = at.1.0 in

@@ -97,7 +97,7 @@ started_runs state Whole = refl
 started_runs state (Segments count) = refl
 started_runs state (Sealed plain) = refl
 
-left_of : (state : NodeState) → NodeFacts state → state.series ≢ series.Running → NothingLeft state.attempt_wait state.next_segment state.segments state.text state.pending
+pub left_of : (state : NodeState) → NodeFacts state → state.series ≢ series.Running → NothingLeft state.attempt_wait state.next_segment state.segments state.text state.pending
 left_of state facts rests = by state.series refl facts.series
   where
     by : (s : Series) → state.series ≡ s → SeriesFacts s state.book state.attempt_wait state.again_wait state.next_segment state.segments state.text state.pending

@@ -48,7 +48,7 @@ use Rattle.proof_spoken.proofs.CommandsOfSessions.{has_session, session_within}
 use Rattle.proof_course_plain.proofs.Commands.{final_so}
 use Rattle.proof_course_plain.proofs.Once.{HasStatus, retold, told_at}
 use Rattle.proof_course_plain.proofs.TieSteps.{session_prefix}
-use Rattle.proof_in_time.proofs.JudgedSessions.{Sees, Tie, due, final_of, sees_also}
+use Rattle.proof_in_time.proofs.JudgedSessions.{At, Sees, Tie, due, final_of, sees_also}
 
 -- ---- the session of a command
 
@@ -93,31 +93,31 @@ ended_as n kind start entries commands number o status told entered sees =
 
 -- ---- what the host was told
 
-module _ (n since : ℕ) (kind : Kind) (start : List Change) (past entries : List Entry) (m : Machine) (tie : Tie n since kind start past entries m) (number : ℕ) (is_over : is_final (outcome number (past ++ entries)) ≡ true) where
+module _ (n since : ℕ) (kind : Kind) (start : List Change) (past entries : List Entry) (m : Machine) (at : At n m) (tie : Tie n since kind start past entries m at) (number : ℕ) (is_over : is_final (outcome number (past ++ entries)) ≡ true) where
   abbrev c : Course
-  c = tie.at.course
+  c = at.course
 
   sees_session : (session : ℕ) → since < session → command_at c.host.commands session ≡ Some number → HasStatus c.told session
       → Sees n kind start entries m.host.state.commands number (λ verdict. same_final (outcome number (past ++ entries)) (outcome_by verdict) ≡ true)
   sees_session session less carries told =
       let ends : command_at c.ends session ≡ Some told.status =
-      subst (λ (l : List ℕ). command_at l session ≡ Some told.status) (sym tie.at.follows.course.told_are.prefix) (session_prefix c.told tie.at.follows.course.told_are.rest session told.status told.at) in
-      ended_as n kind start entries m.host.state.commands number (outcome number (past ++ entries)) told.status (tie.at.follows.outcomes session number told.status carries told.at) (tie.facts.entered number)
+      subst (λ (l : List ℕ). command_at l session ≡ Some told.status) (sym at.lawful.told_are.prefix) (session_prefix c.told at.lawful.told_are.rest session told.status told.at) in
+      ended_as n kind start entries m.host.state.commands number (outcome number (past ++ entries)) told.status (at.outcomes session number told.status carries told.at) (tie.facts.entered number)
       (tie.ended session number told.status less ends carries)
 
   pub sees_final : length (sessions n past) ≡ since → Has (sessions n entries) number → Sees n kind start entries m.host.state.commands number (λ verdict. same_final (outcome number (past ++ entries)) (outcome_by verdict) ≡ true)
   sees_final begun_is has =
       let one = behind_has (sessions n past) (sessions n entries) number has in
       let state : NodeState = node_of m.host.state n in
-      let held = tie.at.follows.host.node_as in
+      let held = at.booked in
       let booked : sessions n past ++ sessions n entries ≡ state.book.commands = sym (shown-append (session_at n) past entries) ∙ tie.facts.begun n in
-      let at : command_at state.book.commands one.0 ≡ Some number = subst (λ (l : List ℕ). command_at l one.0 ≡ Some number) booked one.1.1 in
+      let there : command_at state.book.commands one.0 ≡ Some number = subst (λ (l : List ℕ). command_at l one.0 ≡ Some number) booked one.1.1 in
       let over : IsFinal (outcome_in m.host.state.commands number) =
       final_so (outcome_in m.host.state.commands number) (outcome number (past ++ entries)) (sym (tie.facts.entered number)) (final_true (outcome number (past ++ entries)) is_over) in
-      let are : AreTold state.book c.ends c.told = retold c.host state.book c.ends c.told held.0 held.1.0 tie.at.follows.course.told_are in
+      let are : AreTold state.book c.ends c.told = retold c.host state.book c.ends c.told held.0 held.1 at.lawful.told_are in
       let less = one.1.0 in
-      sees_session one.0 (omega (arith, less, begun_is)) (subst (λ (l : List ℕ). command_at l one.0 ≡ Some number) held.0 at)
-      (told_at m.host.state.commands state (tie.facts.in_order n) c.ends c.told are one.0 number at over)
+      sees_session one.0 (omega (arith, less, begun_is)) (subst (λ (l : List ℕ). command_at l one.0 ≡ Some number) held.0 there)
+      (told_at m.host.state.commands state (tie.facts.in_order n) c.ends c.told are one.0 number there over)
 
 -- ---- in the words of the law
 

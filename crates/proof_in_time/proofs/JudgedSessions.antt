@@ -2,7 +2,7 @@
 use Rattle.std.proofs.Common.{◌≡◌, ◌≢◌, ℕ, ◌+◌, ◌≤◌, ◌<◌, inl, inr, Bool, List, [], ◌∷◌, ◌++◌, length, length-append, flat_map, map, Option, Some, None, refl, sym, ap, ◌∙◌, subst, append-nil, append_assoc, arith}
 use Rattle.std.proofs.Math.Path.{fun_ext}
 use Rattle.std.proofs.lemmas.Grind.{flat_map-append}
-use Rattle.std.specs.Prelude.{◌⊎◌, zero, suc}
+use Rattle.std.specs.Prelude.{◌⊎◌, zero, suc, slice_get}
 use Rattle.zw_base.specs.declared.order.Order.{Order}
 use Rattle.zw_base.specs.declared.property.Property.{Property}
 use Rattle.zw_base.specs.declared.property.Setting.{Setting}
@@ -27,7 +27,7 @@ use Rattle.device_sim.specs.State.{State}
 use Rattle.law_transcript.specs.Devices.{made_by}
 use Rattle.law_transcript.specs.Lists.{EachAfter, Has}
 use Rattle.law_time.specs.Verdicts.{before_session, settings_made}
-use Rattle.serial_frame.specs.declared.item.Item.{Item}
+use Rattle.mesh_sim.specs.Fates.{place_of}
 use Rattle.host_model.specs.State.{Command, HostState, node_of}
 use Rattle.world_model.specs.State.{Machine}
 use Rattle.proof_host.specs.Facts.{Facts}
@@ -35,18 +35,18 @@ use Rattle.proof_host.specs.Laws.{MayStand}
 use Rattle.proof_host.specs.Tables.{taken_at}
 use Rattle.proof_host.proofs.Over.{each-right}
 use Rattle.proof_course.specs.Parts.{numbered}
-use Rattle.proof_course.specs.SessionFacts.{AreTold}
+use Rattle.proof_course.specs.SessionFacts.{AreTold, CourseFacts}
 use Rattle.proof_course.specs.Sessions.{Course}
 use Rattle.proof_messages.specs.Asking.{verdict_on}
 use Rattle.proof_messages.specs.Ending.{HasEnded}
-use Rattle.proof_spoken.specs.proof_once.Tied.{KeepsOrders}
+use Rattle.proof_spoken.specs.proof_once.Tied.{AreOutcomes, KeepsOrders}
 use Rattle.proof_spoken.proofs.CommandsOfSessions.{session_within}
 use Rattle.proof_spoken.proofs.Others.{made_both}
 use Rattle.proof_course_plain.proofs.Devices.{at_rest, at_work}
+use Rattle.proof_course_plain.specs.Device.{OthersAreIdle}
 use Rattle.proof_course_plain.specs.Host.{asked_of}
 use Rattle.proof_course_plain.specs.Judged.{TakesAsAsked, Judges}
 use Rattle.proof_course_plain.specs.Meaning.{Asked}
-use Rattle.proof_course_plain.specs.World.{WorldFollows}
 use Rattle.proof_walk.proofs.Moving.{both_none}
 use Rattle.proof_in_time.proofs.BegunBefore.{begins_once, begun_stays, level_then, made_then, none_begun, none_made_before, settings_of, value_then}
 use Rattle.proof_in_time.proofs.EndedSessions.{behind_first, few_ended, last_ended, numbered_at, old_or_last, same_at, within_first}
@@ -114,31 +114,35 @@ sees_also n kind start entries commands number Is Also weaker sees =
 
 -- ---- the tie
 
--- the course of a node is where the machine is
+-- a course of the sessions of a node is where its device and the host are, and the table says what the host was told
 pub record At (n : ℕ) (m : Machine) : Type 0 where
   pub orders : List Asked
   pub course : Course
-  pub up : List Item
-  pub down : List Item
-  pub follows : WorldFollows n orders course up down m
-
-abbrev pub device_at : (n : ℕ) (m : Machine) → At n m → State
-device_at n m at = at.follows.outside.mesh.device.device
+  pub place : ℕ
+  pub device : State
+  pub first : place_of n m.outside.devices ≡ Some place
+  pub stands : slice_get m.outside.devices place ≡ Some device
+  pub others : OthersAreIdle n m.outside.devices place
+  pub sessions : device.sessions ≡ course.device
+  pub ends : HasEnded device course.ends
+  pub booked : ((node_of m.host.state n).book.commands ≡ course.host.commands) × ((node_of m.host.state n).book.outcome ≡ course.host.outcome)
+  pub orders_are : orders ≡ map asked_of m.host.state.commands
+  pub lawful : CourseFacts course
+  pub outcomes : AreOutcomes m.host.state.commands course.host.commands course.told
 
 -- In a stretch that begins after `past`, with so many sessions of the node and a device of that kind that made these changes: what it made since is shown; each status
 -- of a session since is that of the verdict due; and since the last session began nothing was made, where the device has not taken it
-pub record Tie (n since : ℕ) (kind : Kind) (start : List Change) (past entries : List Entry) (m : Machine) : Type 0 where
-  pub at : At n m
+pub record Tie (n since : ℕ) (kind : Kind) (start : List Change) (past entries : List Entry) (m : Machine) (at : At n m) : Type 0 where
   pub facts : Facts (past ++ entries) m.host.state
-  pub kind_is : (device_at n m at).kind ≡ kind
+  pub kind_is : at.device.kind ≡ kind
   pub changes : List Change
-  pub journal : (device_at n m at).journal ≡ start ++ changes
+  pub journal : at.device.journal ≡ start ++ changes
   pub shown : made n entries ≡ flat_map made_by changes
   pub ended : (session number status : ℕ) → since < session → command_at at.course.ends session ≡ Some status → command_at at.course.host.commands session ≡ Some number
       → Sees n kind start entries m.host.state.commands number (λ verdict. status ≡ final_of verdict)
-  pub works : (number : ℕ) → (device_at n m at).sessions.status ≡ WORKING → since < (device_at n m at).sessions.taken → command_at at.course.host.commands (device_at n m at).sessions.taken ≡ Some number
+  pub works : (number : ℕ) → at.device.sessions.status ≡ WORKING → since < at.device.sessions.taken → command_at at.course.host.commands at.device.sessions.taken ≡ Some number
       → Sees n kind start entries m.host.state.commands number (λ verdict. final_of verdict ≡ SUCCESS)
-  pub waits : (number : ℕ) → since < begun_of at.course.host → (device_at n m at).sessions.taken + 1 ≡ begun_of at.course.host → command_at at.course.host.commands (begun_of at.course.host) ≡ Some number
+  pub waits : (number : ℕ) → since < begun_of at.course.host → at.device.sessions.taken + 1 ≡ begun_of at.course.host → command_at at.course.host.commands (begun_of at.course.host) ≡ Some number
       → settings_made n (before_session number entries) ≡ settings_made n entries
 
 -- ---- one event
@@ -150,12 +154,12 @@ pub record Goes (n : ℕ) (entries told : List Entry) (past : List Entry) (m lat
   pub ends : next.course.ends ≡ at.course.ends ++ more
   pub facts : Facts (past ++ (entries ++ told)) later.host.state
   pub keeps : KeepsOrders m.host.state.commands later.host.state.commands
-  pub judged : Judges at.orders at.course.host.commands (device_at n m at) (device_at n later next)
-  pub kind : (device_at n later next).kind ≡ (device_at n m at).kind
+  pub judged : Judges at.orders at.course.host.commands at.device next.device
+  pub kind : next.device.kind ≡ at.device.kind
   pub news : List Change
-  pub journal : (device_at n later next).journal ≡ (device_at n m at).journal ++ news
+  pub journal : next.device.journal ≡ at.device.journal ++ news
   pub shown : made n told ≡ flat_map made_by news
-  pub side : (device_at n later next ≡ device_at n m at) ⊎ (later.host.state ≡ m.host.state)
+  pub side : (next.device ≡ at.device) ⊎ (later.host.state ≡ m.host.state)
 
 same_left : {A : Type 0} (xs ys : List A) → xs ++ ys ≡ xs → ys ≡ []
 same_left xs ys same = by ys refl
@@ -168,26 +172,26 @@ same_left xs ys same = by ys refl
         let some : length ys ≡ suc (length zs) = ap (λ l. length l) e in
         absurd (omega (arith, long, both, some))
 
-module _ (n since : ℕ) (kind : Kind) (start : List Change) (past entries told : List Entry) (m later : Machine) (begun_is : length (sessions n past) ≡ since) (tie : Tie n since kind start past entries m)
-    (goes : Goes n entries told past m later tie.at) where
+module _ (n since : ℕ) (kind : Kind) (start : List Change) (past entries told : List Entry) (m later : Machine) (begun_is : length (sessions n past) ≡ since) (at : At n m) (tie : Tie n since kind start past entries m at)
+    (goes : Goes n entries told past m later at) where
   abbrev c : Course
-  c = tie.at.course
+  c = at.course
 
   abbrev d : Course
   d = goes.next.course
 
   abbrev old : State
-  old = device_at n m tie.at
+  old = at.device
 
   abbrev new : State
-  new = device_at n later goes.next
+  new = goes.next.device
 
   -- the sessions of the host
   booked : sessions n (past ++ entries) ≡ c.host.commands
-  booked = tie.facts.begun n ∙ tie.at.follows.host.node_as.0
+  booked = tie.facts.begun n ∙ at.booked.0
 
   booked_then : sessions n (past ++ (entries ++ told)) ≡ d.host.commands
-  booked_then = goes.facts.begun n ∙ goes.next.follows.host.node_as.0
+  booked_then = goes.facts.begun n ∙ goes.next.booked.0
 
   since_then : c.host.commands ≡ sessions n past ++ sessions n entries
   since_then = sym booked ∙ shown-append (session_at n) past entries
@@ -202,19 +206,19 @@ module _ (n since : ℕ) (kind : Kind) (start : List Change) (past entries told 
 
   -- what the device took, and what the host began
   taken_is : old.sessions.taken ≡ c.device.taken
-  taken_is = ap (λ (t : SessionsTaken). t.taken) tie.at.follows.outside.mesh.device.at.sessions
+  taken_is = ap (λ (t : SessionsTaken). t.taken) at.sessions
 
   not_ahead : old.sessions.taken ≤ begun_of c.host
-  not_ahead = let ahead = tie.at.follows.course.agree.not_ahead in omega (arith, ahead, taken_is)
+  not_ahead = let ahead = at.lawful.agree.not_ahead in omega (arith, ahead, taken_is)
 
   one_after : begun_of c.host ≤ old.sessions.taken + 1
-  one_after = let after = tie.at.follows.course.agree.one_after in omega (arith, after, taken_is)
+  one_after = let after = at.lawful.agree.one_after in omega (arith, after, taken_is)
 
   was_ended : HasEnded old c.ends
-  was_ended = tie.at.follows.outside.mesh.device.at.ended
+  was_ended = at.ends
 
   is_ended : HasEnded new (c.ends ++ goes.more)
-  is_ended = subst (λ (l : List ℕ). HasEnded new l) goes.ends goes.next.follows.outside.mesh.device.at.ended
+  is_ended = subst (λ (l : List ℕ). HasEnded new l) goes.ends goes.next.ends
 
   -- the command of a session that had begun
   carried_before : (session number : ℕ) → session ≤ begun_of c.host → command_at d.host.commands session ≡ Some number → command_at c.host.commands session ≡ Some number
@@ -239,7 +243,7 @@ module _ (n since : ℕ) (kind : Kind) (start : List Change) (past entries told 
       sees_on number (λ verdict. status ≡ final_of verdict) (begun_here session number less had) (tie.ended session number status less before had)
 
   -- the session that the device takes
-  module _ (t : TakesAsAsked tie.at.orders c.host.commands old new) (less : since < old.sessions.taken + 1) where
+  module _ (t : TakesAsAsked at.orders c.host.commands old new) (less : since < old.sessions.taken + 1) where
     abbrev verdict : Verdict
     verdict = verdict_on old t.asked.carriage t.asked.order
 
@@ -269,7 +273,7 @@ module _ (n since : ℕ) (kind : Kind) (start : List Change) (past entries told 
         subst (λ (k : ℕ). Sees n kind start (entries ++ told) later.host.state.commands k Is) same (record {
           taken = record { order = t.asked.order; carriage = t.asked.carriage };
           is = goes.keeps t.number (record { order = t.asked.order; carriage = t.asked.carriage })
-              (asked_taken m.host.state.commands t.number t.asked (subst (λ (os : List Asked). numbered os t.number ≡ t.asked ∷ []) tie.at.follows.host.orders_are t.accepted));
+              (asked_taken m.host.state.commands t.number t.asked (subst (λ (os : List Asked). numbered os t.number ≡ t.asked ∷ []) at.orders_are t.accepted));
           fit = t.fit;
           end = t.end;
           so = subst Is (sym due_is) is;
@@ -280,13 +284,13 @@ module _ (n since : ℕ) (kind : Kind) (start : List Change) (past entries told 
   few_taken : new.sessions.taken ≤ length c.ends + 1
   few_taken = by goes.judged
     where
-      by : Judges tie.at.orders c.host.commands old new → new.sessions.taken ≤ length c.ends + 1
+      by : Judges at.orders c.host.commands old new → new.sessions.taken ≤ length c.ends + 1
       by (inl still) = let same = ap (λ (t : SessionsTaken). t.taken) still.sessions in let few = (few_ended old c.ends was_ended).0 in omega (arith, same, few)
       by (inr (inl takes)) = let same = ap (λ (t : SessionsTaken). t.taken) takes.sessions in let all = (at_rest old c.ends was_ended takes.free).1 in omega (arith, same, all)
       by (inr (inr ends)) = let same = ap (λ (t : SessionsTaken). t.taken) ends.sessions in let few = (few_ended old c.ends was_ended).0 in omega (arith, same, few)
 
   last_session : (session number status : ℕ) → since < session → command_at d.host.commands session ≡ Some number → session ≡ new.sessions.taken → status ≡ new.sessions.status → new.sessions.status ≢ WORKING
-      → Judges tie.at.orders c.host.commands old new → Sees n kind start (entries ++ told) later.host.state.commands number (λ verdict. status ≡ final_of verdict)
+      → Judges at.orders c.host.commands old new → Sees n kind start (entries ++ told) later.host.state.commands number (λ verdict. status ≡ final_of verdict)
   last_session session number status less carries last status_is over (inl still) =
       let same = ap (λ (t : SessionsTaken). t.taken) still.sessions in
       let status_same = ap (λ (t : SessionsTaken). t.status) still.sessions in
@@ -318,7 +322,7 @@ module _ (n since : ℕ) (kind : Kind) (start : List Change) (past entries told 
 
   -- ---- work
 
-  works_by : (number : ℕ) → new.sessions.status ≡ WORKING → since < new.sessions.taken → command_at d.host.commands new.sessions.taken ≡ Some number → Judges tie.at.orders c.host.commands old new
+  works_by : (number : ℕ) → new.sessions.status ≡ WORKING → since < new.sessions.taken → command_at d.host.commands new.sessions.taken ≡ Some number → Judges at.orders c.host.commands old new
       → Sees n kind start (entries ++ told) later.host.state.commands number (λ verdict. final_of verdict ≡ SUCCESS)
   works_by number working less carries (inl still) =
       let same = ap (λ (t : SessionsTaken). t.taken) still.sessions in
@@ -364,14 +368,14 @@ module _ (n since : ℕ) (kind : Kind) (start : List Change) (past entries told 
 
   host_same : later.host.state ≡ m.host.state → begun_of d.host ≡ begun_of c.host
   host_same same =
-      ap (λ (l : List ℕ). length l) (sym goes.next.follows.host.node_as.0)
-      ∙ (ap (λ (h : HostState). length (node_of h n).book.commands) same ∙ ap (λ (l : List ℕ). length l) tie.at.follows.host.node_as.0)
+      ap (λ (l : List ℕ). length l) (sym goes.next.booked.0)
+      ∙ (ap (λ (h : HostState). length (node_of h n).book.commands) same ∙ ap (λ (l : List ℕ). length l) at.booked.0)
 
   -- a device at work is at the last session that the host began
   at_last : old.sessions.status ≡ WORKING → begun_of c.host ≤ old.sessions.taken
   at_last working =
       let count = at_work old c.ends was_ended working in
-      let told_are = tie.at.follows.course.told_are in
+      let told_are = at.lawful.told_are in
       let ends_are : length c.ends ≡ length c.told + length told_are.rest = ap (λ (l : List ℕ). length l) told_are.prefix ∙ length-append c.told told_are.rest in
       by told_are (open_session c.host) refl count ends_are
     where
@@ -379,7 +383,7 @@ module _ (n since : ℕ) (kind : Kind) (start : List Change) (past entries told 
       by are None e count all = let closed = are.closed e in omega (arith, count, all, closed)
       by are (Some session) e count all = let opened = are.opened session e in omega (arith, count, all, opened)
 
-  waits_by : (number : ℕ) → since < begun_of d.host → new.sessions.taken + 1 ≡ begun_of d.host → command_at d.host.commands (begun_of d.host) ≡ Some number → Judges tie.at.orders c.host.commands old new
+  waits_by : (number : ℕ) → since < begun_of d.host → new.sessions.taken + 1 ≡ begun_of d.host → command_at d.host.commands (begun_of d.host) ≡ Some number → Judges at.orders c.host.commands old new
       → settings_made n (before_session number (entries ++ told)) ≡ settings_made n (entries ++ told)
   waits_by number less next carries (inl still) = still_waits still.journal (ap (λ (t : SessionsTaken). t.taken) still.sessions) number less next carries (sessions n told) refl
   waits_by number less next carries (inr (inl takes)) = by goes.side
@@ -402,9 +406,8 @@ module _ (n since : ℕ) (kind : Kind) (start : List Change) (past entries told 
 
   -- ---- together
 
-  pub tie_on : Tie n since kind start past (entries ++ told) later
+  pub tie_on : Tie n since kind start past (entries ++ told) later goes.next
   tie_on = record {
-    at = goes.next;
     facts = goes.facts;
     kind_is = goes.kind ∙ tie.kind_is;
     changes = tie.changes ++ goes.news;

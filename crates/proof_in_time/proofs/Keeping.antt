@@ -1,7 +1,8 @@
 -- Where no entry says that the keeper failed, what the host judges was kept.
-use Rattle.std.proofs.Common.{◌≡◌, ℕ, Bool, true, false, List, [], ◌∷◌, ◌++◌, ◌||◌, refl, sym, ap, ◌∙◌, subst}
+use Rattle.std.proofs.Common.{◌≡◌, ℕ, Bool, true, false, List, [], ◌∷◌, ◌++◌, ◌||◌, refl, sym, ap, ap₂, ◌∙◌, subst}
 use Rattle.std.proofs.lemmas.Bool.{or_parts}
 use Rattle.std.specs.List.{AllByRecursion, list_any}
+use Rattle.zw_text.specs.declared.line.Line.{Line}
 use Rattle.zw_text.specs.declared.entry.Entry.{Entry}
 use Rattle.zw_text.specs.declared.entry.Entry.TheVariants as entry
 use Rattle.serial_frame.specs.Stream.{Rest}
@@ -16,9 +17,12 @@ use Rattle.outside_model.specs.Did.{entries_all, happens_all}
 use Rattle.outside_model.specs.Events.{OuterEvent, outcome, ticked_entry}
 use Rattle.outside_model.specs.State.{Outside}
 use Rattle.outside_model.proofs.EventLists.{entries_all-append}
-use Rattle.world_model.specs.Events.{Event, Host_does, Host_takes, entries, fed}
+use Rattle.zw_text.specs.Transcript.{lines_run}
+use Rattle.world_model.specs.Events.{Event, Host_does, Host_takes, entries, fed, May}
 use Rattle.world_model.specs.State.{Machine, routed}
 use Rattle.world_model.proofs.Hosting.{routed-append}
+use Rattle.proof_walk.specs.Outside.{HasNoWords}
+use Rattle.proof_walk.proofs.Alone.{event_wordless, wordless_line}
 use Rattle.proof_answered.proofs.Staffed.{worked_before}
 use Rattle.proof_in_time.specs.Coming.{IsKept, IsKeptFor}
 
@@ -67,3 +71,12 @@ none_unkept m event none k is =
 
 pub told_kept : (these : List Bool) (past told : List Entry) → IsKeptFor these (past ++ told) → list_any is_keeper_fault told ≡ false
 told_kept these past told is = (any_both is_keeper_fault past told is.kept).1
+
+-- ---- no line is said at an event
+
+pub no_lines : (told : List Entry) → AllByRecursion HasNoWords told → lines_run told ≡ []
+no_lines [] none = refl
+no_lines (entry ∷ told) none = ap₂ (λ (a b : List Line). a ++ b) (wordless_line entry none.0) (no_lines told none.1)
+
+pub event_lines : (m : Machine) (event : Event) → May m event → lines_run (entries m event) ≡ []
+event_lines m event may = no_lines (entries m event) (event_wordless m event may)

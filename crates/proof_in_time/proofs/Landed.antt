@@ -1,31 +1,23 @@
 -- What a frame that arrives brings: a report to the chip, and a message to a device, whose answer goes on the air.
-use Rattle.std.proofs.Common.{◌≡◌, ◌≤◌, ◌<◌, ℕ, ◌+◌, ◌&&◌, nat_le, nat_lt, inl, inr, Bool, true, false, if◌then◌else◌, List, [], ◌∷◌, ◌++◌, length, refl, sym, ap, ◌∙◌, subst, arith}
-use Rattle.std.proofs.lemmas.Bool.Decides.{nat_tests}
-use Rattle.std.specs.Prelude.{◌⊎◌, ◌||◌, Option, Some, None, option_map, slice_get}
+use Rattle.std.proofs.Common.{◌≡◌, ◌≤◌, ◌<◌, ℕ, ◌+◌, nat_lt, inl, inr, Bool, true, List, [], ◌∷◌, ◌++◌, length, refl, sym, ap, ◌∙◌, subst}
+use Rattle.std.specs.Prelude.{◌⊎◌, ◌||◌, Option, Some, option_map, slice_get}
 use Rattle.std.specs.Option.{is_none, unwrap_or}
 use Rattle.serial_frame.specs.Frame.{FrameParts}
 use Rattle.route_table.specs.declared.route.Route.{Route}
-use Rattle.chip_sim.specs.Events.{Heard as chip_hears}
-use Rattle.chip_sim.specs.State.{ChipState}
-use Rattle.chip_sim.specs.Waiting.{is_full}
 use Rattle.air_frames.specs.Flown.{Flown}
 use Rattle.air_frames.specs.Frames.{next_of}
 use Rattle.air_frames.specs.History.{Mark, Goes as goes_mark}
 use Rattle.air_frames.specs.declared.frame.Departure.{Departure}
-use Rattle.air_frames.specs.declared.frame.Heading.{Heading}
 use Rattle.air_frames.specs.declared.frame.Heading.TheVariants.{Homeward}
 use Rattle.device_sim.specs.Event.{Hears, Ticks, device_replies}
 use Rattle.device_sim.specs.State.{State}
 use Rattle.mesh_sim.specs.Air.{AirState, departing, is_joined, no_route}
-use Rattle.mesh_sim.specs.Fates.{Mesh, dead_hop_of, fate_by, fate_of, listener_of}
+use Rattle.mesh_sim.specs.Fates.{Mesh, fate_of}
 use Rattle.mesh_sim.specs.Routes.{backwards}
-use Rattle.mesh_sim.specs.Steps.{acknowledged, answered, answered_if, arrival_outs, arrival_outs_as, arriving, arriving_as, heard_at, landed, mesh_after, mesh_outs}
-use Rattle.mesh_sim.specs.Steps as mesh
+use Rattle.mesh_sim.specs.Steps.{acknowledged, answered, answered_if, arriving, arriving_as, heard_at, landed, mesh_after}
 use Rattle.mesh_sim.specs.declared.fate.Fate.{Fate}
-use Rattle.mesh_sim.specs.declared.fate.Fate.TheVariants.{Lost, AtChip, AtDevice}
-use Rattle.outside_model.specs.Air.{deals, to_chip}
-use Rattle.outside_model.specs.Chip.{chip_does}
-use Rattle.outside_model.specs.State.{OuterState, Outside, each, silent}
+use Rattle.mesh_sim.specs.declared.fate.Fate.TheVariants.{AtDevice}
+use Rattle.outside_model.specs.State.{Outside}
 use Rattle.outside_model.specs.Devices.{acts_at}
 use Rattle.outside_model.specs.Events.{Arrives, Device_ticks, mesh_of, outcome, happens as happens_outside}
 use Rattle.world_model.specs.Events.{Outside_does, happens}
@@ -37,12 +29,11 @@ use Rattle.proof_answered.specs.proof_calm.Live.{IsLive}
 use Rattle.proof_answered.specs.proof_calm.Resting.{IsGiven}
 use Rattle.proof_answered.specs.proof_calm.Tied.{unheard}
 use Rattle.proof_answered.proofs.ChipNotices.{arrived_air, entered_leaves}
+use Rattle.proof_answered.proofs.Brought.{home_comes}
 use Rattle.proof_answered.proofs.Flights.{flights_are}
 use Rattle.proof_answered.proofs.Judging.{AnyFrame}
-use Rattle.proof_answered.proofs.Pending.{IsServed, has_room, has_served, line_more, line_of}
-use Rattle.proof_answered.proofs.Times.{does_chip}
 use Rattle.proof_answered.proofs.proof_traffic_Parts.{Airs}
-use Rattle.proof_answered.proofs.Unheard.{IsPiled, arrives_says, chip_is, of_port}
+use Rattle.proof_answered.proofs.Unheard.{IsPiled, arrives_says}
 use Rattle.proof_in_time.specs.Coming.{Has, IsReport, Stands, TellsEnd, brings}
 use Rattle.proof_in_time.proofs.Grown.{Arrived}
 
@@ -72,9 +63,6 @@ has_piled x = record { first = λ frame frames is has. inr has; last = λ frames
 -- ---- the chip is given something
 
 module _ (x : FrameParts) where
-  abbrev pub PortHas : ChipState → Type 0
-  PortHas s = Has x (line_of s.port)
-
   -- what it has stays there as a frame arrives
   pub arrives_has : (m : Machine) (drawn : List ℕ) (route : Option Route) → IsGiven 0 m → IsGiven 0 (happens m (Outside_does (Arrives drawn route))) → Has x (unheard m.outside.outer)
       → Has x (unheard (happens m (Outside_does (Arrives drawn route))).outside.outer)
@@ -82,43 +70,12 @@ module _ (x : FrameParts) where
 
 -- ---- a report arrives
 
-home_so : (lost : Bool) (dead : Option (ℕ × ℕ)) (heading : Heading) (listener : Option ℕ) → lost ≡ false → dead ≡ None → heading ≡ Homeward → (if lost then Lost else fate_by dead heading listener) ≡ AtChip
-home_so lost dead heading listener kept live home = rw kept (rw live (rw home refl))
-
-short_fits : (payload : List ℕ) → 1 ≤ length payload → length payload ≤ 46 → (nat_le 1 (length payload) && nat_le (length payload) 46) ≡ true
-short_fits payload some few = both (nat_le 1 (length payload)) (nat_le (length payload) 46) (grind (arith, nat_tests)) (grind (arith, nat_tests))
-  where
-    both : (a b : Bool) → a ≡ true → b ≡ true → (a && b) ≡ true
-    both a b one two = rw (one, two) refl
-
-chip_has : (o : OuterState) (from : ℕ) (payload : List ℕ) → 1 ≤ length payload → length payload ≤ 46 → IsServed o.chip.state.port → is_full o.chip.state.port.waiting ≡ false → PortHas (brings from payload) (to_chip o from payload).outer.chip.state
-chip_has o from payload some few served room =
-    subst (λ (b : Bool). PortHas (brings from payload) (if b then chip_does o (chip_hears from payload) else silent o).outer.chip.state) (sym (short_fits payload some few))
-    (subst (PortHas (brings from payload)) (sym (does_chip o (chip_hears from payload)))
-    (subst (Has (brings from payload)) (sym (line_more o.chip.state.port (brings from payload) served room)) (has_last (brings from payload) (line_of o.chip.state.port))))
-
-home_has : (w : Outside) (drawn : List ℕ) (route : Option Route) (frame : Flown) → next_of w.outer.air.frames ≡ Some frame → frame.heading ≡ Homeward → IsLive w.outer.air.network frame → 1 ≤ length frame.payload → length frame.payload ≤ 46
-    → IsServed w.outer.chip.state.port → is_full w.outer.chip.state.port.waiting ≡ false → PortHas (brings frame.node frame.payload) (outcome w (Arrives drawn route)).outer.chip.state
-unfolding outcome mesh_outs
-home_has w drawn route frame next home live some few served room =
-    subst (λ (f : Option Flown). PortHas (brings frame.node frame.payload) (each (deals later.devices) o (arrival_outs (mesh_of w) f drawn route)).outer.chip.state) (sym next)
-    (subst (λ (fate : Fate). PortHas (brings frame.node frame.payload) (each (deals later.devices) o (arrival_outs_as (mesh_of w) (w.outer.air.frames.landed + 1) frame fate drawn route)).outer.chip.state)
-    (sym (home_so frame.lost (dead_hop_of w.outer.air.network frame) frame.heading (listener_of frame.node w.devices) live.0 live.1 home)) (chip_has o frame.node frame.payload some few served room))
-  where
-    later : Mesh
-    later = mesh_after (mesh_of w) (mesh.Arrives drawn route)
-
-    o : OuterState
-    o = record w.outer { air = later.air }
-
 pub report_comes : (m : Machine) (drawn : List ℕ) (route : Option Route) (frame : Flown) → next_of m.outside.outer.air.frames ≡ Some frame → frame.heading ≡ Homeward → IsLive m.outside.outer.air.network frame → 1 ≤ length frame.payload
     → length frame.payload ≤ 46 → IsGiven 0 m → IsGiven 0 (happens m (Outside_does (Arrives drawn route))) → length m.outside.outer.chip.state.port.waiting ≤ 31
     → Has (brings frame.node frame.payload) (unheard (happens m (Outside_does (Arrives drawn route))).outside.outer)
 report_comes m drawn route frame next home live some few given later room =
     let x : FrameParts = brings frame.node frame.payload in
-    of_port AnyFrame (Has x) (has_piled x) 0 (happens m (Outside_does (Arrives drawn route))).outside.outer later.has
-    (subst (PortHas x) (sym (chip_is AnyFrame (Has x) (has_piled x) m (Arrives drawn route)))
-    (home_has m.outside drawn route frame next home live some few (has_served 0 m.outside.outer given.has) (has_room m.outside.outer.chip.state.port.waiting room)))
+    subst (Has x) (sym (home_comes m drawn route frame next home live some few given later room)) (has_last x (unheard m.outside.outer))
 
 -- ---- a message arrives
 

@@ -19,6 +19,7 @@ use Rattle.chip_sim.specs.State.{ChipState}
 use Rattle.host_requests.specs.Frames.{frame_of}
 use Rattle.host_requests.specs.declared.under_way.UnderWay.{UnderWay}
 use Rattle.host_node.specs.Facts.{NodeFacts}
+use Rattle.device_sim.specs.State.{State}
 use Rattle.host_model.specs.Events.{Node_ticks}
 use Rattle.host_node.specs.declared.series.Series.TheVariants as series
 use Rattle.host_model.specs.State.{node_of}
@@ -28,7 +29,7 @@ use Rattle.world_model.specs.State.{Machine}
 use Rattle.proof_answered.specs.proof_calm.proof_traffic.OnAir.{on_air}
 use Rattle.proof_answered.specs.proof_calm.proof_work.Phases.{AsksNothing}
 use Rattle.proof_answered.specs.proof_calm.proof_work.proof_walk.Phases.{Phase, Between, Said_line, Begun, Doing, To_tick, Ticked, Arriving, Giving, Ticking_devices, Ticking_chip, Ticking_decoder, Ticking_host, Sleeping, Submitting, Moving, Moved, Goes, Turns, after_pump, passes_after}
-use Rattle.proof_answered.specs.proof_calm.proof_work.proof_walk.Walk.{Walk, WalkWhere}
+use Rattle.proof_answered.specs.proof_calm.proof_work.proof_walk.Walk.{WalkWhere}
 use Rattle.proof_answered.proofs.proof_traffic_Parts.{Airs}
 use Rattle.proof_answered.specs.proof_calm.Awaited.{Awaits, AwaitsAt}
 use Rattle.proof_answered.specs.proof_calm.Calls.{answer_taken}
@@ -39,23 +40,31 @@ use Rattle.proof_answered.specs.proof_calm.Networks.{Members, members}
 use Rattle.proof_answered.proofs.Links.{event_members}
 use Rattle.proof_answered.proofs.Peopled.{covers_of}
 use Rattle.proof_answered.proofs.Unmarked.{nothing_asked}
-use Rattle.proof_answered.specs.FirstAttempts.{IsInTime, KnowFirst}
-use Rattle.proof_answered.specs.Outward.{AllListen, IsSentTo}
+use Rattle.zw_text.specs.Transcript.{line_of, lines_run}
+use Rattle.mesh_sim.specs.Air.{is_joined}
+use Rattle.proof_answered.specs.proof_calm.Quiet.{AreQuiet}
+use Rattle.proof_answered.specs.Few.{Knows}
+use Rattle.proof_answered.specs.FirstAttempts.{AndInTime, IsInTime, KnowFirst}
+use Rattle.proof_answered.specs.Heard.{IsHeardThen}
+use Rattle.proof_answered.specs.Outward.{AllFor, AllListen, IsSentTo}
+use Rattle.proof_answered.specs.Sleepers.{AllHear, All_listen, AreWokenSo, HasSleeper, IsAlone, One_sleeps, SaysAs, SleeperAt, StaysUp}
 use Rattle.proof_answered.specs.Workers.{IsWorkedFor, KnowStaff, KnowsWorkers}
-use Rattle.proof_answered.proofs.Outwards.{marked_within}
+use Rattle.proof_answered.proofs.AwakeNodes.{all_heard}
+use Rattle.proof_answered.proofs.Outwards.{awaits_of, marked_within}
 use Rattle.proof_answered.proofs.Staffing.{sent_on}
 use Rattle.proof_answered.proofs.Walking.{none_given}
 use Rattle.proof_answered.proofs.Speaking.{either_mark}
 use Rattle.proof_answered.proofs.Tying.{rests_unheard}
 use Rattle.proof_in_time.specs.Coming.{AllWaitFor, AreInAir, AreWaiting, AsksFor, Asked, At_work, Coming, Flies, GoWhole, Has, IsAsking, IsBusy, IsKept, IsKeptFor, KnowPlainly, KnowWaits, Sent, Told, WaitsFor, brings, has_ticked, one_later, ticks_left}
 use Rattle.proof_in_time.specs.InStep.{IsPlainly}
+use Rattle.proof_in_time.specs.Sleeping.{IsPlainlyUp}
 use Rattle.proof_in_time.proofs.Aired.{request_airs}
 use Rattle.proof_in_time.proofs.Bounded.{Devices, NoMore, arrives_wait, begins_waits, busy_still, chip_waits, effect_waits, idle_lasts, lasts_of, later_waits, line_waits, session_of, still_fits, tick_event, ticks_wait, turn_waits, unfinished_waits}
 use Rattle.proof_in_time.proofs.Carried.{Fits, IsNearEnd, carry, many_on_air}
 use Rattle.proof_in_time.proofs.Busy.{all_ticked, none_ticked, place_within, unless_ticking}
 use Rattle.proof_in_time.proofs.Commands.{on_whole, plain_start}
 use Rattle.proof_in_time.proofs.Grown.{same_adds}
-use Rattle.proof_in_time.proofs.Keeping.{judged_kept, kept_before, told_kept}
+use Rattle.proof_in_time.proofs.Keeping.{event_lines, judged_kept, kept_before, told_kept}
 use Rattle.proof_in_time.proofs.Settled.{judges_wait, sleeps_wait, submits_wait, takes_wait}
 
 -- ---- a request that is on its way is no more where nothing of the host is
@@ -95,10 +104,10 @@ none_asked n session m asks tie later = by (subst (λ (fs : List FrameParts). Ti
 
 -- ---- where a frame arrives
 
-sooner : (place frames : ℕ) → place < frames → ◌≡◌ {A = ℕ} (if nat_lt place frames then 0 else 1) 0
+pub sooner : (place frames : ℕ) → place < frames → ◌≡◌ {A = ℕ} (if nat_lt place frames then 0 else 1) 0
 sooner place frames less = ap (λ (b : Bool). if b then 0 else 1) (let so : nat_lt place frames ≡ true = grind (arith, nat_tests, less) in so)
 
-never_sooner : (place : ℕ) → ◌≡◌ {A = ℕ} (if nat_lt place 0 then 0 else 1) 1
+pub never_sooner : (place : ℕ) → ◌≡◌ {A = ℕ} (if nat_lt place 0 then 0 else 1) 1
 never_sooner place = ap (λ (b : Bool). if b then 0 else 1) (let so : nat_lt place 0 ≡ false = grind (arith, nat_tests) in so)
 
 to_tick : (x was left : ℕ) → x ≡ 0 → 0 + 0 + was ≤ left → 0 + x + was ≤ left
@@ -144,46 +153,46 @@ module _ (airs : Airs) (these : List Bool) (many : length these ≡ 233) (laws :
   as_is few next to m event is event_is next_is leads = subst (λ (e : Event). Leads few next m e) (sym event_is) (subst (λ (q : Phase). Leads few q m is) (sym next_is) leads)
 
   pub event_waits : (here next : Phase) (m : Machine) (event : Event) → Goes here m event next → May m event → IsPlainly these m event → KeepsAll event → GoWhole these m.host.state.commands → LineAt here m → AwaitsAt here m → RoomAt here m → IsRouted m.outside.outer → TieAt here m → IsPeopled these m
-      → AllListen these m → IsSentTo these m event → AreInAir these m → WaitsFor n most here m → Leads (most_then most here) next m event
-  event_waits (Said_line line) next m event (is, to) may plainly keeps go line_at awaits room routed tie peopled listen sent joined w = as_is most next (Begun line) m event _ is to (λ later. inl (line_waits airs these many laws n most marked node line m w))
-  event_waits (Doing line (first ∷ left)) next m event (is, to) may plainly keeps go line_at awaits room routed tie peopled listen sent joined w =
+      → IsHeardThen m event → IsSentTo these m event → AreInAir these m → WaitsFor n most here m → Leads (most_then most here) next m event
+  event_waits (Said_line line) next m event (is, to) may plainly keeps go line_at awaits room routed tie peopled hears sent joined w = as_is most next (Begun line) m event _ is to (λ later. inl (line_waits airs these many laws n most marked node line m w))
+  event_waits (Doing line (first ∷ left)) next m event (is, to) may plainly keeps go line_at awaits room routed tie peopled hears sent joined w =
       as_is most next (Doing line left) m event first is to (λ later. inl (effect_waits airs these many laws n most marked node line left m first line_at.0.0 awaits peopled.facts.nodes.places w))
-  event_waits (To_tick (suc ticks)) next m event (is, to) may plainly keeps go line_at awaits room routed tie peopled listen sent joined w = as_is (most - 1) next (Ticked ticks) m event _ is to (λ later. inl (begins_waits airs these many laws n most marked node ticks m w))
-  event_waits (Arriving (suc frames) ticks) next m event (drawn, route, is, to) may plainly keeps go line_at awaits room routed tie peopled listen sent joined w =
+  event_waits (To_tick (suc ticks)) next m event (is, to) may plainly keeps go line_at awaits room routed tie peopled hears sent joined w = as_is (most - 1) next (Ticked ticks) m event _ is to (λ later. inl (begins_waits airs these many laws n most marked node ticks m w))
+  event_waits (Arriving (suc frames) ticks) next m event (drawn, route, is, to) may plainly keeps go line_at awaits room routed tie peopled hears sent joined w =
       as_is most next (Arriving frames ticks) m event _ is to
       (λ later.
-      inl (arrives_wait airs these many laws n most marked node frames ticks m drawn route (subst (May m) is may) (plainly n marked).step (joined n marked) (peopled.facts.nodes.facts n) awaits.awaits listen peopled.live line_at later
+      inl (arrives_wait airs these many laws n most marked node frames ticks m drawn route (subst (May m) is may) (plainly n marked).step (joined n marked) (peopled.facts.nodes.facts n) awaits.awaits (subst (IsHeardThen m) is hears) peopled.live line_at later
       (omega (arith, room)) w))
-  event_waits (Giving (suc results) ticks) next m event (route, is, to) may plainly keeps go line_at awaits room routed tie peopled listen sent joined w = absurd (none_given m results routed awaits.many)
-  event_waits (Ticking_devices place (suc count) ticks) next m event (drawn, route, is, to) may plainly keeps go line_at awaits room routed tie peopled listen sent joined w =
+  event_waits (Giving (suc results) ticks) next m event (route, is, to) may plainly keeps go line_at awaits room routed tie peopled hears sent joined w = absurd (none_given m results routed awaits.many)
+  event_waits (Ticking_devices place (suc count) ticks) next m event (drawn, route, is, to) may plainly keeps go line_at awaits room routed tie peopled hears sent joined w =
       as_is most next (Ticking_devices (place + 1) count ticks) m event _ is to (λ later. inl (ticks_wait airs these many laws n most marked node place count ticks m drawn route (plainly n marked).step (joined n marked) awaits.awaits w))
-  event_waits (Ticking_chip ticks) next m event (is, to) may plainly keeps go line_at awaits room routed tie peopled listen sent joined w =
+  event_waits (Ticking_chip ticks) next m event (is, to) may plainly keeps go line_at awaits room routed tie peopled hears sent joined w =
       as_is most next (Ticking_decoder ticks) m event _ is to (λ later. inl (chip_waits airs these many laws n most marked node ticks m line_at later w))
-  event_waits (Ticking_decoder ticks) next m event (is, to) may plainly keeps go line_at awaits room routed tie peopled listen sent joined w = as_is most next (Ticking_host _ ticks) m event _ is to (λ later. inl (unfinished_waits airs these many laws n most marked node ticks m w))
-  event_waits (Ticking_host (first ∷ events) ticks) next m event (is, to) may plainly keeps go line_at awaits room routed tie peopled listen sent joined w =
+  event_waits (Ticking_decoder ticks) next m event (is, to) may plainly keeps go line_at awaits room routed tie peopled hears sent joined w = as_is most next (Ticking_host _ ticks) m event _ is to (λ later. inl (unfinished_waits airs these many laws n most marked node ticks m w))
+  event_waits (Ticking_host (first ∷ events) ticks) next m event (is, to) may plainly keeps go line_at awaits room routed tie peopled hears sent joined w =
       as_is most next (Ticking_host events ticks) m event _ is to
       (λ later.
       inl (tick_event airs these many laws n most marked node first events ticks m line_at.0.0 line_at.1.at_host.turn_is peopled.facts.nodes.places
       (lasts_of n most (Ticking_host (first ∷ events) ticks) m (peopled.facts.nodes.facts n) w) w))
-  event_waits (Sleeping passes ticks) next m event (k, wants, is, to) may plainly keeps go line_at awaits room routed tie peopled listen sent joined w =
+  event_waits (Sleeping passes ticks) next m event (k, wants, is, to) may plainly keeps go line_at awaits room routed tie peopled hears sent joined w =
       as_is most next (Sleeping passes ticks) m event _ is to (λ later. inl (sleeps_wait airs these many n most marked node below passes ticks m k peopled.facts.nodes.places w))
-  event_waits (Submitting passes ticks) next m event (asked, next_is, is, to) may plainly keeps go line_at awaits room routed tie peopled listen sent joined w =
+  event_waits (Submitting passes ticks) next m event (asked, next_is, is, to) may plainly keeps go line_at awaits room routed tie peopled hears sent joined w =
       as_is most next (Submitting passes ticks) m event _ is to
       (λ later.
       submits_wait airs these many n most marked node below passes ticks m asked next_is (subst (May m) is may) (plain_start these m asked (subst (May m) is may) peopled.facts go) peopled.facts.nodes.places
       (peopled.facts.nodes.facts n) w)
-  event_waits (Moving passes ticks) next m event (rest, ways, is, to) may plainly keeps go line_at awaits room routed tie peopled listen sent joined w =
+  event_waits (Moving passes ticks) next m event (rest, ways, is, to) may plainly keeps go line_at awaits room routed tie peopled hears sent joined w =
       let takes : Event = Outside_does (Chip_takes (length m.outside.outer.to_chip.bytes) rest ways) in
       as_is most next (Moved true passes ticks) m event _ is to
       (λ later.
       inl (takes_wait airs these many n most marked node below passes ticks m rest ways awaits (subst (May m) is may) line_at room tie later (subst (IsSentTo these m) is sent)
       (λ asks. request_airs airs m awaits n (session_of n m) below asks these marked passes rest ways (subst (May m) is may) line_at room tie peopled) w))
-  event_waits (Moved b passes ticks) next m event (rest, items, done, is, to) may plainly keeps go line_at awaits room routed tie peopled listen sent joined w =
+  event_waits (Moved b passes ticks) next m event (rest, items, done, is, to) may plainly keeps go line_at awaits room routed tie peopled hears sent joined w =
       let takes : Event = Host_takes (length m.outside.outer.to_host.bytes) rest items done in
       as_is most next (Sleeping passes ticks) m event _ is to
       (λ later.
       inl (judges_wait airs these many n most marked node below b passes ticks m rest items done (subst (May m) is may) line_at tie (subst KeepsAll is keeps) peopled.facts.nodes.places (peopled.facts.nodes.facts n) w))
-  event_waits here next m event goes may plainly keeps go line_at awaits room routed tie peopled listen sent joined w = absurd goes
+  event_waits here next m event goes may plainly keeps go line_at awaits room routed tie peopled hears sent joined w = absurd goes
 
   -- ---- and with no event
 
@@ -285,13 +294,26 @@ node_in_time these here m n facts all knows (inr other) = idle_lasts (node_of m.
 pub in_time : (these : List Bool) (here : Phase) (past : List Entry) (m : Machine) (event : Event) → IsKeptFor these past → KnowWaits these here past m → IsInTime m event
 in_time these here past m (Host_does (Node_ticks n)) is known =
     let stretched = is.worked.stretched in
-    let at = known.0 is.worked in
-    let tied = (at.0.0 stretched).0.0.tied stretched.quiet in
-    node_in_time these here m n (tied.7.facts.nodes.facts n) (known.1 is).waits (at.0.1 stretched) (either_mark these n)
+    let at = known is in
+    let tied = (at.0.0.0 stretched).0.tied stretched.quiet in
+    node_in_time these here m n (tied.7.facts.nodes.facts n) at.1.waits (at.0.0.1 stretched) (either_mark these n)
 in_time these here past m (Host_does event) is known = tt
 in_time these here past m event is known = tt
 
-module _ (airs : Airs) (these : List Bool) (many : length these ≡ 233) (none : is_marked these 0 ≡ false) (laws : Devices) (staff : Walk AsksNothing (KnowStaff these)) where
+-- what is proved of the frames of the host, and of the device of a node that listens, or sleeps
+pub record Hearing (these : List Bool) : Type 0 where
+  pub frames : (here next : Phase) (past : List Entry) (m : Machine) (event : Event) → Goes here m event next → May m event → AreQuiet past → Knows these here past m → IsSentTo these m event → AllFor these m → AllFor these (happens m event)
+  pub listening : (here next : Phase) (past : List Entry) (m : Machine) (event : Event) → Goes here m event next → May m event → AreQuiet past → Knows these here past m → IsSentTo these m event → AllListen these m
+      → AllListen these (happens m event)
+  pub said : (n : ℕ) → is_marked these n ≡ true → (device : State) (past : List Entry) (m : Machine) (words : List ℕ) (line : Line) → line_of (entry.Said words) ≡ line ∷ [] → AreWokenSo these (past ++ entry.Said words ∷ [])
+      → SleeperAt n device Between past m → SleeperAt n device (Said_line line) (past ++ entry.Said words ∷ []) m
+  pub turn : (n : ℕ) (device : State) (here next : Phase) (past : List Entry) (m : Machine) → Turns here m next → LineAt here m → SleeperAt n device here past m → SleeperAt n device next past m
+  pub event : (n : ℕ) → IsAlone these n → (here next : Phase) (past : List Entry) (m : Machine) (event : Event) → Goes here m event next → May m event → IsWorkedFor these (past ++ entries m event) → KnowStaff these here past m
+      → KnowStaff these next (past ++ entries m event) (happens m event) → lines_run (entries m event) ≡ [] → is_joined m.outside.outer.air n ≡ true → IsInTime m event → StaysUp these m event → SaysAs these m event
+      → (is : HasSleeper n m.outside.devices) → (later : HasSleeper n (happens m event).outside.devices) → SleeperAt n is.device here past m → SleeperAt n later.device next (past ++ entries m event) (happens m event)
+  pub stays : (n : ℕ) (m : Machine) (event : Event) → HasSleeper n m.outside.devices → HasSleeper n (happens m event).outside.devices
+
+module _ (airs : Airs) (these : List Bool) (many : length these ≡ 233) (none : is_marked these 0 ≡ false) (laws : Devices) (ears : Hearing these) (staff : WalkWhere IsHeardThen AsksNothing (KnowStaff these)) where
   joined_on : (here next : Phase) (m : Machine) (event : Event) → Goes here m event next → LineAt here m → May m event → AreInAir these m → AreInAir these (happens m event)
   joined_on here next m event goes at may joined n marked =
       let same : members (happens m event).outside.outer ≡ members m.outside.outer = event_members (members m.outside.outer) m event (covers_of here next m event goes at) may refl in
@@ -305,57 +327,127 @@ module _ (airs : Airs) (these : List Bool) (many : length these ≡ 233) (none :
   with_six n here next m event (inl w) = later_waits n (most_then 6 here) 6 next (happens m event) (six_most here) w
   with_six n here next m event (inr (due, w)) = w
 
-  all_on : (here next : Phase) (past : List Entry) (m : Machine) (event : Event) → Goes here m event next → May m event → IsPlainly these m event → IsKeptFor these (past ++ entries m event) → KnowWaits these here past m
-      → KnowStaff these next (past ++ entries m event) (happens m event) → AreWaiting these next (happens m event)
-  all_on here next past m event goes may plainly is known later =
+  -- ---- what is known at an event
+
+  -- each frame of the host that arrives is heard
+  pub heard_then : (here : Phase) (past : List Entry) (m : Machine) (event : Event) → IsKeptFor these past → KnowWaits these here past m → IsHeardThen m event
+  heard_then here past m event is known =
+      let stretched = is.worked.stretched in
+      let at = known is in
+      let tied = (at.0.0.0 stretched).0.tied stretched.quiet in
+      all_heard airs these here past m event (awaits_of here m tied.1) tied.7.live at.1.hears
+
+  pub sent_then : (here next : Phase) (past : List Entry) (m : Machine) (event : Event) → Goes here m event next → May m event → IsKeptFor these past → KnowWaits these here past m → IsSentTo these m event
+  sent_then here next past m event goes may is known =
+      let stretched = is.worked.stretched in
+      let at = known is in
+      let tied = (at.0.0.0 stretched).0.tied stretched.quiet in
+      sent_on these here next m event goes may tied.0 tied.6 (at.0.0.1 stretched).request
+
+  staff_then : (here next : Phase) (past : List Entry) (m : Machine) (event : Event) → Goes here m event next → May m event → IsKeptFor these past → KnowWaits these here past m → KnowStaff these next (past ++ entries m event) (happens m event)
+  staff_then here next past m event goes may is known = (staff.event here next past m event goes may (heard_then here past m event is known) (λ worked. (known is).0)).1
+
+  -- the device of a node that sleeps is where that may be
+  pub sleeper_on : (here next : Phase) (past : List Entry) (m : Machine) (event : Event) → Goes here m event next → May m event → IsPlainlyUp these m event → IsKeptFor these (past ++ entries m event) → KnowWaits these here past m
+      → (n : ℕ) → IsAlone these n → (is : HasSleeper n m.outside.devices) → (later : HasSleeper n (happens m event).outside.devices) → SleeperAt n is.device here past m → SleeperAt n later.device next (past ++ entries m event) (happens m event)
+  sleeper_on here next past m event goes may has is known n alone sleeper later at =
+      let before = kept_before these past (entries m event) is in
+      let up = has.1 n alone.marked sleeper in
+      ears.event n alone here next past m event goes may is.worked (λ worked. (known before).0) (staff_then here next past m event goes may before known) (event_lines m event may) ((known before).1.joined n alone.marked)
+      (in_time these here past m event before known) up.0 up.1 sleeper later at
+
+  hears_on : (here next : Phase) (past : List Entry) (m : Machine) (event : Event) → Goes here m event next → May m event → IsPlainlyUp these m event → IsKeptFor these (past ++ entries m event) → KnowWaits these here past m
+      → AllHear these here past m → AllHear these next (past ++ entries m event) (happens m event)
+  hears_on here next past m event goes may has is known hears = by hears
+    where
+      before : IsKeptFor these past
+      before = kept_before these past (entries m event) is
+
+      quiet : AreQuiet past
+      quiet = before.worked.stretched.quiet
+
+      knows : Knows these here past m
+      knows = ((known before).0.0.0 before.worked.stretched).0
+
+      sent : IsSentTo these m event
+      sent = sent_then here next past m event goes may before known
+
+      by : AllHear these here past m → AllHear these next (past ++ entries m event) (happens m event)
+      by (All_listen all) = All_listen (ears.listening here next past m event goes may quiet knows sent all)
+      by (One_sleeps n alone frames sleeper at) =
+          let later = ears.stays n m event sleeper in
+          One_sleeps n alone (ears.frames here next past m event goes may quiet knows sent frames) later (sleeper_on here next past m event goes may has is known n alone sleeper later at)
+
+  hears_said : (past : List Entry) (m : Machine) (words : List ℕ) (line : Line) → line_of (entry.Said words) ≡ line ∷ [] → IsKeptFor these (past ++ entry.Said words ∷ []) → AllHear these Between past m
+      → AllHear these (Said_line line) (past ++ entry.Said words ∷ []) m
+  hears_said past m words line read is (All_listen all) = All_listen all
+  hears_said past m words line read is (One_sleeps n alone frames sleeper at) = One_sleeps n alone frames sleeper (ears.said n alone.marked sleeper.device past m words line read is.worked.woken at)
+
+  hears_turn : (here next : Phase) (past : List Entry) (m : Machine) → Turns here m next → LineAt here m → AllHear these here past m → AllHear these next past m
+  hears_turn here next past m turns line (All_listen all) = All_listen all
+  hears_turn here next past m turns line (One_sleeps n alone frames sleeper at) = One_sleeps n alone frames sleeper (ears.turn n sleeper.device here next past m turns line at)
+
+  -- ---- from phase to phase
+
+  all_on : (here next : Phase) (past : List Entry) (m : Machine) (event : Event) → Goes here m event next → May m event → IsPlainlyUp these m event → (is : IsKeptFor these (past ++ entries m event)) → KnowWaits these here past m
+      → KnowStaff these next (past ++ entries m event) (happens m event) → AreWaiting these next (past ++ entries m event) (happens m event)
+  all_on here next past m event goes may has is known later =
       let before = kept_before these past (entries m event) is in
       let stretched = before.worked.stretched in
-      let at = known.0 before.worked in
-      let tied = (at.0.0 stretched).0.0.tied stretched.quiet in
-      let next_tied = ((later is.worked).0.0 is.worked.stretched).0.0.tied is.worked.stretched.quiet in
-      let sent = sent_on these here next m event goes may tied.0 tied.6 (at.0.1 stretched).request in
-      let was = known.1 before in
+      let at = known before in
+      let tied = (at.0.0.0 stretched).0.tied stretched.quiet in
+      let next_tied = ((later is.worked).0.0 is.worked.stretched).0.tied is.worked.stretched.quiet in
+      let sent = sent_then here next past m event goes may before known in
+      let was = at.1 in
       record {
         waits = λ n marked.
             with_six n here next m event
-            (event_waits airs these many laws n 6 marked (node_within these many none n marked) here next m event goes may plainly (keeps m event (told_kept these past (entries m event) is)) was.whole tied.0 tied.1 tied.2 tied.3 tied.6 tied.7
-            (at.0.0 stretched).1 sent was.joined (was.waits n marked) next_tied.0);
-        whole = on_whole these here next m event goes tied.0 may (λ n marked. (was.waits n marked).openly) plainly was.whole;
+            (event_waits airs these many laws n 6 marked (node_within these many none n marked) here next m event goes may has.0 (keeps m event (told_kept these past (entries m event) is)) was.whole tied.0 tied.1 tied.2 tied.3 tied.6 tied.7
+            (heard_then here past m event before known) sent was.joined (was.waits n marked) next_tied.0);
+        whole = on_whole these here next m event goes tied.0 may (λ n marked. (was.waits n marked).openly) has.0 was.whole;
         joined = joined_on here next m event goes tied.0 may was.joined;
+        hears = hears_on here next past m event goes may has is known was.hears;
       }
 
-  pub waits_walk : WalkWhere (IsPlainly these) AsksNothing (KnowWaits these)
+  pub waits_walk : WalkWhere (IsPlainlyUp these) AsksNothing (KnowWaits these)
   waits_walk = record {
     said = λ past m words line read known. (
       tt,
-      (
-        (staff.said past m words line read known.0).1,
-        λ is.
-            let was = known.1 (kept_before these past (entry.Said words ∷ []) is) in
-            record { waits = λ n marked. said_waits airs these many laws n 6 marked (node_within these many none n marked) line m (was.waits n marked); whole = was.whole; joined = was.joined },
-      ),
+      λ is.
+          let was = known (kept_before these past (entry.Said words ∷ []) is) in (
+            (staff.said past m words line read (λ worked. was.0)).1 is.worked,
+            record {
+              waits = λ n marked. said_waits airs these many laws n 6 marked (node_within these many none n marked) line m (was.1.waits n marked);
+              whole = was.1.whole;
+              joined = was.1.joined;
+              hears = hears_said past m words line read is was.1.hears;
+            },
+          ),
     );
-    event = λ here next past m event goes may plainly known.
-        let later = (staff.event here next past m event goes may known.0).1 in
-        (nothing_asked past (entries m event), (later, λ is. all_on here next past m event goes may plainly is known later));
-    turn = λ here next past m turns known.
-        let later = staff.turn here next past m turns known.0 in (
+    event = λ here next past m event goes may has known. (
+      nothing_asked past (entries m event),
+      λ is.
+          let later = staff_then here next past m event goes may (kept_before these past (entries m event) is) known in
+          (later is.worked, all_on here next past m event goes may has is known later),
+    );
+    turn = λ here next past m turns known is.
+        let was = known is in
+        let later = staff.turn here next past m turns (λ worked. was.0) is.worked in
+        let stretched = is.worked.stretched in
+        let tied = (was.0.0.0 stretched).0.tied stretched.quiet in
+        let next_tied = (later.0.0 stretched).0.tied stretched.quiet in (
           later,
-          λ is.
-              let stretched = is.worked.stretched in
-              let tied = ((known.0 is.worked).0.0 stretched).0.0.tied stretched.quiet in
-              let next_tied = ((later is.worked).0.0 stretched).0.0.tied stretched.quiet in
-              let was = known.1 is in
-              record {
-                waits = λ n marked. turns_wait airs these many laws n 6 marked (node_within these many none n marked) here next m turns tied.1 tied.6 next_tied.0 next_tied.6 (was.waits n marked);
-                whole = was.whole;
-                joined = was.joined;
-              },
+          record {
+            waits = λ n marked. turns_wait airs these many laws n 6 marked (node_within these many none n marked) here next m turns tied.1 tied.6 next_tied.0 next_tied.6 (was.1.waits n marked);
+            whole = was.1.whole;
+            joined = was.1.joined;
+            hears = hears_turn here next past m turns tied.0 was.1.hears;
+          },
         );
   }
 
   -- so each series stays at its first attempt
-  pub plainly_walk : WalkWhere IsInTime AsksNothing (KnowFirst (IsWorkedFor these) (KnowStaff these)) → WalkWhere (IsPlainly these) AsksNothing (KnowPlainly these)
+  pub plainly_walk : WalkWhere (AndInTime IsHeardThen) AsksNothing (KnowFirst (IsWorkedFor these) (KnowStaff these)) → WalkWhere (IsPlainlyUp these) AsksNothing (KnowPlainly these)
   plainly_walk first = record {
     said = λ past m words line read known. (
       tt,
@@ -363,20 +455,20 @@ module _ (airs : Airs) (these : List Bool) (many : length these ≡ 233) (none :
         (waits_walk.said past m words line read known.0).1,
         λ is.
             let before = kept_before these past (entry.Said words ∷ []) is in
-            ((first.said past m words line read (known.0.0, λ worked. known.1 before)).1).1 is.worked,
+            ((first.said past m words line read (λ worked. (known.0 before).0, λ worked. known.1 before)).1).1 is.worked,
       ),
     );
-    event = λ here next past m event goes may plainly known. (
+    event = λ here next past m event goes may has known. (
       nothing_asked past (entries m event),
       (
-        (waits_walk.event here next past m event goes may plainly known.0).1,
+        (waits_walk.event here next past m event goes may has known.0).1,
         λ is.
             let before = kept_before these past (entries m event) is in
-            ((first.event here next past m event goes may (in_time these here past m event before known.0) (known.0.0, λ worked. known.1 before)).1).1 is.worked,
+            ((first.event here next past m event goes may (heard_then here past m event before known.0, in_time these here past m event before known.0) (λ worked. (known.0 before).0, λ worked. known.1 before)).1).1 is.worked,
       ),
     );
     turn = λ here next past m turns known. (
       waits_walk.turn here next past m turns known.0,
-      λ is. ((first.turn here next past m turns (known.0.0, λ worked. known.1 is)).1) is.worked,
+      λ is. ((first.turn here next past m turns (λ worked. (known.0 is).0, λ worked. known.1 is)).1) is.worked,
     );
   }

@@ -13,6 +13,7 @@ mod Carried
 mod Bounded
 mod Settled
 mod Aired
+mod QuietPhases
 pub mod Commands
 mod GoingWhole
 mod PlainKinds
@@ -25,16 +26,28 @@ mod Served
 mod InTurn
 mod Plainly
 mod Queued
+mod Rising
+mod Rousing
+mod Serving
 mod Nearing
+mod RequestStays
+mod AskedSo
+pub mod Lively
+pub mod Until
+pub mod Asking
 mod Accepted
 pub mod Endings
 mod LastOrder
 mod BegunBefore
 mod EndedSessions
+mod FromFirst
 mod JudgedSessions
+mod JudgedCourses
+mod LockSteps
 mod JudgedRuns
 pub mod JudgedOutcomes
 mod HandFree
+mod StaysEnded
 mod BegunInside
 pub use Rattle.proof_host.proofs.Over
 pub use Rattle.proof_course_plain.proofs.AsMade

@@ -1,9 +1,13 @@
 -- From phase to phase an open session comes nearer to its end, with each tick that begins.
 use Rattle.std.proofs.Common.{◌≡◌, ◌≢◌, ◌≤◌, ◌<◌, ℕ, suc, ◌+◌, ◌-◌, inl, inr, Bool, true, false, if◌then◌else◌, List, [], ◌∷◌, ◌++◌, length, refl, sym, ap, ◌∙◌, subst, arith}
 use Rattle.std.specs.Prelude.{◌⊎◌, Option, Some, None, IsSome}
+use Rattle.std.specs.List.{AllByRecursion}
 use Rattle.zw_text.specs.declared.entry.Entry.{Entry}
 use Rattle.zw_text.specs.declared.entry.Entry.TheVariants as entry
 use Rattle.zw_text.specs.declared.line.Line.{Line}
+use Rattle.zw_text.specs.Transcript.{line_of}
+use Rattle.serial_frame.specs.Stream.{Rest}
+use Rattle.serial_frame.specs.declared.item.Item.{Item}
 use Rattle.supervision.specs.Host.{begun_of, open_session}
 use Rattle.chip_functions.specs.Field.{IsNode}
 use Rattle.chip_sim.specs.Nodes.{is_marked}
@@ -13,12 +17,13 @@ use Rattle.host_node.specs.State.{NodeState}
 use Rattle.host_node.specs.declared.series.Series.{Series}
 use Rattle.host_node.specs.declared.series.Series.TheVariants as series
 use Rattle.host_model.specs.After.{after}
-use Rattle.host_model.specs.Events.{HostEvent, Begin_unkept}
+use Rattle.host_model.specs.Events.{HostEvent, Accepts, Begin_unkept}
 use Rattle.host_model.specs.Facts.{HostFacts}
 use Rattle.host_model.specs.May.{May as MayHost}
+use Rattle.host_model.specs.Pumping.{no_more_event}
 use Rattle.host_model.specs.State.{HostState, node_of}
-use Rattle.outside_model.specs.Events.{OuterEvent, Wakes_device, Shows, Cuts}
-use Rattle.world_model.specs.Events.{Event, Outside_does, Host_does, happens, entries, May}
+use Rattle.outside_model.specs.Events.{OuterEvent, Begins_line, Begins_tick, Arrives, Gives, Device_ticks, Chip_ticks, Chip_takes, Wakes_device, Shows, Cuts}
+use Rattle.world_model.specs.Events.{Event, Outside_does, Host_does, Host_takes, Decoder_ticks, Refuses, Shows_values, happens, entries, May}
 use Rattle.world_model.specs.State.{Machine}
 use Rattle.proof_answered.specs.proof_calm.proof_work.Line.{HasOnLine}
 use Rattle.proof_answered.specs.proof_calm.proof_work.Phases.{AsksNothing}
@@ -30,32 +35,34 @@ use Rattle.proof_answered.specs.proof_calm.Routed.{IsRouted}
 use Rattle.proof_answered.specs.proof_calm.Tied.{IsPeopled, IsTied, PumpedAt, RoomAt, TieAt, unheard}
 use Rattle.proof_answered.specs.FirstAttempts.{IsInTime}
 use Rattle.proof_answered.specs.Heard.{AllSayHeard}
-use Rattle.proof_answered.proofs.AttemptEnds.{LastsAt}
+use Rattle.proof_answered.proofs.AwakeNodes.{all_heard}
 use Rattle.proof_answered.proofs.FirstWalk.{first_on}
+use Rattle.proof_answered.proofs.Outwards.{awaits_of}
+use Rattle.proof_answered.proofs.Peopled.{takes_are}
 use Rattle.proof_answered.proofs.TurnOrder.{comes_no_later, turn_least, turn_most}
 use Rattle.proof_answered.proofs.Unmarked.{nothing_asked}
 use Rattle.proof_answered.proofs.proof_traffic_Parts.{Airs}
+use Rattle.proof_answered.proofs.Speaking.{Same}
 use Rattle.proof_answered.proofs.Staffing.{sent_on}
 use Rattle.proof_answered.specs.Turns.{turn_of}
-use Rattle.proof_answered.specs.Workers.{KnowsWorkers}
-use Rattle.proof_in_time.specs.Coming.{IsKeptFor, KnowPlainly, WaitsFor}
+use Rattle.proof_answered.specs.Outward.{IsSentTo}
+use Rattle.proof_answered.specs.Workers.{IsFromSaying, KnowWorkers, KnowsWorkers, Staffed}
 use Rattle.proof_messages.specs.Reporting.{TellsPlainly}
-use Rattle.proof_answered.proofs.Outwards.{awaits_of}
-use Rattle.proof_answered.proofs.Peopled.{covers_of}
-use Rattle.proof_answered.proofs.Speaking.{Same, event_of, next_is_so, pending_from}
-use Rattle.proof_answered.proofs.Staffed.{line_on}
-use Rattle.proof_in_time.proofs.Plainly.{Tells, speak_so}
+use Rattle.proof_spoken.proofs.Keeping.{GivesNoPart}
+use Rattle.proof_in_time.specs.Coming.{AreWaiting, IsKeptFor, WaitsFor}
 use Rattle.proof_in_time.specs.Plainly.{SpeakPlainly}
-use Rattle.proof_in_time.specs.InHand.{AllServe, ComesAfter, HasEnded, IsInHand, Opened, RestsBefore, Unopened, ticks_begun, ticks_blocked, ticks_enough, ticks_of_all}
-use Rattle.proof_in_time.specs.InStep.{IsPlainly}
+use Rattle.proof_in_time.specs.Sleeping.{ComesUp, IsPlainlyUp}
+use Rattle.proof_in_time.specs.InHand.{ComesAfter, HasEnded, IsInHand, Opened, RestsBefore, Serves, Unopened, ticks_begun, ticks_blocked, ticks_enough, ticks_of_all}
 use Rattle.proof_in_time.proofs.Bounded.{Devices, either_node, some_left}
-use Rattle.proof_in_time.proofs.InHand.{Any, Due, Ended, Ends, EndsLater, Goes_on, Hand, HandAt, HasTurn, Idles, KeptLaws, Rests, Runs, any_kept, event_hand, later_hand_as, later_kept}
+use Rattle.proof_in_time.proofs.InHand.{Due, Ended, EndsLater, Goes_on, HandAt, HasTurn, Idles, KeptLaws, Rests, Runs, Sleeps_on, event_hand, later_hand_as, later_kept, turn_left}
 use Rattle.proof_in_time.proofs.InTurn.{ComesTo, In_turn, IsOwed, Owed, no_part, owed_on, owed_turn, seven_left}
 use Rattle.proof_in_time.proofs.Keeping.{kept_before, none_unkept, told_kept}
-use Rattle.proof_in_time.proofs.Queued.{queue_on}
-use Rattle.proof_in_time.proofs.Lasting.{LaterOn, event_waits, in_time, keeps, most_then, node_within, said_waits, turns_wait}
+use Rattle.proof_in_time.proofs.Lasting.{LaterOn, event_waits, in_time, keeps, most_then, said_waits, turns_wait}
 use Rattle.proof_in_time.proofs.Retried.{held_on, own_tick_left, rests_on, rests_turn, ticks_then}
-use Rattle.proof_in_time.proofs.Served.{BeginsNone, BeginsNoTick, IsPartOf, ServesNext, event_clock, served_now, tick_clock}
+use Rattle.proof_in_time.proofs.Rising.{HasRisen, IsServed, Risen, rests_at, serves_now}
+use Rattle.proof_in_time.proofs.Rousing.{come_on, some_up, up_said, up_turn}
+use Rattle.proof_in_time.proofs.Served.{BeginsNone, BeginsNoTick, IsPartOf, ServesNext, each_no_part, event_clock, events_served, served_now, tick_clock}
+use Rattle.proof_in_time.proofs.Serving.{KnowServed, risen_on, risen_said, risen_turn}
 
 -- an attempt of the node runs, and what it waits for comes within so many ticks
 pub record RunsOn (n ticks : ℕ) (here : Phase) (m : Machine) : Type 0 where
@@ -71,115 +78,134 @@ IsOverSoon these n ticks more wait here = suc wait + (1 + ticks_of_all these (su
 abbrev pub IsHeldSoon : List Bool → ℕ → ℕ → ℕ → Phase → Type 0
 IsHeldSoon these n ticks more here = 1 + ticks_of_all these (suc more) ≤ ticks + own_tick_left n here
 
+abbrev pub Never : ℕ → Type 0
+Never more = ⊥
+
+abbrev pub NeverRests : ℕ → ℕ → Type 0
+NeverRests more wait = ⊥
+
 -- the session of the command is over within so many ticks: those of the sessions that are to follow the one that is to begin or is open come after that
-abbrev pub Soon : List Bool → ℕ → ℕ → ℕ → Phase → Machine → Type 0
-Soon these n command ticks here m =
-    Hand
-    (EndsLater command (λ (more : ℕ). ComesTo these n (ticks - ticks_of_all these more) here m) (λ (more : ℕ). RunsOn n (ticks - ticks_of_all these more) here m) (λ (more : ℕ). IsHeldSoon these n ticks more here)
-    (λ (more wait : ℕ). IsOverSoon these n ticks more wait here)) (node_of m.host.state n)
+abbrev pub EndsSoon : List Bool → ℕ → ℕ → ℕ → Phase → Machine → Type 0
+EndsSoon these n command ticks here m =
+    EndsLater command (λ (more : ℕ). ComesTo these n (ticks - ticks_of_all these more) here m) (λ (more : ℕ). RunsOn n (ticks - ticks_of_all these more) here m) (λ (more : ℕ). IsHeldSoon these n ticks more here)
+    (λ (more wait : ℕ). IsOverSoon these n ticks more wait here) Never (node_of m.host.state n)
 
--- the host listens to each of them, and has no task of its own; and what is on its way to it asks it for none
-pub record AreServed (these : List Bool) (m : Machine) : Type 0 where
-  pub serve : AllServe these m.host.state
-  pub speak : SpeakPlainly these m
+-- so many ticks are enough for those sessions, once so many others have begun
+abbrev pub Enough : List Bool → ℕ → ℕ → ℕ → Type 0
+Enough these late ticks more = late + ticks_of_all these (suc more) ≤ ticks
 
--- what is known beside
-abbrev pub KnowServed : List Bool → Phase → List Entry → Machine → Type 0
-KnowServed these here past m = KnowPlainly these here past m × (IsKeptFor these past → AreServed these m)
+-- whatever becomes of the node until then
+abbrev pub WaitsOn : List Bool → ℕ → ℕ → ℕ → NodeState → Type 0
+WaitsOn these command late ticks x = EndsLater command (Enough these late ticks) (Enough these late ticks) (Enough these late ticks) NeverRests (λ (more : ℕ). Enough these late ticks (suc more)) x
+
+-- so it is; or the node was woken, and its Notification comes to the host within so many ticks, and one before that
+pub data Soon (listening : Bool) (these : List Bool) (n command ticks : ℕ) (here : Phase) (past : List Entry) (m : Machine) : Type 0 where
+  Wakes_soon : listening ≡ false → (left : ℕ) → ComesUp n left here m → WaitsOn these command (left + 1) ticks (node_of m.host.state n) → Soon listening these n command ticks here past m
+  Ends_soon : Risen listening n here past m → EndsSoon these n command ticks here m → Soon listening these n command ticks here past m
 
 -- what is known beside: the session of the command is over within as many ticks as are left
-abbrev pub KnowSoon : List Bool → ℕ → ℕ → ℕ → Phase → List Entry → Machine → Type 0
-KnowSoon these n command most here past m = KnowServed these here past m × (IsKeptFor these past → Soon these n command (most - ticks_begun m) here m)
+abbrev pub KnowSoon : Bool → List Bool → ℕ → ℕ → ℕ → Phase → List Entry → Machine → Type 0
+KnowSoon listening these n command most here past m = KnowServed listening these here past m × (IsKeptFor these past → Soon listening these n command (most - ticks_begun m) here past m)
 
--- ---- what is so of the host: a node that has work comes no later
+-- ---- where the node may still be woken
 
--- before an event: so it is of a node that had work, of one that ran, of a session that was over then, or of a node that is blocked; with so many sessions to follow
-pub record Origins : Type 1 where
-  pub Turns_up : ℕ → Type 0
-  pub Ran : ℕ → Type 0
-  pub Left : ℕ → Type 0
-  pub Held : ℕ → Type 0
-  pub Rests_so : ℕ → ℕ → Type 0
-  pub turn_left : (more : ℕ) → Turns_up (suc more) → Left more
-  pub ran_left : (more : ℕ) → Ran (suc more) → Left more
-  pub left_left : (more : ℕ) → Left (suc more) → Left more
-  pub fewer : (more : ℕ) → Held (suc more) → Held more
-  pub held_left : (more : ℕ) → Held more → Left more
-  pub rests_fall : (more wait : ℕ) → Rests_so more (suc wait) → Rests_so more wait
-  pub rests_left : (more wait : ℕ) → Rests_so more wait → Left (suc more)
-  pub rests_held : (more wait : ℕ) → Rests_so more wait → Held (suc more)
+module _ (these : List Bool) (command late ticks : ℕ) where
+  pub waiting_kept : KeptLaws (WaitsOn these command late ticks)
+  waiting_kept =
+      later_kept command (Enough these late ticks) (Enough these late ticks) (Enough these late ticks) (λ more q. q) (λ more q. omega (arith, q)) (λ more q. omega (arith, q)) (λ more q. omega (arith, q)) (λ more q. q) NeverRests
+      (λ more wait w. w) (λ more wait w. absurd w) (λ more wait w. absurd w) (λ more wait w. absurd w) (λ (more : ℕ). Enough these late ticks (suc more)) (λ more s. s) (λ more s. s)
 
-module _ (facts_kept : (h : HostState) (event : HostEvent) → HostFacts h → MayHost h event → HostFacts (after h event)) (these : List Bool) (n : ℕ) (within : n < 233) (some : 1 ≤ n) (command turn : ℕ) (o : Origins) where
-  -- its turn is no later than it was
-  abbrev D : HostState → ℕ → Type 0
-  D h more = (o.Turns_up more × (turn_of these h.served n ≤ turn)) ⊎ o.Left more
+  -- with other ticks, where these are enough
+  pub waiting_as : (then_late then_ticks : ℕ) (x : NodeState) → ((more : ℕ) → Enough these late ticks more → Enough these then_late then_ticks more) → WaitsOn these command late ticks x → WaitsOn these command then_late then_ticks x
+  waiting_as then_late then_ticks x with_more (Goes_on (Ended is)) = Goes_on (Ended is)
+  waiting_as then_late then_ticks x with_more (Goes_on (Idles more none idle at d v)) = Goes_on (Idles more none idle at (λ is_free. with_more more (d is_free)) (λ is_blocked. with_more more (v is_blocked)))
+  waiting_as then_late then_ticks x with_more (Goes_on (Due more session opened so at d v)) = Goes_on (Due more session opened so at (with_more more d) (λ is_blocked. with_more more (v is_blocked)))
+  waiting_as then_late then_ticks x with_more (Goes_on (Runs more session opened so at r v)) = Goes_on (Runs more session opened so at (with_more more r) (λ is_blocked. with_more more (v is_blocked)))
+  waiting_as then_late then_ticks x with_more (Rests more session wait listens opened idle again at w) = absurd w
+  waiting_as then_late then_ticks x with_more (Sleeps_on more down idle at s) = Sleeps_on more down idle at (with_more (suc more) s)
 
-  abbrev R : ℕ → Type 0
-  R more = (o.Ran more ⊎ o.Turns_up more) ⊎ o.Left more
-
-  record On (h : HostState) : Type 0 where
-    pub facts : HostFacts h
-    pub hand : Hand (EndsLater command (D h) R o.Held o.Rests_so) (node_of h n)
-
-  on_kept : (h : HostState) (event : HostEvent) → LastsAt h event → MayHost h event → On h → On (after h event)
-  on_kept h event lasts may on = record {
-    facts = facts_kept h event on.facts may;
-    hand = later_hand_as command DueSo R o.Held (D (after h event)) R o.Held o.Rests_so o.Rests_so (node_of (after h event) n) due (λ more so r. r) (λ more blocked v. v) (λ more wait idle again w. w) later.hand;
-  }
-    where
-      DueSo : ℕ → Type 0
-      DueSo more = (HasTurn (node_of h n) × o.Turns_up more × (turn_of these h.served n ≤ turn)) ⊎ o.Left more
-
-      starts : (more : ℕ) → DueSo more → R more
-      starts more (inl (has, a, few)) = inl (inr a)
-      starts more (inr left) = inr left
-
-      less : (more : ℕ) → DueSo (suc more) → DueSo more
-      less more (inl (has, a, few)) = inr (o.turn_left more a)
-      less more (inr left) = inr (o.left_left more left)
-
-      over : (more : ℕ) → R (suc more) → DueSo more
-      over more (inl (inl ran)) = inr (o.ran_left more ran)
-      over more (inl (inr a)) = inr (o.turn_left more a)
-      over more (inr left) = inr (o.left_left more left)
-
-      as_turn : (more : ℕ) → HasTurn (node_of h n) → D h more → DueSo more
-      as_turn more has (inl (a, few)) = inl (has, a, few)
-      as_turn more has (inr left) = inr left
-
-      laws : KeptLaws (EndsLater command DueSo R o.Held o.Rests_so)
-      laws =
-          later_kept command DueSo R o.Held starts less over o.fewer (λ more v. inr (o.held_left more v)) o.Rests_so o.rests_fall (λ more wait w. inr (o.rests_left more wait w)) (λ more wait w. inr (o.left_left more (o.rests_left more wait w)))
-          o.rests_held
-
-      later : HandAt (EndsLater command DueSo R o.Held o.Rests_so) laws n (after h event).nodes
-      later =
-          event_hand (EndsLater command DueSo R o.Held o.Rests_so) laws n within h event lasts may
-          (record { places = on.facts.nodes.places; hand = later_hand_as command (D h) R o.Held DueSo R o.Held o.Rests_so o.Rests_so (node_of h n) as_turn (λ more so r. r) (λ more blocked v. v) (λ more wait idle again w. w) on.hand })
-
-      turned : HasTurn (node_of h n) → (node_of (after h event) n).series ≢ series.Running → turn_of these h.served n ≤ turn → ((after h event).served ≡ h.served) ⊎ ServesNext h event → turn_of these (after h event).served n ≤ turn
-      turned has then_rests few (inl same) = subst (λ (s : ℕ). turn_of these s n ≤ turn) (sym same) few
-      turned has then_rests few (inr next) = by (either_node n next.node)
-        where
-          by : (next.node ≡ n) ⊎ (next.node ≢ n) → turn_of these (after h event).served n ≤ turn
-          by (inl same) = absurd (no_part n within h event on.facts may (subst (λ (k : ℕ). IsPartOf event k) same next.part) has.0 then_rests)
-          by (inr other) =
-              let passed = comes_no_later these h.nodes h.served next.node n has.1 some (omega (arith, within)) (λ e. other (sym e)) next.is_next in
-              subst (λ (s : ℕ). turn_of these s n ≤ turn) (sym next.served) (omega (arith, passed, few))
-
-      due : (more : ℕ) → HasTurn (node_of (after h event) n) → DueSo more → D (after h event) more
-      due more then_has (inl (has, a, few)) = inl (a, turned has then_has.0 few (served_now h event may))
-      due more then_has (inr left) = inr left
+  -- once it has risen, its turn comes
+  pub waiting_ends : (n : ℕ) (here : Phase) (m : Machine) → IsNode n → 1 ≤ late → IsServed n m.host.state → WaitsFor n 6 here m → WaitsOn these command late ticks (node_of m.host.state n) → EndsSoon these n command ticks here m
+  waiting_ends n here m node some served six waits =
+      later_hand_as command (Enough these late ticks) (Enough these late ticks) (Enough these late ticks) (λ (more : ℕ). ComesTo these n (ticks - ticks_of_all these more) here m) (λ (more : ℕ). RunsOn n (ticks - ticks_of_all these more) here m)
+      (λ (more : ℕ). IsHeldSoon these n ticks more here) NeverRests (λ (more wait : ℕ). IsOverSoon these n ticks more wait here) (λ (more : ℕ). Enough these late ticks (suc more)) Never (node_of m.host.state n) (λ left. (served left).0)
+      (λ more has q. let most = turn_most these m.host.state.served n node.1 in In_turn (omega (arith, q, most))) (λ more so q. record { most = 6; waits = six; few = omega (arith, q) }) (λ more blocked q. omega (arith, q, some))
+      (λ more wait idle again w. absurd w) waits
 
 -- ---- from phase to phase
 
-module _ (airs : Airs) (these : List Bool) (many : length these ≡ 233) (laws : Devices) (facts_kept : (h : HostState) (event : HostEvent) → HostFacts h → MayHost h event → HostFacts (after h event))
-    (workers : (h : HostState) (k : ℕ) → KnowsWorkers these h → next_of h.nodes h.served ≡ Some k → is_marked these k ≡ true) (n : ℕ) (marked : is_marked these n ≡ true) (node : IsNode n) (command : ℕ) where
+module _ (airs : Airs) (these : List Bool) (many : length these ≡ 233) (laws : Devices) (workers : (h : HostState) (k : ℕ) → KnowsWorkers these h → next_of h.nodes h.served ≡ Some k → is_marked these k ≡ true) (n : ℕ) (marked : is_marked these n ≡ true)
+    (node : IsNode n) (command : ℕ) where
   below : n < 233
   below = let few = node.1 in omega (arith, few)
 
   abbrev Tied_at : Phase → Machine → Type 0
   Tied_at here m = LineAt here m × AwaitsAt here m × RoomAt here m × IsRouted m.outside.outer × HasOnLine m.host.state × PumpedAt here m × TieAt here m × IsPeopled these m
+
+  -- ---- another node that is served comes no later
+
+  turned : (h : HostState) (event : HostEvent) → HostFacts h → MayHost h event → HasTurn (node_of h n) → (node_of (after h event) n).series ≢ series.Running → turn_of these (after h event).served n ≤ turn_of these h.served n
+  turned h event facts may has then_rests = by (served_now h event may)
+    where
+      by : ((after h event).served ≡ h.served) ⊎ ServesNext h event → turn_of these (after h event).served n ≤ turn_of these h.served n
+      by (inl same) = subst (λ (s : ℕ). turn_of these s n ≤ turn_of these h.served n) (sym same) (omega arith)
+      by (inr next) = of (either_node n next.node)
+        where
+          of : (next.node ≡ n) ⊎ (next.node ≢ n) → turn_of these (after h event).served n ≤ turn_of these h.served n
+          of (inl same) = absurd (no_part n below h event facts may (subst (λ (k : ℕ). IsPartOf event k) same next.part) has.0 then_rests)
+          of (inr other) =
+              let passed = comes_no_later these h.nodes h.served next.node n has.1 node.0 (omega (arith, below)) (λ e. other (sym e)) next.is_next in
+              subst (λ (s : ℕ). turn_of these s n ≤ turn_of these h.served n) (sym next.served) passed
+
+  abbrev Passes : Machine → Event → Type 0
+  Passes m event = HasTurn (node_of m.host.state n) → (node_of (happens m event).host.state n).series ≢ series.Running → turn_of these (happens m event).host.state.served n ≤ turn_of these m.host.state.served n
+
+  as_passed : (m : Machine) (event is : Event) → event ≡ is → Passes m is → Passes m event
+  as_passed m event is same passes = subst (Passes m) (sym same) passes
+
+  outer_passes : (m : Machine) (event : OuterEvent) → Passes m (Outside_does event)
+  unfolding happens
+  outer_passes m event has rests = omega arith
+
+  decoder_passes : (m : Machine) → Passes m Decoder_ticks
+  unfolding happens
+  decoder_passes m has rests = omega arith
+
+  does_passes : (m : Machine) (event : HostEvent) → HostFacts m.host.state → May m (Host_does event) → Passes m (Host_does event)
+  unfolding happens May
+  does_passes m event facts may has rests = turned m.host.state event facts may.0 has rests
+
+  effect_passes : (m : Machine) (event : Event) → IsEffect event → HostFacts m.host.state → May m event → Passes m event
+  unfolding happens
+  effect_passes m (Outside_does event) is facts may has rests = omega arith
+  effect_passes m (Host_does (Accepts order carriage)) is facts may has rests = does_passes m (Accepts order carriage) facts may has rests
+  effect_passes m (Refuses line refusal) is facts may has rests = omega arith
+  effect_passes m (Shows_values k) is facts may has rests = omega arith
+  effect_passes m (Host_does event) is facts may has rests = absurd is
+  effect_passes m event is facts may has rests = absurd is
+
+  takes_passes : (m : Machine) (count : ℕ) (rest : Rest) (items : List Item) (events : List HostEvent) → AllByRecursion GivesNoPart events → Passes m (Host_takes count rest items events)
+  unfolding happens
+  takes_passes m count rest items events none has rests = subst (λ (s : ℕ). turn_of these s n ≤ turn_of these m.host.state.served n) (sym (events_served m.host.state events none)) (omega arith)
+
+  passes_on : (here next : Phase) (m : Machine) (event : Event) → Goes here m event next → May m event → Tied_at here m → SpeakPlainly these m → Passes m event
+  passes_on (Said_line line) next m event (is, to) may at speak = as_passed m event _ is (outer_passes m Begins_line)
+  passes_on (Doing line (first ∷ left)) next m event (is, to) may at speak = as_passed m event first is (effect_passes m first at.0.0.0 at.7.facts (subst (May m) is may))
+  passes_on (To_tick (suc ticks)) next m event (is, to) may at speak = as_passed m event _ is (outer_passes m Begins_tick)
+  passes_on (Arriving (suc frames) ticks) next m event (drawn, route, is, to) may at speak = as_passed m event _ is (outer_passes m (Arrives drawn route))
+  passes_on (Giving (suc results) ticks) next m event (route, is, to) may at speak = as_passed m event _ is (outer_passes m (Gives route))
+  passes_on (Ticking_devices place (suc count) ticks) next m event (drawn, route, is, to) may at speak = as_passed m event _ is (outer_passes m (Device_ticks place drawn route))
+  passes_on (Ticking_chip ticks) next m event (is, to) may at speak = as_passed m event _ is (outer_passes m Chip_ticks)
+  passes_on (Ticking_decoder ticks) next m event (is, to) may at speak = as_passed m event _ is (decoder_passes m)
+  passes_on (Ticking_host (first ∷ events) ticks) next m event (is, to) may at speak = as_passed m event _ is (does_passes m first at.7.facts (subst (May m) is may))
+  passes_on (Sleeping passes ticks) next m event (k, wants, is, to) may at speak = as_passed m event _ is (does_passes m (no_more_event m.host.state k) at.7.facts (subst (May m) is may))
+  passes_on (Submitting passes ticks) next m event (asked, next_so, is, to) may at speak = as_passed m event _ is (does_passes m asked at.7.facts (subst (May m) is may))
+  passes_on (Moving passes ticks) next m event (rest, ways, is, to) may at speak = as_passed m event _ is (outer_passes m (Chip_takes (length m.outside.outer.to_chip.bytes) rest ways))
+  passes_on (Moved b passes ticks) next m event (rest, items, events, is, to) may at speak =
+      as_passed m event _ is
+      (takes_passes m (length m.outside.outer.to_host.bytes) rest items events
+      (takes_are GivesNoPart (IsFromSaying these TellsPlainly) airs b passes m rest items events (each_no_part (IsFromSaying these TellsPlainly) m.outside.outer.chip.state.joined) (subst (May m) is may) at.0 at.6 speak.pending))
+  passes_on here next m event goes may at speak = absurd goes
 
   few_on : (here : Phase) (most ticks : ℕ) (m : Machine) → WaitsFor n most here m → (node_of m.host.state n).series ≡ series.Running → most + 1 ≤ ticks → most_then most here + 1 ≤ ticks_then ticks here
   few_on (To_tick (suc more)) most ticks m w so few =
@@ -230,22 +256,33 @@ module _ (airs : Airs) (these : List Bool) (many : length these ≡ 233) (laws :
   has_more : (ticks more some : ℕ) → 1 ≤ some → some ≤ ticks - ticks_of_all these (suc more) → HasMore ticks more
   has_more ticks more some least few = omega (arith, least, few)
 
-  soon_on : (ticks : ℕ) (here next : Phase) (m : Machine) (event : Event) → Goes here m event next → May m event → m.host.state.requests.queue ≡ [] → IsInTime m event → ((k : ℕ) → event ≡ Host_does (Begin_unkept k) → ⊥) → Tied_at here m
-      → AllSayHeard (unheard m.outside.outer) → KnowsWorkers these m.host.state → Tied_at next (happens m event) → WaitsFor n 6 next (happens m event)
-      → ((most : ℕ) → WaitsFor n most here m → LaterOn airs these many laws n most marked node (most_then most here) next m event) → Soon these n command ticks here m → Soon these n command (ticks_then ticks here) next (happens m event)
-  soon_on ticks here next m event goes may empty on_time kept at heard knows next_at six waits_on soon =
-      later_hand_as command (D facts_kept these n below node.0 command turn o (happens m event).host.state) (R facts_kept these n below node.0 command turn o) o.Held
-      (λ (more : ℕ). ComesTo these n (ticks_then ticks here - ticks_of_all these more) next (happens m event)) (λ (more : ℕ). RunsOn n (ticks_then ticks here - ticks_of_all these more) next (happens m event))
-      (λ (more : ℕ). IsHeldSoon these n (ticks_then ticks here) more next) o.Rests_so (λ (more wait : ℕ). IsOverSoon these n (ticks_then ticks here) more wait next) (node_of (happens m event).host.state n) due runs held rests later.hand
-    where
-      turn : ℕ
-      turn = turn_of these m.host.state.served n
+  -- what is so of the node stays so
+  run : (E : NodeState → Type 0) → KeptLaws E → (here next : Phase) (m : Machine) (event : Event) → Goes here m event next → May m event → IsInTime m event → ((k : ℕ) → event ≡ Host_does (Begin_unkept k) → ⊥) → Tied_at here m
+      → AllSayHeard (unheard m.outside.outer) → E (node_of m.host.state n) → E (node_of (happens m event).host.state n)
+  run E kept_laws here next m event goes may on_time kept at heard e =
+      let later = first_on (λ (h : HostState). HandAt E kept_laws n h.nodes) (λ h one lasts may_it on. event_hand E kept_laws n below h one lasts may_it on) airs here next m event goes may on_time at.0 at.1 at.6 heard (λ k same on. absurd (kept k same))
+      (record { places = at.7.facts.nodes.places; hand = e }) in
+      later.hand
 
+  soon_on : (ticks : ℕ) (here next : Phase) (m : Machine) (event : Event) → Goes here m event next → May m event → IsInTime m event → ((k : ℕ) → event ≡ Host_does (Begin_unkept k) → ⊥) → Tied_at here m → AllSayHeard (unheard m.outside.outer)
+      → KnowsWorkers these m.host.state → SpeakPlainly these m → Tied_at next (happens m event) → WaitsFor n 6 next (happens m event)
+      → ((most : ℕ) → WaitsFor n most here m → LaterOn airs these many laws n most marked node (most_then most here) next m event) → IsServed n m.host.state → IsServed n (happens m event).host.state → EndsSoon these n command ticks here m
+      → EndsSoon these n command (ticks_then ticks here) next (happens m event)
+  soon_on ticks here next m event goes may on_time kept at heard knows speak next_at six waits_on served then_served soon =
+      later_hand_as command D R V (λ (more : ℕ). ComesTo these n (ticks_then ticks here - ticks_of_all these more) next (happens m event)) (λ (more : ℕ). RunsOn n (ticks_then ticks here - ticks_of_all these more) next (happens m event))
+      (λ (more : ℕ). IsHeldSoon these n (ticks_then ticks here) more next) C (λ (more wait : ℕ). IsOverSoon these n (ticks_then ticks here) more wait next) Never Never (node_of (happens m event).host.state n) (λ left. (then_served left).0) due runs held rests later
+    where
       A : ℕ → Type 0
       A more = HasTurn (node_of m.host.state n) × ComesTo these n (ticks - ticks_of_all these more) here m
 
       B : ℕ → Type 0
       B more = ((node_of m.host.state n).series ≡ series.Running) × RunsOn n (ticks - ticks_of_all these more) here m
+
+      D : ℕ → Type 0
+      D more = A more ⊎ HasMore (ticks_then ticks here) more
+
+      R : ℕ → Type 0
+      R more = (B more ⊎ A more) ⊎ HasMore (ticks_then ticks here) more
 
       old : ℕ
       old = (node_of m.host.state n).again_wait
@@ -260,73 +297,69 @@ module _ (airs : Airs) (these : List Bool) (many : length these ≡ 233) (laws :
       one : ticks + own_tick_left n here ≤ ticks_then ticks here + 1
       one = then_most ticks here
 
-      turn_left : (more : ℕ) → A (suc more) → HasMore (ticks_then ticks here) more
-      turn_left more (has, comes) =
+      turn_has : (more : ℕ) → A (suc more) → HasMore (ticks_then ticks here) more
+      turn_has more (has, comes) =
           has_more (ticks_then ticks here) more 7 (omega arith) (subst (λ (k : ℕ). 7 ≤ k) (then_less ticks (ticks_of_all these (suc more)) here) (seven_on here (ticks - ticks_of_all these (suc more)) m comes))
 
-      ran_left : (more : ℕ) → B (suc more) → HasMore (ticks_then ticks here) more
-      ran_left more (so, r) =
+      ran_has : (more : ℕ) → B (suc more) → HasMore (ticks_then ticks here) more
+      ran_has more (so, r) =
           has_more (ticks_then ticks here) more (most_then r.most here + 1) (omega arith)
           (subst (λ (k : ℕ). most_then r.most here + 1 ≤ k) (then_less ticks (ticks_of_all these (suc more)) here) (few_on here r.most (ticks - ticks_of_all these (suc more)) m r.waits so r.few))
 
-      left_left : (more : ℕ) → HasMore (ticks_then ticks here) (suc more) → HasMore (ticks_then ticks here) more
-      left_left more left = omega (arith, left)
+      fewer_has : (more : ℕ) → HasMore (ticks_then ticks here) (suc more) → HasMore (ticks_then ticks here) more
+      fewer_has more left = omega (arith, left)
+
+      less : (more : ℕ) → D (suc more) → D more
+      less more (inl a) = inr (turn_has more a)
+      less more (inr left) = inr (fewer_has more left)
+
+      over : (more : ℕ) → R (suc more) → D more
+      over more (inl (inl ran)) = inr (ran_has more ran)
+      over more (inl (inr a)) = inr (turn_has more a)
+      over more (inr left) = inr (fewer_has more left)
+
+      starts : (more : ℕ) → D more → R more
+      starts more (inl a) = inl (inr a)
+      starts more (inr left) = inr left
 
       fewer : (more : ℕ) → V (suc more) → V more
       fewer more (inl (blocked, enough)) = inl (blocked, omega (arith, enough))
       fewer more (inr enough) = inr (omega (arith, enough))
 
-      held_left : (more : ℕ) → V more → HasMore (ticks_then ticks here) more
-      held_left more (inl (blocked, enough)) = omega (arith, enough, one)
-      held_left more (inr enough) = omega (arith, enough)
+      freed : (more : ℕ) → V more → D more
+      freed more (inl (blocked, enough)) = inr (omega (arith, enough, one))
+      freed more (inr enough) = inr (omega (arith, enough))
 
-      o : Origins
-      o = record {
-        Turns_up = A;
-        Ran = B;
-        Left = λ (more : ℕ). HasMore (ticks_then ticks here) more;
-        Held = V;
-        Rests_so = C;
-        turn_left = turn_left;
-        ran_left = ran_left;
-        left_left = left_left;
-        fewer = fewer;
-        held_left = held_left;
-        rests_fall = λ more wait w. (w.0, let less = w.1 in omega (arith, less));
-        rests_left = λ more wait w. let enough = w.0 in let less = w.1 in omega (arith, enough, less, one);
-        rests_held = λ more wait w. let enough = w.0 in let less = w.1 in inr (omega (arith, enough, less, one));
-      }
+      kept_laws : KeptLaws (EndsLater command D R V C Never)
+      kept_laws =
+          later_kept command D R V starts less over fewer freed C (λ more wait w. (w.0, let fall = w.1 in omega (arith, fall))) (λ more wait w. inr (let enough = w.0 in let fall = w.1 in omega (arith, enough, fall, one)))
+          (λ more wait w. inr (let enough = w.0 in let fall = w.1 in omega (arith, enough, fall, one))) (λ more wait w. inr (let enough = w.0 in let fall = w.1 in omega (arith, enough, fall, one))) Never (λ more s. absurd s) (λ more s. absurd s)
 
-      now : On facts_kept these n below node.0 command turn o m.host.state
-      now = record {
-        facts = at.7.facts;
-        hand = later_hand_as command (λ (more : ℕ). ComesTo these n (ticks - ticks_of_all these more) here m) (λ (more : ℕ). RunsOn n (ticks - ticks_of_all these more) here m)
-            (λ (more : ℕ). IsHeldSoon these n ticks more here) (D facts_kept these n below node.0 command turn o m.host.state) (R facts_kept these n below node.0 command turn o) o.Held (λ (more wait : ℕ). IsOverSoon these n ticks more wait here) o.Rests_so
-            (node_of m.host.state n) (λ more has comes. inl ((has, comes), omega arith)) (λ more so runs_on. inl (inl (so, runs_on))) (λ more blocked v. inl (blocked, v))
-            (λ more wait idle again w. (omega (arith, w, again), omega (arith, again))) soon;
-      }
-
-      later : On facts_kept these n below node.0 command turn o (happens m event).host.state
+      later : EndsLater command D R V C Never (node_of (happens m event).host.state n)
       later =
-          first_on (On facts_kept these n below node.0 command turn o) (on_kept facts_kept these n below node.0 command turn o) airs here next m event goes may on_time at.0 at.1 at.6 heard (λ k same on. absurd (kept k same)) now
+          run (EndsLater command D R V C Never) kept_laws here next m event goes may on_time kept at heard
+          (later_hand_as command (λ (more : ℕ). ComesTo these n (ticks - ticks_of_all these more) here m) (λ (more : ℕ). RunsOn n (ticks - ticks_of_all these more) here m) (λ (more : ℕ). IsHeldSoon these n ticks more here) D R V
+          (λ (more wait : ℕ). IsOverSoon these n ticks more wait here) C Never Never (node_of m.host.state n) (λ left. (served left).0) (λ more has comes. inl (has, comes)) (λ more so runs_on. inl (inl (so, runs_on))) (λ more blocked v. inl (blocked, v))
+          (λ more wait idle again w. (omega (arith, w, again), omega (arith, again))) soon)
 
       rests : (more wait : ℕ) → (node_of (happens m event).host.state n).series ≡ series.Idle → (node_of (happens m event).host.state n).again_wait ≡ suc wait → C more wait → IsOverSoon these n (ticks_then ticks here) more wait next
-      rests more wait idle again (enough, less) = rests_on n (node.0, below) ticks wait (1 + ticks_of_all these (suc (suc more))) here next m event goes on_time at.7.facts.nodes.places (omega arith) idle again less enough
+      rests more wait idle again (enough, fall) = rests_on n (node.0, below) ticks wait (1 + ticks_of_all these (suc (suc more))) here next m event goes on_time at.7.facts.nodes.places (omega arith) idle again fall enough
 
       held : (more : ℕ) → (node_of (happens m event).host.state n).blocked ≡ true → V more → IsHeldSoon these n (ticks_then ticks here) more next
       held more later_so (inl (blocked, enough)) = held_on n (node.0, below) ticks (ticks_of_all these (suc more)) here next m event goes at.7.facts.nodes.places (omega arith) blocked later_so enough
       held more later_so (inr enough) = omega (arith, enough)
 
-      due : (more : ℕ) → HasTurn (node_of (happens m event).host.state n) → (A more × (turn_of these (happens m event).host.state.served n ≤ turn)) ⊎ HasMore (ticks_then ticks here) more
-          → ComesTo these n (ticks_then ticks here - ticks_of_all these more) next (happens m event)
-      due more then_has (inl ((has, comes), passed)) =
+      due : (more : ℕ) → HasTurn (node_of (happens m event).host.state n) → D more → ComesTo these n (ticks_then ticks here - ticks_of_all these more) next (happens m event)
+      due more then_has (inl (has, comes)) =
+          let passed = passes_on here next m event goes may at speak has then_has.0 in
           subst (λ (k : ℕ). ComesTo these n k next (happens m event)) (then_less ticks (ticks_of_all these more) here)
           (comes_on (ticks - ticks_of_all these more) here next m event goes passed
-          (λ owed. owed_on airs these n marked node here next m event goes may at.0 at.2 at.6 next_at.0 next_at.6 empty at.7.facts (λ k is_next. workers m.host.state k knows is_next) has then_has.0 owed) comes)
+          (λ owed.
+          owed_on airs these n marked node here next m event goes may at.0 at.2 at.6 next_at.0 next_at.6 (served (turn_left (node_of m.host.state n) has)).1 at.7.facts (λ k is_next. workers m.host.state k knows is_next) has then_has.0 owed) comes)
       due more then_has (inr left) =
           let most = turn_most these (happens m event).host.state.served n node.1 in In_turn (omega (arith, left, most))
 
-      runs : (more : ℕ) → (node_of (happens m event).host.state n).series ≡ series.Running → (B more ⊎ A more) ⊎ HasMore (ticks_then ticks here) more → RunsOn n (ticks_then ticks here - ticks_of_all these more) next (happens m event)
+      runs : (more : ℕ) → (node_of (happens m event).host.state n).series ≡ series.Running → R more → RunsOn n (ticks_then ticks here - ticks_of_all these more) next (happens m event)
       runs more then_runs (inl (inr (has, comes))) =
           record { most = 6; waits = six; few = subst (λ (k : ℕ). 7 ≤ k) (then_less ticks (ticks_of_all these more) here) (seven_on here (ticks - ticks_of_all these more) m comes) }
       runs more then_runs (inl (inl (so, runs_on))) = by (waits_on runs_on.most runs_on.waits)
@@ -344,11 +377,11 @@ module _ (airs : Airs) (these : List Bool) (many : length these ≡ 233) (laws :
       let x : Tied_at (To_tick ticks) m = subst (λ (q : Phase). Tied_at q m) is at in
       record { rests = x.0; awaits = x.1; routed = x.3; on_line = x.4; pumped = x.5; tie = x.6; peopled = x.7 }
 
-  soon_turn : (ticks : ℕ) (here next : Phase) (m : Machine) → Turns here m next → Tied_at here m → Tied_at next m → Soon these n command ticks here m → Soon these n command ticks next m
-  soon_turn ticks here next m turns at next_at soon =
+  soon_turn : (ticks : ℕ) (here next : Phase) (m : Machine) → Turns here m next → Tied_at here m → Tied_at next m → EndsSoon these n command ticks here m → IsServed n m.host.state → EndsSoon these n command ticks next m
+  soon_turn ticks here next m turns at next_at soon served =
       later_hand_as command (λ (more : ℕ). ComesTo these n (ticks - ticks_of_all these more) here m) (λ (more : ℕ). RunsOn n (ticks - ticks_of_all these more) here m) (λ (more : ℕ). IsHeldSoon these n ticks more here)
       (λ (more : ℕ). ComesTo these n (ticks - ticks_of_all these more) next m) (λ (more : ℕ). RunsOn n (ticks - ticks_of_all these more) next m) (λ (more : ℕ). IsHeldSoon these n ticks more next)
-      (λ (more wait : ℕ). IsOverSoon these n ticks more wait here) (λ (more wait : ℕ). IsOverSoon these n ticks more wait next) (node_of m.host.state n) due runs
+      (λ (more wait : ℕ). IsOverSoon these n ticks more wait here) (λ (more wait : ℕ). IsOverSoon these n ticks more wait next) Never Never (node_of m.host.state n) (λ left. (served left).0) due runs
       (λ more blocked v. let same = rests_turn n (node.0, below) here next m turns in omega (arith, v, same)) (λ more wait idle again w. let same = rests_turn n (node.0, below) here next m turns in omega (arith, w, same)) soon
     where
       due : (more : ℕ) → HasTurn (node_of m.host.state n) → ComesTo these n (ticks - ticks_of_all these more) here m → ComesTo these n (ticks - ticks_of_all these more) next m
@@ -358,11 +391,12 @@ module _ (airs : Airs) (these : List Bool) (many : length these ≡ 233) (laws :
       runs : (more : ℕ) → (node_of m.host.state n).series ≡ series.Running → RunsOn n (ticks - ticks_of_all these more) here m → RunsOn n (ticks - ticks_of_all these more) next m
       runs more so r = record { most = r.most; waits = turns_wait airs these many laws n r.most marked node here next m turns at.1 at.6 next_at.0 next_at.6 r.waits; few = r.few }
 
-  soon_said : (ticks : ℕ) (line : Line) (m : Machine) → Soon these n command ticks Between m → Soon these n command ticks (Said_line line) m
-  soon_said ticks line m soon =
+  soon_said : (ticks : ℕ) (line : Line) (m : Machine) → EndsSoon these n command ticks Between m → IsServed n m.host.state → EndsSoon these n command ticks (Said_line line) m
+  soon_said ticks line m soon served =
       later_hand_as command (λ (more : ℕ). ComesTo these n (ticks - ticks_of_all these more) Between m) (λ (more : ℕ). RunsOn n (ticks - ticks_of_all these more) Between m) (λ (more : ℕ). IsHeldSoon these n ticks more Between)
       (λ (more : ℕ). ComesTo these n (ticks - ticks_of_all these more) (Said_line line) m) (λ (more : ℕ). RunsOn n (ticks - ticks_of_all these more) (Said_line line) m) (λ (more : ℕ). IsHeldSoon these n ticks more (Said_line line))
-      (λ (more wait : ℕ). IsOverSoon these n ticks more wait Between) (λ (more wait : ℕ). IsOverSoon these n ticks more wait (Said_line line)) (node_of m.host.state n) due runs (λ more blocked v. v) (λ more wait idle again w. w) soon
+      (λ (more wait : ℕ). IsOverSoon these n ticks more wait Between) (λ (more wait : ℕ). IsOverSoon these n ticks more wait (Said_line line)) Never Never (node_of m.host.state n) (λ left. (served left).0) due runs (λ more blocked v. v)
+      (λ more wait idle again w. w) soon
     where
       due : (more : ℕ) → HasTurn (node_of m.host.state n) → ComesTo these n (ticks - ticks_of_all these more) Between m → ComesTo these n (ticks - ticks_of_all these more) (Said_line line) m
       due more has (In_turn few) = In_turn few
@@ -404,108 +438,129 @@ module _ (airs : Airs) (these : List Bool) (many : length these ≡ 233) (laws :
   ticks_on most (Moved b passes ticks) next m event (rest, items, done, is, to) at = same_ticks most m event _ is tt
   ticks_on most here next m event goes at = absurd goes
 
+  -- as many ticks fewer are left, until the Notification comes too
+  later_enough : (here : Phase) (left ticks : ℕ) (m : Machine) → ComesUp n left here m → (more : ℕ) → Enough these (left + 1) ticks more → Enough these (ticks_then left here + 1) (ticks_then ticks here) more
+  later_enough (To_tick (suc rest)) left ticks m comes more enough = let some = some_up n left rest m comes in omega (arith, some, enough)
+  later_enough here left ticks m comes more enough = enough
+
   -- ---- the walk
 
-  module _ (none : is_marked these 0 ≡ false) (most : ℕ) (served : WalkWhere (IsPlainly these) AsksNothing (KnowServed these)) where
-    soon_all : (here next : Phase) (past : List Entry) (m : Machine) (event : Event) → Goes here m event next → May m event → IsPlainly these m event → IsKeptFor these (past ++ entries m event) → KnowSoon these n command most here past m
-        → KnowServed these next (past ++ entries m event) (happens m event) → Soon these n command (most - ticks_begun (happens m event)) next (happens m event)
-    soon_all here next past m event goes may has is known later =
-        let before = kept_before these past (entries m event) is in
-        let stretched = before.worked.stretched in
-        let staff = known.0.0.0.0 before.worked in
-        let tied = (staff.0.0 stretched).0.0.tied stretched.quiet in
-        let next_tied = ((later.0.0.0 is.worked).0.0 is.worked.stretched).0.0.tied is.worked.stretched.quiet in
-        let sent = sent_on these here next m event goes may tied.0 tied.6 (staff.0.1 stretched).request in
-        let was = known.0.0.0.1 before in
-        let waits_then = later.0.0.1 is in
-        subst (λ (ticks : ℕ). Soon these n command ticks next (happens m event)) (ticks_on most here next m event goes tied.0)
-        (soon_on (most - ticks_begun m) here next m event goes may (known.0.1 before).serve.no_task (in_time these here past m event before known.0.0.0) (none_unkept m event (told_kept these past (entries m event) is)) tied (staff.0.0 stretched).0.1 (staff.0.1 stretched) next_tied
-        (waits_then.waits n marked)
-        (λ few w.
-        event_waits airs these many laws n few marked node here next m event goes may has (keeps m event (told_kept these past (entries m event) is)) was.whole tied.0 tied.1 tied.2 tied.3 tied.6 tied.7 (staff.0.0 stretched).1 sent
-        was.joined w next_tied.0) (known.1 before))
+  module _ (same : Same) (listening : Bool) (most : ℕ) (served : WalkWhere (IsPlainlyUp these) AsksNothing (KnowServed listening these)) where
+    -- its Notification is on its way still, or it has risen
+    rouses : (here next : Phase) (past : List Entry) (m : Machine) (event : Event) → (left : ℕ) → ComesUp n left here m → listening ≡ false → (ticks : ℕ) → WaitsOn these command (left + 1) ticks (node_of (happens m event).host.state n) → WaitsFor n 6 next (happens m event)
+        → (HasRisen n next past (happens m event) → IsServed n (happens m event).host.state) → ComesUp n (ticks_then left here) next (happens m event) ⊎ HasRisen n next past (happens m event) → Soon listening these n command (ticks_then ticks here) next past (happens m event)
+    rouses here next past m event left comes sleeps ticks waits six served_then (inl on) = Wakes_soon sleeps (ticks_then left here) on (waiting_as these command (left + 1) ticks (ticks_then left here + 1) (ticks_then ticks here) (node_of (happens m event).host.state n) (later_enough here left ticks m comes) waits)
+    rouses here next past m event left comes sleeps ticks waits six served_then (inr risen) =
+        Ends_soon (subst (λ (b : Bool). Risen b n next past (happens m event)) (sym sleeps) risen)
+        (waiting_ends these command (ticks_then left here + 1) (ticks_then ticks here) n next (happens m event) node (omega arith) (served_then risen) six
+        (waiting_as these command (left + 1) ticks (ticks_then left here + 1) (ticks_then ticks here) (node_of (happens m event).host.state n) (later_enough here left ticks m comes) waits))
 
-    pub soon_walk : WalkWhere (IsPlainly these) AsksNothing (KnowSoon these n command most)
+    soon_all : (here next : Phase) (past : List Entry) (m : Machine) (event : Event) → Goes here m event next → May m event → IsPlainlyUp these m event → IsKeptFor these (past ++ entries m event) → KnowSoon listening these n command most here past m
+        → KnowServed listening these next (past ++ entries m event) (happens m event) → Soon listening these n command (most - ticks_begun (happens m event)) next (past ++ entries m event) (happens m event)
+    soon_all here next past m event goes may has is known later =
+        subst (λ (ticks : ℕ). Soon listening these n command ticks next (past ++ entries m event) (happens m event)) (ticks_on most here next m event goes tied.0) (by (known.1 before))
+      where
+        before : IsKeptFor these past
+        before = kept_before these past (entries m event) is
+
+        staff : KnowWorkers these here past m × Staffed these here m
+        staff = (known.0.0.0 before).0
+
+        was : AreWaiting these here past m
+        was = (known.0.0.0 before).1
+
+        then_is : (KnowWorkers these next (past ++ entries m event) (happens m event) × Staffed these next (happens m event)) × AreWaiting these next (past ++ entries m event) (happens m event)
+        then_is = later.0.0 is
+
+        tied : Tied_at here m
+        tied = (staff.0.0 before.worked.stretched).0.tied before.worked.stretched.quiet
+
+        next_tied : Tied_at next (happens m event)
+        next_tied = (then_is.0.0.0 is.worked.stretched).0.tied is.worked.stretched.quiet
+
+        heard : AllSayHeard (unheard m.outside.outer)
+        heard = (staff.0.0 before.worked.stretched).1
+
+        knows : KnowsWorkers these m.host.state
+        knows = staff.0.1 before.worked.stretched
+
+        sent : IsSentTo these m event
+        sent = sent_on these here next m event goes may tied.0 tied.6 knows.request
+
+        on_time : IsInTime m event
+        on_time = in_time these here past m event before known.0.0.0
+
+        kept : (k : ℕ) → event ≡ Host_does (Begin_unkept k) → ⊥
+        kept = none_unkept m event (told_kept these past (entries m event) is)
+
+        serve : Serves listening these m
+        serve = (known.0.1 before).serve
+
+        then_serve : Serves listening these (happens m event)
+        then_serve = (later.1 is).serve
+
+        then_served : Risen listening n next (past ++ entries m event) (happens m event) → IsServed n (happens m event).host.state
+        then_served risen = serves_now listening these n next (past ++ entries m event) (happens m event) marked then_serve then_is.1.hears risen
+
+        by : Soon listening these n command (most - ticks_begun m) here past m → Soon listening these n command (ticks_then (most - ticks_begun m) here) next (past ++ entries m event) (happens m event)
+        by (Ends_soon risen soon) =
+            let then_risen = risen_on airs same these many n marked listening here next past m event goes may has is known.0.0 later.0 serve risen in
+            Ends_soon then_risen
+            (soon_on (most - ticks_begun m) here next m event goes may on_time kept tied heard knows (known.0.1 before).speak next_tied (then_is.1.waits n marked)
+            (λ few w.
+            event_waits airs these many laws n few marked node here next m event goes may has.0 (keeps m event (told_kept these past (entries m event) is)) was.whole tied.0 tied.1 tied.2 tied.3 tied.6 tied.7
+            (all_heard airs these here past m event (awaits_of here m tied.1) tied.7.live was.hears) sent was.joined w next_tied.0)
+            (serves_now listening these n here past m marked serve was.hears risen) (then_served then_risen) soon)
+        by (Wakes_soon sleeps left comes waits) =
+            let rests = subst (λ (b : Bool). Serves b these m) sleeps serve in
+            let then_rests = subst (λ (b : Bool). Serves b these (happens m event)) sleeps then_serve in
+            rouses here next (past ++ entries m event) m event left comes sleeps (most - ticks_begun m)
+            (run (WaitsOn these command (left + 1) (most - ticks_begun m)) (waiting_kept these command (left + 1) (most - ticks_begun m)) here next m event goes may on_time kept tied heard waits) (then_is.1.waits n marked)
+            (λ risen. then_served (subst (λ (b : Bool). Risen b n next (past ++ entries m event) (happens m event)) (sym sleeps) risen))
+            (come_on airs these many n marked left here next past m event goes may tied.0 tied.1 tied.2 tied.3 tied.6 tied.7 sent next_tied.0 (rests_at these n here past m marked rests was.hears)
+            (rests_at these n next (past ++ entries m event) (happens m event) marked then_rests then_is.1.hears) comes)
+
+    soon_turned : (here next : Phase) (past : List Entry) (m : Machine) → Turns here m next → IsKeptFor these past → KnowSoon listening these n command most here past m → KnowServed listening these next past m → Soon listening these n command (most - ticks_begun m) next past m
+    soon_turned here next past m turns is known later = by (known.1 is)
+      where
+        at : (KnowWorkers these here past m × Staffed these here m) × AreWaiting these here past m
+        at = known.0.0.0 is
+
+        tied : Tied_at here m
+        tied = (at.0.0.0 is.worked.stretched).0.tied is.worked.stretched.quiet
+
+        next_tied : Tied_at next m
+        next_tied = ((later.0.0 is).0.0.0 is.worked.stretched).0.tied is.worked.stretched.quiet
+
+        by : Soon listening these n command (most - ticks_begun m) here past m → Soon listening these n command (most - ticks_begun m) next past m
+        by (Ends_soon risen soon) =
+            Ends_soon (risen_turn these n marked listening here next past m turns tied.0 risen)
+            (soon_turn (most - ticks_begun m) here next m turns tied next_tied soon (serves_now listening these n here past m marked (known.0.1 is).serve at.1.hears risen))
+        by (Wakes_soon sleeps left comes waits) = Wakes_soon sleeps left (up_turn airs these many n marked left here next m turns tied.1 next_tied.0 comes) waits
+
+    soon_begins : (past : List Entry) (m : Machine) (words : List ℕ) (line : Line) → line_of (entry.Said words) ≡ line ∷ [] → IsKeptFor these (past ++ entry.Said words ∷ []) → KnowSoon listening these n command most Between past m
+        → Soon listening these n command (most - ticks_begun m) (Said_line line) (past ++ entry.Said words ∷ []) m
+    soon_begins past m words line read is known = by (known.1 before)
+      where
+        before : IsKeptFor these past
+        before = kept_before these past (entry.Said words ∷ []) is
+
+        by : Soon listening these n command (most - ticks_begun m) Between past m → Soon listening these n command (most - ticks_begun m) (Said_line line) (past ++ entry.Said words ∷ []) m
+        by (Ends_soon risen soon) =
+            Ends_soon (risen_said these n marked listening past m words line read is risen)
+            (soon_said (most - ticks_begun m) line m soon (serves_now listening these n Between past m marked (known.0.1 before).serve (known.0.0.0 before).1.hears risen))
+        by (Wakes_soon sleeps left comes waits) = Wakes_soon sleeps left (up_said n left line m comes) waits
+
+    pub soon_walk : WalkWhere (IsPlainlyUp these) AsksNothing (KnowSoon listening these n command most)
     soon_walk = record {
-      said = λ past m words line read known. (
-        tt,
-        (
-          (served.said past m words line read known.0).1,
-          λ is. soon_said (most - ticks_begun m) line m (known.1 (kept_before these past (entry.Said words ∷ []) is)),
-        ),
-      );
+      said = λ past m words line read known. (tt, ((served.said past m words line read known.0).1, λ is. soon_begins past m words line read is known));
       event = λ here next past m event goes may has known.
           let later = (served.event here next past m event goes may has known.0).1 in
           (nothing_asked past (entries m event), (later, λ is. soon_all here next past m event goes may has is known later));
       turn = λ here next past m turns known.
-          let later = served.turn here next past m turns known.0 in (
-            later,
-            λ is.
-                let stretched = is.worked.stretched in
-                let tied = ((known.0.0.0.0 is.worked).0.0 stretched).0.0.tied stretched.quiet in
-                let next_tied = ((later.0.0.0 is.worked).0.0 stretched).0.0.tied stretched.quiet in
-                soon_turn (most - ticks_begun m) here next m turns tied next_tied (known.1 is),
-          );
+          let later = served.turn here next past m turns known.0 in
+          (later, λ is. soon_turned here next past m turns is known later);
     }
-
--- ---- the host may serve these nodes
-
-module _ (airs : Airs) (these : List Bool) (many : length these ≡ 233) (none : is_marked these 0 ≡ false) (same : Same) (tells : Tells) (plainly : WalkWhere (IsPlainly these) AsksNothing (KnowPlainly these)) where
-  serves_on : (here next : Phase) (past : List Entry) (m : Machine) (event : Event) → Goes here m event next → May m event → IsKeptFor these (past ++ entries m event) → KnowServed these here past m → (n : ℕ) → is_marked these n ≡ true → (node_of (happens m event).host.state n).listens ≡ true
-  serves_on here next past m event goes may is known n marked =
-      let before = kept_before these past (entries m event) is in
-      let stretched = before.worked.stretched in
-      let staff = known.0.0.0 before.worked in
-      let tied = (staff.0.0 stretched).0.0.tied stretched.quiet in
-      let node = node_within these many none n marked in
-      let below : n < 233 = (let few = node.1 in omega (arith, few)) in
-      let later = first_on (λ (h : HostState). HandAt Any any_kept n h.nodes) (λ h e lasts may_it at. event_hand Any any_kept n below h e lasts may_it at) airs here next m event goes may
-      (in_time these here past m event before known.0.0) tied.0 tied.1 tied.6 (staff.0.0 stretched).0.1 (λ k same on. absurd (none_unkept m event (told_kept these past (entries m event) is) k same))
-      (record { places = tied.7.facts.nodes.places; hand = record { listens = (known.1 before).serve.listens n marked; ends = tt } }) in
-      later.hand.listens
-
-  task_on : (here next : Phase) (past : List Entry) (m : Machine) (event : Event) → Goes here m event next → May m event → IsKeptFor these (past ++ entries m event) → KnowServed these here past m → (happens m event).host.state.requests.queue ≡ []
-  task_on here next past m event goes may is known =
-      let before = kept_before these past (entries m event) is in
-      let stretched = before.worked.stretched in
-      let staff = known.0.0.0 before.worked in
-      let tied = (staff.0.0 stretched).0.0.tied stretched.quiet in
-      let was = known.1 before in
-      queue_on airs these here next m event goes may tied.0 tied.6 was.speak was.serve (staff.0.1 stretched) was.serve.no_task
-
-  speaks_on : (here next : Phase) (past : List Entry) (m : Machine) (event : Event) → Goes here m event next → May m event → IsPlainly these m event → IsKeptFor these (past ++ entries m event) → KnowServed these here past m
-      → KnowPlainly these next (past ++ entries m event) (happens m event) → SpeakPlainly these (happens m event)
-  speaks_on here next past m event goes may plain is known later =
-      let before = kept_before these past (entries m event) is in
-      let stretched = before.worked.stretched in
-      let staff = known.0.0.0 before.worked in
-      let tied = (staff.0.0 stretched).0.0.tied stretched.quiet in
-      let next_tied = ((later.0.0 is.worked).0.0 is.worked.stretched).0.0.tied is.worked.stretched.quiet in
-      let sent = sent_on these here next m event goes may tied.0 tied.6 (staff.0.1 stretched).request in
-      let awaits = awaits_of here m tied.1 in
-      let was = (known.1 before).speak in
-      let devices = speak_so these m (λ n marked. (plain n marked).step) tells (staff.0.0 stretched).1 in
-      record {
-        frames = event_of airs these TellsPlainly many m awaits was.frames same event (covers_of here next m event goes tied.0) may sent (line_on these here next m event goes staff.1.lines) staff.1.speak.devices devices;
-        pending = pending_from these TellsPlainly airs here next m event goes may (tied.0, tied.2, tied.3, tied.6) tied.1 next_tied.0 (next_is_so airs these TellsPlainly many m awaits was.frames) was.pending;
-      }
-
-  pub served_walk : WalkWhere (IsPlainly these) AsksNothing (KnowServed these)
-  served_walk = record {
-    said = λ past m words line read known. (tt, ((plainly.said past m words line read known.0).1, λ is. known.1 (kept_before these past (entry.Said words ∷ []) is)));
-    event = λ here next past m event goes may plain known.
-        let later = (plainly.event here next past m event goes may plain known.0).1 in (
-          nothing_asked past (entries m event),
-          (
-            later,
-            λ is. record {
-              serve = record { listens = serves_on here next past m event goes may is known; no_task = task_on here next past m event goes may is known };
-              speak = speaks_on here next past m event goes may plain is known later;
-            },
-          ),
-        );
-    turn = λ here next past m turns known. (plainly.turn here next past m turns known.0, known.1);
-  }
 
 -- ---- at the beginning, and in the end
 
@@ -526,9 +581,9 @@ idle_of x facts none = by x.series refl facts.series
     by series.Due so is = absurd (no is.0.is_open)
     by series.Running so is = absurd (no is.0.is_open)
 
-soon_first : (these : List Bool) (n command more ticks : ℕ) (m : Machine) → IsNode n → NodeFacts (node_of m.host.state n) → (node_of m.host.state n).listens ≡ true → IsInHand command more (node_of m.host.state n) → WaitsFor n 6 Between m
-    → ticks_blocked (node_of m.host.state n) + ticks_of_all these (suc more) ≤ ticks → Soon these n command ticks Between m
-soon_first these n command more ticks m node facts listens is waits enough = record { listens = listens; ends = by is }
+soon_first : (these : List Bool) (n command more ticks : ℕ) (m : Machine) → IsNode n → NodeFacts (node_of m.host.state n) → IsInHand command more (node_of m.host.state n) → WaitsFor n 6 Between m
+    → ticks_blocked (node_of m.host.state n) + ticks_of_all these (suc more) ≤ ticks → EndsSoon these n command ticks Between m
+soon_first these n command more ticks m node facts is waits enough = by is
   where
     left : ticks_enough these ≤ ticks - ticks_of_all these more
     left = omega (arith, enough)
@@ -542,59 +597,70 @@ soon_first these n command more ticks m node facts listens is waits enough = rec
     held : (node_of m.host.state n).blocked ≡ true → IsHeldSoon these n ticks more Between
     held blocked = let one : ticks_blocked (node_of m.host.state n) ≡ 1 = ap (λ (b : Bool). if b then 1 else 0) blocked in omega (arith, enough, one)
 
-    E : Type 0
-    E = EndsLater command (λ (k : ℕ). ComesTo these n (ticks - ticks_of_all these k) Between m) (λ (k : ℕ). RunsOn n (ticks - ticks_of_all these k) Between m) (λ (k : ℕ). IsHeldSoon these n ticks k Between)
-        (λ (k wait : ℕ). IsOverSoon these n ticks k wait Between) (node_of m.host.state n)
-
-    opened : (session : ℕ) → open_session (node_of m.host.state n).book ≡ Some session → ComesAfter more command session (node_of m.host.state n) → ((node_of m.host.state n).series ≡ series.Due) ⊎ ((node_of m.host.state n).series ≡ series.Running) → E
+    opened : (session : ℕ) → open_session (node_of m.host.state n).book ≡ Some session → ComesAfter more command session (node_of m.host.state n) → ((node_of m.host.state n).series ≡ series.Due) ⊎ ((node_of m.host.state n).series ≡ series.Running)
+        → EndsSoon these n command ticks Between m
     opened session opens after_it (inl due) = Goes_on (Due more session opens due after_it comes held)
     opened session opens after_it (inr run) = Goes_on (Runs more session opens run after_it goes held)
 
-    by : IsInHand command more (node_of m.host.state n) → E
+    by : IsInHand command more (node_of m.host.state n) → EndsSoon these n command ticks Between m
     by (Opened session opens busy after_it) = opened session opens after_it (series_or (node_of m.host.state n).series busy)
     by (Unopened none at) = Goes_on (Idles more none (idle_of (node_of m.host.state n) facts none) at (λ free. comes) held)
 
-soon_rests : (these : List Bool) (n command more ticks : ℕ) (m : Machine) → (node_of m.host.state n).listens ≡ true → RestsBefore command more (node_of m.host.state n) → (node_of m.host.state n).again_wait + (1 + ticks_of_all these (suc (suc more))) ≤ ticks
-    → Soon these n command ticks Between m
-soon_rests these n command more ticks m listens is enough =
-    let again = is.again in record { listens = listens; ends = Rests more is.session is.wait is.opened is.idle is.again is.stands (omega (arith, enough, again)) }
-
--- and so it is where that is known of the machine
-pub soon_then : (these : List Bool) (n command more ticks : ℕ) (past : List Entry) (m : Machine) → is_marked these n ≡ true → IsNode n → KnowServed these Between past m → IsInHand command more (node_of m.host.state n)
-    → ticks_blocked (node_of m.host.state n) + ticks_of_all these (suc more) ≤ ticks
-    → IsKeptFor these past → Soon these n command ticks Between m
+-- and so it is where that is known of the machine, and the host listens to these nodes
+pub soon_then : (these : List Bool) (n command more ticks : ℕ) (past : List Entry) (m : Machine) → is_marked these n ≡ true → IsNode n → KnowServed true these Between past m → IsInHand command more (node_of m.host.state n)
+    → ticks_blocked (node_of m.host.state n) + ticks_of_all these (suc more) ≤ ticks → IsKeptFor these past → Soon true these n command ticks Between past m
 soon_then these n command more ticks past m marked node known is enough kept =
+    let at = known.0.0 kept in
     let stretched = kept.worked.stretched in
-    let staff = known.0.0.0 kept.worked in
-    let tied = (staff.0.0 stretched).0.0.tied stretched.quiet in
-    soon_first these n command more ticks m node (tied.7.facts.nodes.facts n) ((known.1 kept).serve.listens n marked) is ((known.0.0.1 kept).waits n marked) enough
+    let tied = (at.0.0.0 stretched).0.tied stretched.quiet in
+    Ends_soon tt (soon_first these n command more ticks m node (tied.7.facts.nodes.facts n) is (at.1.waits n marked) enough)
 
-pub soon_rested : (these : List Bool) (n command more ticks : ℕ) (past : List Entry) (m : Machine) → is_marked these n ≡ true → KnowServed these Between past m → RestsBefore command more (node_of m.host.state n)
-    → (node_of m.host.state n).again_wait + (1 + ticks_of_all these (suc (suc more))) ≤ ticks → IsKeptFor these past → Soon these n command ticks Between m
-soon_rested these n command more ticks past m marked known is enough kept = soon_rests these n command more ticks m ((known.1 kept).serve.listens n marked) is enough
+pub soon_rested : (these : List Bool) (n command more ticks : ℕ) (past : List Entry) (m : Machine) → is_marked these n ≡ true → KnowServed true these Between past m → RestsBefore command more (node_of m.host.state n)
+    → (node_of m.host.state n).again_wait + (1 + ticks_of_all these (suc (suc more))) ≤ ticks → IsKeptFor these past → Soon true these n command ticks Between past m
+soon_rested these n command more ticks past m marked known is enough kept =
+    let again = is.again in Ends_soon tt (Rests more is.session is.wait ((known.1 kept).serve.listens n marked) is.opened is.idle is.again is.stands (omega (arith, enough, again)))
 
-pub soon_past : (these : List Bool) (n command : ℕ) (m : Machine) → Soon these n command 0 Between m → HasEnded command (node_of m.host.state n).book
-soon_past these n command m soon = over soon.ends
+-- no ticks are left
+pub soon_past : (listening : Bool) (these : List Bool) (n command : ℕ) (here : Phase) (past : List Entry) (m : Machine) → Soon listening these n command 0 here past m → HasEnded command (node_of m.host.state n).book
+soon_past listening these n command here past m soon = by soon
   where
-    none_comes : (more : ℕ) → ComesTo these n (0 - ticks_of_all these more) Between m → ⊥
-    none_comes more (In_turn few) = absurd (omega (arith, few))
-    none_comes more (Owed owed few) = absurd owed
+    one_most : own_tick_left n here ≤ 1
+    one_most = omega arith
 
-    none_runs : (more : ℕ) → RunsOn n (0 - ticks_of_all these more) Between m → ⊥
+    none_comes : (more : ℕ) → ComesTo these n (0 - ticks_of_all these more) here m → ⊥
+    none_comes more (In_turn few) = absurd (omega (arith, few))
+    none_comes more (Owed owed few) = absurd (omega (arith, few))
+
+    none_runs : (more : ℕ) → RunsOn n (0 - ticks_of_all these more) here m → ⊥
     none_runs more r = let few = r.few in absurd (omega (arith, few))
 
-    none_idles : (more : ℕ) (b : Bool) → (b ≡ false → ComesTo these n (0 - ticks_of_all these more) Between m) → (b ≡ true → IsHeldSoon these n 0 more Between) → ⊥
+    none_idles : (more : ℕ) (b : Bool) → (b ≡ false → ComesTo these n (0 - ticks_of_all these more) here m) → (b ≡ true → IsHeldSoon these n 0 more here) → ⊥
     none_idles more false d v = none_comes more (d refl)
-    none_idles more true d v = let held = v refl in absurd (omega (arith, held))
+    none_idles more true d v = let held = v refl in absurd (omega (arith, held, one_most))
 
-    by : Ends command (λ (k : ℕ). ComesTo these n (0 - ticks_of_all these k) Between m) (λ (k : ℕ). RunsOn n (0 - ticks_of_all these k) Between m) (λ (k : ℕ). IsHeldSoon these n 0 k Between) (node_of m.host.state n)
-        → HasEnded command (node_of m.host.state n).book
-    by (Ended is) = is
-    by (Idles more none idle at d v) = absurd (none_idles more (node_of m.host.state n).blocked d v)
-    by (Due more session opened so at d v) = absurd (none_comes more d)
-    by (Runs more session opened so at r v) = absurd (none_runs more r)
+    not_enough : (left more : ℕ) → Enough these (left + 1) 0 more → ⊥
+    not_enough left more q = absurd (omega (arith, q))
 
-    over : EndsLater command (λ (k : ℕ). ComesTo these n (0 - ticks_of_all these k) Between m) (λ (k : ℕ). RunsOn n (0 - ticks_of_all these k) Between m) (λ (k : ℕ). IsHeldSoon these n 0 k Between)
-        (λ (k wait : ℕ). IsOverSoon these n 0 k wait Between) (node_of m.host.state n) → HasEnded command (node_of m.host.state n).book
-    over (Goes_on e) = by e
-    over (Rests more session wait opened idle again at w) = absurd (omega (arith, w))
+    none_waits : (left more : ℕ) (b : Bool) → (b ≡ false → Enough these (left + 1) 0 more) → (b ≡ true → Enough these (left + 1) 0 more) → ⊥
+    none_waits left more false d v = not_enough left more (d refl)
+    none_waits left more true d v = not_enough left more (v refl)
+
+    ends : EndsSoon these n command 0 here m → HasEnded command (node_of m.host.state n).book
+    ends (Goes_on (Ended is)) = is
+    ends (Goes_on (Idles more none idle at d v)) = absurd (none_idles more (node_of m.host.state n).blocked d v)
+    ends (Goes_on (Due more session opened so at d v)) = absurd (none_comes more d)
+    ends (Goes_on (Runs more session opened so at r v)) = absurd (none_runs more r)
+    ends (Rests more session wait listens opened idle again at w) = absurd (omega (arith, w, one_most))
+    ends (Sleeps_on more down idle at s) = absurd s
+
+    waits : (left : ℕ) → WaitsOn these command (left + 1) 0 (node_of m.host.state n) → HasEnded command (node_of m.host.state n).book
+    waits left (Goes_on (Ended is)) = is
+    waits left (Goes_on (Idles more none idle at d v)) = absurd (none_waits left more (node_of m.host.state n).blocked d v)
+    waits left (Goes_on (Due more session opened so at d v)) = absurd (not_enough left more d)
+    waits left (Goes_on (Runs more session opened so at r v)) = absurd (not_enough left more r)
+    waits left (Rests more session wait listens opened idle again at w) = absurd w
+    waits left (Sleeps_on more down idle at s) = absurd (not_enough left (suc more) s)
+
+    by : Soon listening these n command 0 here past m → HasEnded command (node_of m.host.state n).book
+    by (Wakes_soon sleeps left comes waiting) = waits left waiting
+    by (Ends_soon risen ending) = ends ending

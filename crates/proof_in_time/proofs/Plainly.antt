@@ -3,7 +3,7 @@ use Rattle.std.proofs.Common.{◌≡◌, ◌≤◌, ℕ, ◌==◌, nat_lt, inl, 
 use Rattle.std.proofs.lemmas.Bool.{cases_Bool, eq-eqb, eqb-true}
 use Rattle.std.specs.Prelude.{◌⊎◌, Option, Some, None, slice_get}
 use Rattle.std.specs.List.{AllByRecursion}
-use Rattle.zw_base.proofs.Each.{all-append}
+use Rattle.zw_base.proofs.Each.{all-append, all-weaker}
 use Rattle.zw_base.specs.declared.property.Setting.{Setting}
 use Rattle.class_info.specs.InfoSpelling.{form}
 use Rattle.class_info.specs.Values.{status_byte}
@@ -38,13 +38,14 @@ use Rattle.proof_messages.specs.Asking.{takes_openly}
 use Rattle.proof_messages.specs.Reporting.{CanSay, IsPlainTold, TellsPlainly, asks_now}
 use Rattle.proof_course_plain.proofs.Replies.{one_place, one_stands}
 use Rattle.proof_answered.specs.proof_calm.proof_work.Doing.{IsTold}
-use Rattle.proof_answered.specs.Outward.{AllListen}
+use Rattle.proof_answered.specs.Sleepers.{IsQuietTold, TellsQuietly}
 use Rattle.proof_answered.specs.Workers.{IsFromSaying}
 use Rattle.proof_answered.proofs.Judging.{EachFollows}
 use Rattle.proof_answered.proofs.Speaking.{SpeakSo}
 use Rattle.proof_answered.proofs.Works.{ticks_say}
 use Rattle.proof_in_time.specs.Answering.{Ends, Goes_on, IsAtWork, IsDoneOrAtWork, WorksOn}
 use Rattle.proof_in_time.specs.InStep.{HasInStep}
+use Rattle.proof_in_time.proofs.Sleepers.{wakes_telling}
 
 -- ---- events by which no task comes to wait
 
@@ -140,13 +141,33 @@ pub record Tells : Type 0 where
   pub heard : (device : State) (payload drawn : List ℕ) → takes_openly device.kind ≡ true → lists device.kind 0x55 ≡ false → AllByRecursion TellsPlainly (device_replies device (Hears payload drawn))
   pub works : (device : State) (drawn : List ℕ) → CanSay device → IsAtWork device → WorksOn device (device_after device (Ticks drawn)) (device_replies device (Ticks drawn))
 
-none_said : (device : State) (event : DeviceEvent) → device_replies device event ≡ [] → AllByRecursion TellsPlainly (device_replies device event)
-none_said device event none = subst (AllByRecursion TellsPlainly) (sym none) tt
+none_said : (Says : List ℕ → Type 0) (device : State) (event : DeviceEvent) → device_replies device event ≡ [] → AllByRecursion Says (device_replies device event)
+none_said Says device event none = subst (AllByRecursion Says) (sym none) tt
+
+-- what is quiet tells plainly
+plain_of : (told : Told) → IsQuietTold told → IsPlainTold told
+plain_of (Report id status wake) quiet = tt
+plain_of NonceGet quiet = absurd quiet
+plain_of (NonceReport nonce) quiet = tt
+plain_of Notification quiet = absurd quiet
+plain_of (SegmentRequest id offset) quiet = absurd quiet
+plain_of (Values settings) quiet = tt
+
+quiet_tells : (payload : List ℕ) → TellsQuietly payload → TellsPlainly payload
+quiet_tells payload tells = record { told = tells.told; heard = tells.heard; plain = plain_of tells.told tells.quiet }
 
 wakes_silent : (device : State) → listens device.kind ≡ true → device_replies device Wakes ≡ []
 unfolding device_replies outcome_of woken
 wakes_silent device hears =
     subst (λ (b : Bool). (if b then silent device else record { device = record device { awake = true; active_at = device.clock }; replies = form WakeUpNotification ∷ [] }).replies ≡ []) (sym hears) refl
+
+-- one that sleeps tells that it is awake
+wakes_plainly : (device : State) → AllByRecursion TellsPlainly (device_replies device Wakes)
+wakes_plainly device = by (listens device.kind) refl
+  where
+    by : (b : Bool) → listens device.kind ≡ b → AllByRecursion TellsPlainly (device_replies device Wakes)
+    by true hears = none_said TellsPlainly device Wakes (wakes_silent device hears)
+    by false sleeps = let woken = wakes_telling device sleeps in subst (AllByRecursion TellsPlainly) (sym woken.says) (record { told = Notification; heard = woken.tells; plain = tt }, tt)
 
 ticks_silent : (device : State) (drawn : List ℕ) → device.work_left ≡ 0 → device_replies device (Ticks drawn) ≡ []
 ticks_silent device drawn none = by (ticks_say device drawn)
@@ -156,38 +177,36 @@ ticks_silent device drawn none = by (ticks_say device drawn)
     by (inr (one, few)) = absurd (omega (arith, one, none))
 
 -- the end of its work is told so
-work_told : (device new : State) (drawn : List ℕ) → WorksOn device new (device_replies device (Ticks drawn)) → AllByRecursion TellsPlainly (device_replies device (Ticks drawn))
-work_told device new drawn (Goes_on silent work taken less) = none_said device (Ticks drawn) silent
+work_told : (device new : State) (drawn : List ℕ) → WorksOn device new (device_replies device (Ticks drawn)) → AllByRecursion TellsQuietly (device_replies device (Ticks drawn))
+work_told device new drawn (Goes_on silent work taken less) = none_said TellsQuietly device (Ticks drawn) silent
 work_told device new drawn (Ends payload says tells some few done taken one) =
-    subst (AllByRecursion TellsPlainly) (sym says) (record { told = Report (wire_id new.sessions.taken) (report_status new.sessions.status) (asks_now new); heard = tells; plain = tt }, tt)
+    subst (AllByRecursion TellsQuietly) (sym says) (record { told = Report (wire_id new.sessions.taken) (report_status new.sessions.status) (asks_now new); heard = tells; quiet = tt }, tt)
 
-ticks_plainly : Tells → (device : State) (drawn : List ℕ) → CanSay device → IsDoneOrAtWork device → AllByRecursion TellsPlainly (device_replies device (Ticks drawn))
-ticks_plainly tells device drawn can (inl done) = none_said device (Ticks drawn) (ticks_silent device drawn done.no_work)
-ticks_plainly tells device drawn can (inr work) = work_told device (device_after device (Ticks drawn)) drawn (tells.works device drawn can work)
+ticks_quietly : Tells → (device : State) (drawn : List ℕ) → CanSay device → IsDoneOrAtWork device → AllByRecursion TellsQuietly (device_replies device (Ticks drawn))
+ticks_quietly tells device drawn can (inl done) = none_said TellsQuietly device (Ticks drawn) (ticks_silent device drawn done.no_work)
+ticks_quietly tells device drawn can (inr work) = work_told device (device_after device (Ticks drawn)) drawn (tells.works device drawn can work)
 
 module _ (these : List Bool) (m : Machine) (steps : (n : ℕ) → is_marked these n ≡ true → HasInStep n m) where
-  ticks_so : Tells → (place : ℕ) (device : State) (drawn : List ℕ) → is_marked these device.node ≡ true → slice_get m.outside.devices place ≡ Some device → AllByRecursion TellsPlainly (device_replies device (Ticks drawn))
+  pub ticks_so : Tells → (place : ℕ) (device : State) (drawn : List ℕ) → is_marked these device.node ≡ true → slice_get m.outside.devices place ≡ Some device → AllByRecursion TellsQuietly (device_replies device (Ticks drawn))
   ticks_so tells place device drawn marked there = by (place == is.place) refl
     where
       is : HasInStep device.node m
       is = steps device.node marked
 
-      by : (b : Bool) → (place == is.place) ≡ b → AllByRecursion TellsPlainly (device_replies device (Ticks drawn))
+      by : (b : Bool) → (place == is.place) ≡ b → AllByRecursion TellsQuietly (device_replies device (Ticks drawn))
       by true same =
           let own : is.device ≡ device = one_stands m.outside.devices is.place place is.device device is.stands there (sym (eqb-true place is.place same)) in
-          subst (λ (d : State). AllByRecursion TellsPlainly (device_replies d (Ticks drawn))) own (ticks_plainly tells is.device drawn is.plain.can is.plain.at)
+          subst (λ (d : State). AllByRecursion TellsQuietly (device_replies d (Ticks drawn))) own (ticks_quietly tells is.device drawn is.plain.can is.plain.at)
       by false other =
-          let idle = is.others place device there refl (λ e. let wrong : true ≡ false = sym (eq-eqb place is.place e) ∙ other in cc) in none_said device (Ticks drawn) (ticks_silent device drawn idle.no_work)
+          let idle = is.others place device there refl (λ e. let wrong : true ≡ false = sym (eq-eqb place is.place e) ∙ other in cc) in
+          none_said TellsQuietly device (Ticks drawn) (ticks_silent device drawn idle.no_work)
 
-  pub speak_so : Tells → AllListen these m → SpeakSo these TellsPlainly m.outside.devices
-  speak_so tells listen = record {
+  pub speak_so : Tells → SpeakSo these TellsPlainly m.outside.devices
+  speak_so tells = record {
     heard = λ node place device payload drawn marked first there.
         let is = steps node marked in
         let same : is.device ≡ device = one_stands m.outside.devices is.place place is.device device is.stands there (one_place node m.outside.devices is.place place is.first first) in
         subst (λ (d : State). AllByRecursion TellsPlainly (device_replies d (Hears payload drawn))) same (tells.heard is.device payload drawn is.plain.openly is.plain.whole);
-    woken = λ node place device marked first there.
-        let is = listen.nodes node marked in
-        let same : is.device ≡ device = one_stands m.outside.devices is.place place is.device device is.stands there (one_place node m.outside.devices is.place place is.first first) in
-        subst (λ (d : State). AllByRecursion TellsPlainly (device_replies d Wakes)) same (none_said is.device Wakes (wakes_silent is.device is.is_up.is_listening));
-    ticked = ticks_so tells;
+    woken = λ node place device marked first there. wakes_plainly device;
+    ticked = λ place device drawn marked there. all-weaker TellsQuietly TellsPlainly quiet_tells (device_replies device (Ticks drawn)) (ticks_so tells place device drawn marked there);
   }

@@ -5,9 +5,11 @@ use Rattle.std.specs.List.{AllByRecursion}
 use Rattle.zw_base.proofs.Each.{all-append}
 use Rattle.zw_text.specs.declared.entry.Entry.{Entry}
 use Rattle.zw_text.specs.declared.entry.Entry.TheVariants.{Refused}
+use Rattle.serial_frame.specs.Frame.{FrameParts}
+use Rattle.host_heard.specs.Telling.{heard_at}
 use Rattle.host_node.specs.Search.{next_of}
 use Rattle.host_model.specs.After.{after}
-use Rattle.host_model.specs.Did.{outs_all}
+use Rattle.host_model.specs.Did.{after_all as after_events, outs_all}
 use Rattle.host_model.specs.Outs.{answers}
 use Rattle.host_model.specs.Events.{HostEvent, Starts, Gives_text, Gives_segment}
 use Rattle.host_model.specs.May.{May}
@@ -19,7 +21,9 @@ use Rattle.outside_model.specs.Events.{OuterEvent, Begins_line, Begins_tick, Hos
 use Rattle.outside_model.specs.State.{OuterState, Outside}
 use Rattle.world_model.specs.Events.{Event, Outside_does, Host_does, Host_takes, Decoder_ticks, Refuses, Shows_values, Restarts, happens, notes, shown_values}
 use Rattle.world_model.specs.State.{Machine, begun_in, host_does, noted_by, routed, routed_one}
-use Rattle.proof_spoken.proofs.Keeping.{served_same}
+use Rattle.proof_spoken.proofs.Keeping.{GivesNoPart, served_same}
+use Rattle.proof_answered.proofs.Followed.{FollowersAre, payload_all}
+use Rattle.proof_answered.proofs.Judging.{EachFollows}
 use Rattle.proof_in_time.specs.InHand.{ticks_begun}
 use Rattle.proof_answered.proofs.Times.{IsWithin, outcome_time}
 
@@ -44,6 +48,35 @@ served_now h (Starts n plan more payload) may = inr (record { node = n; is_next 
 served_now h (Gives_text n payload) may = inr (record { node = n; is_next = may.0.next; served = refl; part = refl })
 served_now h (Gives_segment n more payload) may = inr (record { node = n; is_next = may.0.next; served = refl; part = refl })
 served_now h event may = inl (served_same h event tt)
+
+-- so none of the events that a payload leads to, nor any that the host is told
+no_part_follows : (n : ℕ) → FollowersAre GivesNoPart n
+no_part_follows n = record {
+  unread = λ payload. tt;
+  unkept = tt;
+  old = λ id. tt;
+  works = λ id. tt;
+  finishes = λ session id command status wake. tt;
+  offers = tt;
+  gives = λ drawn. tt;
+  spends = tt;
+  in_vain = λ payload. tt;
+  takes = λ seen text. tt;
+  resends = λ payload. tt;
+  hears = λ setting. tt;
+  no_room = λ property. tt;
+}
+
+pub each_no_part : (Says : FrameParts → Type 0) (joined : List Bool) → EachFollows GivesNoPart Says joined
+each_no_part Says joined = record {
+  hears = λ item. tt;
+  told = λ event told. tt;
+  brings = λ h n payload events member says is. payload_all GivesNoPart n (no_part_follows n) h payload (heard_at payload) events (λ tells. tt) is;
+}
+
+pub events_served : (h : HostState) (events : List HostEvent) → AllByRecursion GivesNoPart events → (after_events h events).served ≡ h.served
+events_served h [] none = refl
+events_served h (event ∷ events) none = events_served (after h event) events none.1 ∙ served_same h event none.0
 
 -- ---- how many ticks have begun
 

@@ -53,7 +53,7 @@ use Rattle.proof_in_time.proofs.Landed.{has_piled}
 use Rattle.proof_in_time.proofs.NodeWaits.{IsBeside}
 
 -- the chip moves no device
-chip_devices : (m : Machine) (count : ℕ) (rest : Rest) (ways : List (Item × Option Route)) → (happens m (Outside_does (Chip_takes count rest ways))).outside.devices ≡ m.outside.devices
+pub chip_devices : (m : Machine) (count : ℕ) (rest : Rest) (ways : List (Item × Option Route)) → (happens m (Outside_does (Chip_takes count rest ways))).outside.devices ≡ m.outside.devices
 unfolding happens devices_after
 chip_devices m count rest ways = refl
 

@@ -1,5 +1,6 @@
 -- A device that does not listen: it tells that it was woken, stays awake while it heard something a short time ago, and sleeps once it is told that there is no more for it.
-use Rattle.std.proofs.Common.{◌≡◌, ℕ, ◌+◌, ◌-◌, ◌<◌, ◌==◌, ◌&&◌, ◌||◌, nat_lt, Bool, true, false, if◌then◌else◌, Some, Ok, List, [], ◌∷◌, refl, sym, ap, ◌∙◌, subst, arith}
+use Rattle.std.proofs.Common.{◌≡◌, ℕ, ◌+◌, ◌-◌, ◌<◌, ◌==◌, ◌&&◌, ◌||◌, nat_lt, inl, inr, Bool, true, false, if◌then◌else◌, Option, Some, None, Ok, List, [], ◌∷◌, refl, sym, ap, ◌∙◌, subst, arith}
+use Rattle.std.specs.Prelude.{◌⊎◌}
 use Rattle.std.proofs.lemmas.Bool.{lt-ltb}
 use Rattle.class_info.specs.declared.message.InfoMessage.TheVariants.{WakeUpNoMoreInformation, WakeUpNotification}
 use Rattle.class_info.specs.InfoReading.{info_at}
@@ -7,17 +8,23 @@ use Rattle.class_info.specs.InfoSpelling.{form}
 use Rattle.class_info.proofs.FormLaws.{form_spells}
 use Rattle.class_info.proofs.InfoLaws.{again}
 use Rattle.encap.specs.Opening.{Message, begins_with, opened_at}
+use Rattle.encap.specs.declared.plan.Plan.{Plan}
+use Rattle.encap.specs.declared.plan.Supervised.{Supervised}
 use Rattle.host_heard.specs.Telling.{heard_at}
 use Rattle.host_heard.specs.declared.payload.Heard.TheVariants.{Messages}
 use Rattle.host_heard.specs.declared.told.Told.TheVariants.{Notification}
 use Rattle.host_requests.specs.Frames.{no_more_information}
 use Rattle.device_kinds.specs.Kind.{listens}
 use Rattle.device_kinds.specs.Telling.{told}
+use Rattle.device_kinds.specs.declared.effect.Effect.{Effect}
+use Rattle.device_kinds.specs.declared.effect.Effect.TheVariants as effects
+use Rattle.device_kinds.specs.declared.verdict.Verdict.{Verdict}
+use Rattle.device_kinds.specs.declared.verdict.Verdict.TheVariants.{NoSupport, Fails, Makes, Works}
 use Rattle.device_kinds.specs.declared.kind.Kind.{Kind}
 use Rattle.device_kinds.specs.declared.kind.Kind.TheVariants.{Relay, Switch, Dimmer, Lock, Sensor, Thermostat, Strip, Configurable}
 use Rattle.device_stack.specs.State.{State, Outcome, silent}
-use Rattle.device_stack.specs.Effects.{effect_of}
-use Rattle.device_stack.specs.Hearing.{active, answers, hears_by, sent_openly}
+use Rattle.device_stack.specs.Effects.{after_effect, effect_of, takes}
+use Rattle.device_stack.specs.Hearing.{active, answers, answers_bytes, answers_opened, hears, hears_by, hears_openly, sent_openly}
 use Rattle.device_stack.specs.Ticking.{aged, awake_ticks, ticked, woken, works_out}
 use Rattle.device_sim.specs.Event.{Hears, Ticks, Wakes, device_after, device_replies, outcome_of}
 use Rattle.proof_messages.proofs.Bare.{bare, bare_opens, middle_command}
@@ -104,3 +111,70 @@ no_more_sleeps device drawn awake sleeps =
     let at : Sleeps_by device (hears_by device.kind (active device) no_more_information drawn) = subst (Sleeps_by device) (sym outcome) (no_more_answered device kind no_more_read) in
     subst (λ (new : State). FallsAsleep device new (device_replies device (Hears no_more_information drawn))) (sym (awake_after device no_more_information drawn awake))
     (subst (λ (replies : List (List ℕ)). FallsAsleep device (hears_by device.kind (active device) no_more_information drawn).device replies) (sym (heard_replies device no_more_information drawn awake)) at)
+
+-- ---- how old it is
+
+-- a message makes it no older
+record KeepsAge (old new : State) : Type 0 where
+  clock : new.clock ≡ old.clock
+  active : new.active_at ≡ old.active_at
+
+takes_age : (device : State) (plan : Plan) (asked : Supervised) (verdict : Verdict) → KeepsAge device (takes device plan asked verdict)
+takes_age device plan asked (Makes settings) = record { clock = refl; active = refl }
+takes_age device plan asked (Works settings) = record { clock = refl; active = refl }
+takes_age device plan asked Fails = record { clock = refl; active = refl }
+takes_age device plan asked NoSupport = record { clock = refl; active = refl }
+
+effect_age : (device : State) (plan : Plan) (effect : Effect) → KeepsAge device (after_effect device plan effect)
+effect_age device plan effects.Ignores = record { clock = refl; active = refl }
+effect_age device plan effects.Sleeps = record { clock = refl; active = refl }
+effect_age device plan (effects.Tells report) = record { clock = refl; active = refl }
+effect_age device plan (effects.Sets settings) = record { clock = refl; active = refl }
+effect_age device plan (effects.Repeats status) = record { clock = refl; active = refl }
+effect_age device plan (effects.Takes verdict) = by plan.session refl
+  where
+    by : (session : Option Supervised) → plan.session ≡ session → KeepsAge device (after_effect device plan (effects.Takes verdict))
+    by (Some asked) e = rw e (takes_age device (record { batch = plan.batch; session = Some asked; channel = plan.channel; outer = plan.outer }) asked verdict)
+    by None e = rw e (record { clock = refl; active = refl })
+
+answers_age : (device : State) (message : Message) → KeepsAge device (answers device message).device
+unfolding answers
+answers_age device message = effect_age device message.plan (effect_of device message)
+
+opened_age : (device : State) (message : Option Message) → KeepsAge device (answers_opened device message).device
+opened_age device (Some message) = answers_age device message
+opened_age device None = record { clock = refl; active = refl }
+
+openly_age : (device : State) (payload : List ℕ) → KeepsAge device (hears_openly device payload).device
+unfolding hears_openly answers_bytes
+openly_age device payload = opened_age device (opened_at payload)
+
+-- where it hears it, it has heard something now
+pub record HeardNow (old new : State) : Type 0 where
+  pub clock : new.clock ≡ old.clock
+  pub active : (new.active_at ≡ old.clock) ⊎ (new.active_at ≡ old.active_at)
+
+pub heard_now : (device : State) (payload drawn : List ℕ) → listens device.kind ≡ false → HeardNow device (device_after device (Hears payload drawn))
+unfolding device_after outcome_of hears
+heard_now device payload drawn sleeps = by device.awake
+  where
+    openly : HeardNow device (hears_openly (active device) payload).device
+    openly = let is = openly_age (active device) payload in record { clock = is.clock; active = inl is.active }
+
+    by : (b : Bool) → HeardNow device (if b then hears_by device.kind (active device) payload drawn else silent device).device
+    by true = subst (λ (k : Kind). HeardNow device (hears_by k (active device) payload drawn).device) (sym (is_sensor device.kind sleeps)) openly
+    by false = record { clock = refl; active = inr refl }
+
+-- a tick makes it one older, awake or not
+pub record TicksOn (old new : State) : Type 0 where
+  pub clock : new.clock ≡ old.clock + 1
+  pub active : new.active_at ≡ old.active_at
+
+pub ticks_on : (device : State) (drawn : List ℕ) → TicksOn device (device_after device (Ticks drawn))
+unfolding device_after outcome_of ticked
+ticks_on device drawn = by (device.work_left == 0) (device.work_left == 1)
+  where
+    by : (none last : Bool) → TicksOn device (if none then silent (aged device) else if last then works_out (aged device) else silent (record (aged device) { work_left = device.work_left - 1 })).device
+    by true last = record { clock = refl; active = refl }
+    by false true = record { clock = refl; active = refl }
+    by false false = record { clock = refl; active = refl }

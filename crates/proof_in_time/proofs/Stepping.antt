@@ -38,7 +38,7 @@ use Rattle.proof_in_time.specs.InStep.{GoesInStep, HasInStep, IsNear, IsNearAt, 
 
 -- ---- the number of sessions
 
-next_or_last : (taken begun : ℕ) → taken ≤ begun → begun ≤ taken + 1 → (begun ≡ taken + 1) ⊎ (begun ≡ taken)
+pub next_or_last : (taken begun : ℕ) → taken ≤ begun → begun ≤ taken + 1 → (begun ≡ taken + 1) ⊎ (begun ≡ taken)
 next_or_last taken begun ahead after = by (nat_lt taken begun) refl
   where
     by : (b : Bool) → nat_lt taken begun ≡ b → (begun ≡ taken + 1) ⊎ (begun ≡ taken)
@@ -58,7 +58,7 @@ last_at_work c facts working =
     told_most None is = let told = facts.told_are.closed is in omega (arith, told)
     told_most (Some session) is = let told = facts.told_are.opened session is in omega (arith, told)
 
-done_steps : (device : State) (begun : ℕ) → IsDone device → 1 ≤ begun → (begun ≡ device.sessions.taken + 1) ⊎ (begun ≡ device.sessions.taken) → IsInStep begun device
+pub done_steps : (device : State) (begun : ℕ) → IsDone device → 1 ≤ begun → (begun ≡ device.sessions.taken + 1) ⊎ (begun ≡ device.sessions.taken) → IsInStep begun device
 done_steps device begun done some (inl next) = Next next done
 done_steps device begun done some (inr last) = Last last some (inl done)
 
@@ -133,6 +133,7 @@ module _ (laws : Laws) (n : ℕ) (within : n < 233) (devices : List State) (has 
             (follows.outside.mesh.made now.place now.device now.stands (place_is n m.outside.devices now.place now.device now.first now.stands)).keeps);
         step = λ some. steps_in now.device (begun_of (node_of m.host.state n).book) (omega (arith, begun, taken, ahead)) (omega (arith, begun, taken, after))
             (λ working. begun ∙ (last_at_work c follows.course (ap (λ (t : Taken). t.status) (sym now.at.sessions) ∙ working) ∙ sym taken)) some is.at;
+        unsealed = follows.host.node_as.1.1.0;
       }
 
   pub along : (orders : List Asked) (c : Course) (up down : List Item) (m : Machine) (events : List Event) → WorldFollows n orders c up down m → IsHeld m.host.state m.records → MayAll m events → AllAtRest m events → AllWriteWell m events

@@ -34,8 +34,8 @@ use Rattle.proof_answered.specs.proof_calm.proof_work.proof_walk.Phases.{Phase, 
 use Rattle.proof_answered.specs.proof_calm.Tied.{IsTied, on_line, unheard}
 use Rattle.proof_answered.specs.Few.{AreFew}
 use Rattle.proof_answered.specs.FirstAttempts.{AllFirst}
-use Rattle.proof_answered.specs.Outward.{AllListen}
-use Rattle.proof_answered.specs.Workers.{IsWorkedFor, KnowStaff, KnowsWorkers, OnlySpeak}
+use Rattle.proof_answered.specs.Sleepers.{AllHear}
+use Rattle.proof_answered.specs.Workers.{IsWorkedFor, KnowWorkers, KnowsWorkers, OnlySpeak, Staffed}
 use Rattle.proof_in_time.specs.Reporting.{TellsStatus}
 
 -- ---- payloads
@@ -241,14 +241,15 @@ pub record IsKeptFor (these : List Bool) (past : List Entry) : Type 0 where
 abbrev pub AreInAir : List Bool → Machine → Type 0
 AreInAir these m = (n : ℕ) → is_marked these n ≡ true → is_joined m.outside.outer.air n ≡ true
 
--- and of each it is known what it waits for, and how its commands go
-pub record AreWaiting (these : List Bool) (here : Phase) (m : Machine) : Type 0 where
+-- and of each it is known what it waits for, how its commands go, and that its device listens, or sleeps and is where that may be
+pub record AreWaiting (these : List Bool) (here : Phase) (past : List Entry) (m : Machine) : Type 0 where
   pub waits : AllWaitFor these here m
   pub whole : GoWhole these m.host.state.commands
   pub joined : AreInAir these m
+  pub hears : AllHear these here past m
 
 abbrev pub KnowWaits : List Bool → Phase → List Entry → Machine → Type 0
-KnowWaits these here past m = KnowStaff these here past m × (IsKeptFor these past → AreWaiting these here m)
+KnowWaits these here past m = IsKeptFor these past → (KnowWorkers these here past m × Staffed these here m) × AreWaiting these here past m
 
 -- and each series is at its first attempt
 abbrev pub KnowPlainly : List Bool → Phase → List Entry → Machine → Type 0
@@ -258,8 +259,7 @@ KnowPlainly these here past m = KnowWaits these here past m × (IsKeptFor these 
 pub record IsReadyFor (these : List Bool) (m : Machine) : Type 0 where
   pub tied : IsTied these m
   pub few : AreFew 0 3 m
-  pub listen : AllListen these m
   pub knows : KnowsWorkers these m.host.state
   pub speak : OnlySpeak these m
-  pub waiting : AreWaiting these Between m
+  pub waiting : AreWaiting these Between [] m
   pub first : AllFirst m.host.state

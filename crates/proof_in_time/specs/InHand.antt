@@ -1,11 +1,12 @@
 -- Commands that wait for a node, or whose session is open, are in hand until that session is over (this project's own rule), and within how many ticks it is.
-use Rattle.std.specs.Prelude.{◌≡◌, ◌≢◌, ◌⊎◌, ℕ, zero, suc, ◌+◌, ◌≤◌, Bool, true, if◌then◌else◌, List, [], ◌∷◌, ◌++◌, length, Some, None}
+use Rattle.std.specs.Prelude.{◌≡◌, ◌≢◌, ◌⊎◌, ℕ, zero, suc, ◌+◌, ◌≤◌, Bool, true, false, if◌then◌else◌, List, [], ◌∷◌, ◌++◌, length, Some, None}
 use Rattle.supervision.specs.Host.{HostBook, begun_of, command_at, open_session}
 use Rattle.chip_sim.specs.Nodes.{is_marked}
 use Rattle.host_node.specs.State.{NodeState}
 use Rattle.host_node.specs.declared.series.Series.TheVariants.{Idle}
-use Rattle.host_model.specs.State.{HostState, node_of}
+use Rattle.host_model.specs.State.{Command, HostState, command_at as command_of_host, node_of}
 use Rattle.world_model.specs.State.{Machine}
+use Rattle.proof_answered.specs.Sleepers.{HasSleeper, IsAlone}
 use Rattle.proof_answered.specs.Turns.{marked_to}
 
 -- ---- a command of a node
@@ -40,6 +41,19 @@ pub record RestsBefore (command more : ℕ) (x : NodeState) : Type 0 where
 pub record AllServe (these : List Bool) (h : HostState) : Type 0 where
   pub listens : (n : ℕ) → is_marked these n ≡ true → (node_of h n).listens ≡ true
   pub no_task : h.requests.queue ≡ []
+
+-- or these are one node alone, whose device sleeps
+abbrev pub SleepsAlone : List Bool → Machine → Type 0
+SleepsAlone these m = (n : ℕ) × (IsAlone these n × HasSleeper n m.outside.devices)
+
+abbrev pub Serves : Bool → List Bool → Machine → Type 0
+Serves true these m = AllServe these m.host.state
+Serves false these m = SleepsAlone these m
+
+-- a command waited for the node at an earlier moment, or was accepted for it since
+pub data IsGiven (n command : ℕ) (old new : HostState) : Type 0 where
+  Waited : (more : ℕ) → StandsAt command more (node_of old n).waiting → IsGiven n command old new
+  Accepted_since : (found : Command) → command_of_host new.commands command ≡ Some found → found.order.node ≡ n → length old.commands + 1 ≤ command → IsGiven n command old new
 
 -- a session has its final outcome: the last one, or a later one has begun, which only then does
 abbrev pub IsPast : ℕ → HostBook → Type 0

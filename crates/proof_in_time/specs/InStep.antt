@@ -1,5 +1,5 @@
 -- The device of a node in step with the host (this project's own rule): what is assumed of it as it hears a message, and from which devices and orders that follows.
-use Rattle.std.specs.Prelude.{◌≡◌, ℕ, ◌+◌, ◌≤◌, Bool, true, false, List, map, Some, slice_get}
+use Rattle.std.specs.Prelude.{◌≡◌, ℕ, ◌+◌, ◌≤◌, Bool, true, false, List, map, None, Some, slice_get}
 use Rattle.std.specs.List.{AllByRecursion}
 use Rattle.supervision.specs.Host.{begun_of}
 use Rattle.law_transcript.specs.Nodes.{device_of}
@@ -35,8 +35,8 @@ pub record HearsInStep (session : ℕ) (device : State) : Type 0 where
   pub plain : IsPlainDevice device
   pub step : IsInStep session device
 
--- so is the first device of a node, once the host has begun a session; what it keeps of segments is of the message of its next session; and the others of the
--- node are idle
+-- so is the first device of a node, once the host has begun a session; what it keeps of segments is of the message of its next session; the others of the
+-- node are idle; and the host has no sealed text for it
 pub record HasInStep (n : ℕ) (m : Machine) : Type 0 where
   pub place : ℕ
   pub device : State
@@ -46,6 +46,7 @@ pub record HasInStep (n : ℕ) (m : Machine) : Type 0 where
   pub others : OthersAreIdle n m.outside.devices place
   pub keeps : KeepsNext (map asked_of m.host.state.commands) (node_of m.host.state n).book.commands (device.sessions.taken + 1) device.reassembly
   pub step : 1 ≤ begun_of (node_of m.host.state n).book → IsInStep (begun_of (node_of m.host.state n).book) device
+  pub unsealed : (node_of m.host.state n).text ≡ None
 
 -- ---- what is assumed of events
 

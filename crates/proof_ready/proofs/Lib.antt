@@ -12,9 +12,9 @@ mod Answered
 mod Untold
 mod Stillness
 mod Workers
-mod Listening
 mod Marks
 mod Reading
+mod Listening
 mod Each
 mod Waiting
 mod LetIn

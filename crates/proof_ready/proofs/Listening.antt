@@ -1,5 +1,5 @@
--- A node whose first device listens, and a host that knows of it that it lists neither Transport Service nor Security 0; so it is plain by its kind.
-use Rattle.std.proofs.Common.{◌≡◌, ◌<◌, ℕ, ◌==◌, ◌||◌, Bool, true, false, List, [], ◌∷◌, refl, sym, ap, subst, ◌∙◌, arith}
+-- A node whose first device listens, or sleeps, and a host that knows of it that it lists neither Transport Service nor Security 0; so it is plain by its kind.
+use Rattle.std.proofs.Common.{◌≡◌, ◌<◌, ℕ, ◌==◌, ◌||◌, not, Bool, true, false, List, [], ◌∷◌, refl, sym, ap, subst, ◌∙◌, arith}
 use Rattle.std.proofs.lemmas.Bool.{false≢true, or_parts}
 use Rattle.std.specs.Prelude.{Option, Some, None}
 use Rattle.std.specs.List.{AllByRecursion, list_any}
@@ -14,17 +14,21 @@ use Rattle.law_wire.specs.law_transcript.Headline.{IsAsMade}
 use Rattle.law_wire.specs.law_transcript.Nodes.{always, device_of, known_classes, listed_by, listing_of}
 use Rattle.law_time.specs.Interviews.{listens}
 use Rattle.law_time.specs.Questions.{same_bool}
-use Rattle.law_time.specs.Stretches.{are_listed, knows_device}
+use Rattle.law_time.specs.Stretches.{are_listed, knows_device, lists_a_layer}
 use Rattle.proof_rests.specs.proof_attempts.proof_host.device_sim.State.{State, fresh}
 use Rattle.proof_rests.specs.proof_requests.host_model.State.{node_of}
 use Rattle.proof_rests.specs.proof_attempts.world_model.State.{Machine}
+use Rattle.proof_rests.specs.proof_attempts.proof_walk.proof_device.GoingOn.{AreSame}
 use Rattle.proof_in_time.specs.proof_answered.Listening.{HasListener, IsUp}
+use Rattle.proof_in_time.specs.proof_answered.Sleepers.{HasSleeper}
 use Rattle.proof_chip.specs.proof_line.proof_traffic.OutsideTraffic.{AreNodes}
 use Rattle.proof_in_time.specs.proof_answered.proof_calm.proof_waking.proof_walk.Phases.{Between}
 use Rattle.proof_in_time.specs.Coming.{ListOpenly, WaitsFor, is_layered}
 use Rattle.proof_in_time.specs.InStep.{IsPlainByKind}
 use Rattle.proof_in_time.proofs.AsMade.{finds}
+use Rattle.proof_in_time.proofs.JudgedOutcomes.{same_device}
 use Rattle.proof_ready.specs.Ready.{AreKnown, AreUp, IsKnown}
+use Rattle.proof_ready.proofs.Reading.{not_so}
 
 -- ---- its device
 
@@ -39,15 +43,42 @@ listener_at n devices up device is is_listening =
       is_up = record { is_listening = is_listening; awake = all-get (λ (one : State). kind_listens one.kind ≡ true → one.awake ≡ true) devices at.place device up at.stands is_listening };
     }
 
--- the device is there that is known, and listens where the host takes it to
-pub device_known : (devices : List State) (past : List Entry) (n : ℕ) → listens n past ≡ true → knows_device devices n past (device_of n devices) ≡ true
-    → (device : State) × ((device_of n devices ≡ Some device) × (kind_listens device.kind ≡ true))
-device_known devices past n is_listening known = by (device_of n devices) refl
+-- one whose first device sleeps had one that did, and so at every moment, since its kind stays
+abbrev sleeps_there : Option State → Bool
+sleeps_there None = false
+sleeps_there (Some device) = not (kind_listens device.kind)
+
+pub sleeper_at : (n : ℕ) (olds news : List State) → AreSame olds news → (device : State) → device_of n olds ≡ Some device → kind_listens device.kind ≡ false → HasSleeper n news
+sleeper_at n olds news same device is sleeps =
+    found (device_of n news) refl
+    (same_device sleeps_there (λ old new kept. ap (λ kind. not (kind_listens kind)) kept.kind) n olds news same ∙ (ap sleeps_there is ∙ ap not sleeps))
   where
-    by : (o : Option State) → device_of n devices ≡ o → (device : State) × ((device_of n devices ≡ Some device) × (kind_listens device.kind ≡ true))
+    found : (o : Option State) → device_of n news ≡ o → sleeps_there o ≡ true → HasSleeper n news
+    found None at so = absurd (false≢true so)
+    found (Some one) at so =
+        let there = finds n news one at in
+        record { place = there.place; device = one; first = there.first; stands = there.stands; sleeps = not_so (kind_listens one.kind) so }
+
+-- the device is there that is known, and listens where the host takes it to
+pub device_known : (devices : List State) (past : List Entry) (n : ℕ) (b : Bool) → listens n past ≡ b → knows_device devices n past (device_of n devices) ≡ true
+    → (device : State) × ((device_of n devices ≡ Some device) × (kind_listens device.kind ≡ b))
+device_known devices past n b hears known = by (device_of n devices) refl
+  where
+    same_is : (a c : Bool) → same_bool a c ≡ true → c ≡ a
+    same_is true c is = is
+    same_is false true is = absurd (false≢true is)
+    same_is false false is = refl
+
+    by : (o : Option State) → device_of n devices ≡ o → (device : State) × ((device_of n devices ≡ Some device) × (kind_listens device.kind ≡ b))
     by None is = absurd (false≢true (sym (ap (λ (o : Option State). knows_device devices n past o) is) ∙ known))
-    by (Some device) is =
-        (device, (is, sym (ap (λ (b : Bool). same_bool b (kind_listens device.kind)) is_listening) ∙ (sym (ap (λ (o : Option State). knows_device devices n past o) is) ∙ known)))
+    by (Some device) is = (
+      device,
+      (
+        is,
+        same_is b (kind_listens device.kind)
+            (sym (ap (λ (c : Bool). same_bool c (kind_listens device.kind)) hears) ∙ (sym (ap (λ (o : Option State). knows_device devices n past o) is) ∙ known)),
+      ),
+    )
 
 -- ---- its classes
 
@@ -63,7 +94,7 @@ not_layered (class ∷ classes) none =
     by false true rest sealed cut none later = absurd (false≢true (sym none))
     by false false rest sealed cut none later = later none
 
-open_known : (devices : List State) (n : ℕ) (known : Option (List ℕ)) → are_listed devices n known ≡ true → list_any (λ class. (class == 0x55) || (class == 0x98)) (listing_of devices n) ≡ false
+open_known : (devices : List State) (n : ℕ) (known : Option (List ℕ)) → are_listed devices n known ≡ true → lists_a_layer devices n ≡ false
     → is_layered known ≡ false
 open_known devices n None listed plain = absurd (false≢true listed)
 open_known devices n (Some classes) listed plain =
@@ -92,10 +123,10 @@ unfolding lists
 same_lists kind class = refl
 
 -- it takes commands in sessions, not sealed, whole
-pub plain_by_kind : (devices : List State) (past : List Entry) (n : ℕ) → IsKnown devices past n → listens n past ≡ true → lists (listing_of devices n) 0x6C ≡ true
+pub plain_by_kind : (devices : List State) (past : List Entry) (n : ℕ) → IsKnown devices past n → lists (listing_of devices n) 0x6C ≡ true
     → IsPlainByKind devices n
-plain_by_kind devices past n known is_listening supervised =
-    let has = device_known devices past n is_listening known.device in
+plain_by_kind devices past n known supervised =
+    let has = device_known devices past n (listens n past) refl known.device in
     let kind : Kind = has.0.kind in
     let listing : listing_of devices n ≡ classes_of kind = ap (λ (o : Option State). listed_by o) has.1.0 in
     let none = or_parts (lists (listing_of devices n) 0x98) (lists (listing_of devices n) 0x55) (not_layered (listing_of devices n) known.plain) in

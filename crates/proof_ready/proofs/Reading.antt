@@ -1,6 +1,6 @@
 -- What the transcript says of the nodes at work in a stretch, one by one.
-use Rattle.std.proofs.Common.{◌≡◌, ◌⊎◌, ℕ, ◌≤◌, ◌<◌, ◌==◌, ◌&&◌, ◌||◌, not, nat_le, Bool, true, false, if◌then◌else◌, List, [], ◌∷◌, ◌++◌, length, arith, inl, inr, refl, sym, ap, ap₂, subst, ◌∙◌}
-use Rattle.std.proofs.lemmas.Bool.{and_parts, cases_lt, eqb-true, false≢true}
+use Rattle.std.proofs.Common.{◌≡◌, ◌⊎◌, ℕ, suc, ◌≤◌, ◌<◌, ◌==◌, ◌&&◌, ◌||◌, not, nat_le, Bool, true, false, if◌then◌else◌, List, [], ◌∷◌, ◌++◌, length, arith, inl, inr, refl, sym, ap, ap₂, subst, ◌∙◌}
+use Rattle.std.proofs.lemmas.Bool.{and_parts, cases_lt, eq-eqb, eqb-true, false≢true}
 use Rattle.std.specs.Prelude.{Option, Some, None, bytes_eq, filter}
 use Rattle.std.specs.List.{AllByRecursion, flat_map, list_all, list_any}
 use Rattle.chip_sim.specs.Nodes.{is_marked}
@@ -20,13 +20,14 @@ use Rattle.law_time.specs.Interviews.{listens}
 use Rattle.law_time.specs.Judged.{acknowledged, frames_come}
 use Rattle.law_time.specs.Questions.{same_bool}
 use Rattle.law_time.specs.Requests.{are_none}
-use Rattle.law_time.specs.Stretches.{accepted_for, are_listed, are_plain_listeners, commands_in, has_key, is_plain_listener, is_quiet, is_quiet_line, is_woken_so, knows_classes, knows_device, knows_node, open_commands, woken_by, workers}
+use Rattle.law_time.specs.Stretches.{accepted_for, are_listed, are_plain_listeners, commands_in, has_key, is_alone, is_plain_listener, is_plain_sleeper, is_quiet, is_quiet_line, is_sleeper_alone, is_woken_so, knows_classes, knows_device, knows_node, lists_a_layer, open_commands, woken_by, workers}
 use Rattle.proof_rests.specs.proof_attempts.proof_host.device_sim.State.{State}
 use Rattle.proof_rests.specs.proof_attempts.proof_walk.proof_device.GoingOn.{AreSame}
+use Rattle.proof_in_time.specs.proof_answered.Sleepers.{IsAlone}
 use Rattle.proof_in_time.specs.proof_answered.Workers.{IsAway}
 use Rattle.proof_in_time.proofs.JudgedOutcomes.{same_device, same_listing}
 use Rattle.proof_ready.specs.Ease.{clock_of}
-use Rattle.proof_ready.specs.Ready.{AreKnown, AreWorkers, HostIsStill, marks_of}
+use Rattle.proof_ready.specs.Ready.{AreKnown, ArePlain, AreWorkers, HostIsStill, OneSleeps, marks_of}
 use Rattle.proof_ready.proofs.Marks.{marked_is, unmarked_beyond}
 
 -- ---- lists
@@ -73,6 +74,12 @@ some_of (command ∷ more) some = (command, inl refl)
 none_before : (waits more : List ℕ) → not (are_none (waits ++ more)) ≡ false → waits ≡ []
 none_before [] more none = refl
 none_before (command ∷ waits) more none = absurd (false≢true (sym none))
+
+-- a list of one
+one_alone : (l : List ℕ) → (length l == 1) ≡ true → (n : ℕ) × (l ≡ n ∷ [])
+one_alone [] one = absurd (false≢true one)
+one_alone (n ∷ []) one = (n, refl)
+one_alone (n ∷ other ∷ more) one = absurd (let many : suc (suc (length more)) ≡ 1 = eqb-true (length (n ∷ other ∷ more)) 1 one in omega (arith, many))
 
 third_of : (a b c d : Bool) → a && b && c && d ≡ true → c ≡ true
 third_of true true true d all = refl
@@ -181,7 +188,7 @@ all_of_one So (one ∷ more) n all has = by (one == n) refl has (all_of_one So m
 
 -- ---- the nodes at work
 
-module _ (key : List ℕ) (devices : List State) (past stretch : List Entry) (quiet : is_quiet key devices past stretch ≡ true) (listeners : are_plain_listeners devices past stretch ≡ true)
+module _ (key : List ℕ) (devices : List State) (past stretch : List Entry) (quiet : is_quiet key devices past stretch ≡ true) (are_plain : ArePlain devices past stretch)
     (within : (n : ℕ) → is_joined past n ≡ true → n ≤ 232) where
   abbrev these : List Bool
   these = marks_of (workers past stretch)
@@ -209,18 +216,54 @@ module _ (key : List ℕ) (devices : List State) (past stretch : List Entry) (qu
       (third_of (list_all is_quiet_line (lines_run stretch)) (nat_le (length (workers past stretch)) 16) (list_all (λ node. knows_node key devices past node) (workers past stretch))
       (list_all (is_woken_so past stretch) (joined past ++ flat_map woken_by (lines_run stretch))) quiet) (at_work n marked)
 
-  plain : (n : ℕ) → is_marked these n ≡ true → (listens n past ≡ true) × (not (list_any (λ class. (class == 0x55) || (class == 0x98)) (listing_of devices n)) ≡ true)
-  plain n marked =
-      and_parts (listens n past) (not (list_any (λ class. (class == 0x55) || (class == 0x98)) (listing_of devices n)))
-      (of_one (λ node. is_plain_listener devices past node) (workers past stretch) n listeners (at_work n marked))
+  plain_listener : are_plain_listeners devices past stretch ≡ true → (n : ℕ) → is_marked these n ≡ true → (listens n past ≡ true) × (not (lists_a_layer devices n) ≡ true)
+  plain_listener listeners n marked =
+      and_parts (listens n past) (not (lists_a_layer devices n)) (of_one (λ node. is_plain_listener devices past node) (workers past stretch) n listeners (at_work n marked))
+
+  plain_sleeper : is_sleeper_alone devices past stretch ≡ true → (n : ℕ) → is_marked these n ≡ true → (not (listens n past) ≡ true) × (not (lists_a_layer devices n) ≡ true)
+  plain_sleeper sleeper n marked =
+      and_parts (not (listens n past)) (not (lists_a_layer devices n))
+      (of_one (λ node. is_plain_sleeper devices past node) (workers past stretch) n
+      (and_parts (is_alone past stretch) (list_all (is_plain_sleeper devices past) (workers past stretch)) sleeper).1 (at_work n marked))
+
+  unlayered : (n : ℕ) → is_marked these n ≡ true → lists_a_layer devices n ≡ false
+  unlayered n marked = by are_plain
+    where
+      by : ArePlain devices past stretch → lists_a_layer devices n ≡ false
+      by (inl listeners) = not_so (lists_a_layer devices n) (plain_listener listeners n marked).1
+      by (inr sleeper) = not_so (lists_a_layer devices n) (plain_sleeper sleeper n marked).1
 
   joined_one : (n : ℕ) → is_marked these n ≡ true → is_joined past n ≡ true
   joined_one n marked = (in_filter (λ node. not (are_none (commands_in past stretch node))) (joined past) n (at_work n marked)).0
 
+  -- where one node is at work, it is marked alone
+  alone_is : (node : ℕ) → workers past stretch ≡ node ∷ [] → IsAlone these node
+  alone_is node is =
+      let here : list_any (λ one. one == node) (workers past stretch) ≡ true = ap (λ (l : List ℕ). list_any (λ one. one == node) l) is ∙ ap (λ (b : Bool). b || false) (eq-eqb node node refl) in
+      let there : is_joined past node ≡ true = (in_filter (λ one. not (are_none (commands_in past stretch one))) (joined past) node here).0 in
+      record {
+        marked = marked_is (workers past stretch) node (within node there) ∙ here;
+        only = λ k marked. only k (node == k) refl (sym (ap (λ (l : List ℕ). list_any (λ one. one == k) l) is) ∙ at_work k marked);
+      }
+    where
+      only : (k : ℕ) (b : Bool) → (node == k) ≡ b → b || false ≡ true → k ≡ node
+      only k true same has = sym (eqb-true node k same)
+      only k false other has = absurd (false≢true has)
+
+  hear : ((n : ℕ) → is_marked these n ≡ true → listens n past ≡ true) ⊎ OneSleeps these past
+  hear = by are_plain
+    where
+      by : ArePlain devices past stretch → ((n : ℕ) → is_marked these n ≡ true → listens n past ≡ true) ⊎ OneSleeps these past
+      by (inl listeners) = inl (λ n marked. (plain_listener listeners n marked).0)
+      by (inr sleeper) =
+          let one = one_alone (workers past stretch) (and_parts (is_alone past stretch) (list_all (is_plain_sleeper devices past) (workers past stretch)) sleeper).0 in
+          let alone = alone_is one.0 one.1 in
+          inr (record { node = one.0; alone = alone; sleeps = not_so (listens one.0 past) (plain_sleeper sleeper one.0 alone.marked).0 })
+
   pub workers_are : AreWorkers these past
   workers_are = record {
     joined = joined_one;
-    listen = λ n marked. (plain n marked).0;
+    hear = hear;
     others = λ n apart is.
         none_before (waiting n past) (shown (accepted_for n) stretch)
         (out_filter (λ node. not (are_none (commands_in past stretch node))) (joined past) n (sym (marked_is (workers past stretch) n (within n is)) ∙ apart) is);
@@ -241,7 +284,7 @@ module _ (key : List ℕ) (devices : List State) (past stretch : List Entry) (qu
       record {
         device = third_of (is_joined past n) (has_key key (device_of n devices)) (knows_device devices n past (device_of n devices)) (knows_classes devices past n) (knows n marked);
         classes = (lists_known n marked).0;
-        plain = not_so _ (plain n marked).1;
+        plain = unlayered n marked;
       }
 
   pub reached_are : AllByRecursion (CanBeReached devices past) (workers past stretch) → (n : ℕ) → is_marked these n ≡ true → CanBeReached devices past n

@@ -1,5 +1,6 @@
 -- A node of a host alone at rest: nothing is to be done for one that is not joined, nor for one that is still by the transcript and for which no command waits.
 use Rattle.std.proofs.Common.{◌≡◌, ℕ, ◌==◌, ◌&&◌, ◌||◌, not, Bool, true, false, if◌then◌else◌, List, [], ◌∷◌, refl, sym, ap, ap₂, ◌∙◌}
+use Rattle.std.proofs.lemmas.Bool.{false≢true}
 use Rattle.std.specs.Prelude.{Option, Some, None, IsSome, is_some}
 use Rattle.supervision.specs.Host.{HostBook, open_session}
 use Rattle.zw_text.specs.declared.entry.Entry.{Entry}
@@ -13,7 +14,7 @@ use Rattle.host_keep.specs.Kept.{Interview, Session, classes_said}
 use Rattle.proof_chip.specs.proof_world.host_model.Holding.{commands_of}
 use Rattle.proof_rests.specs.proof_nonces.proof_known.proof_transcript.proof_spoken.Restarts.{AreHeld, IsHeld}
 use Rattle.host_node.specs.Facts.{SeriesFacts}
-use Rattle.host_node.specs.State.{NodeState, is_false}
+use Rattle.host_node.specs.State.{NodeState, is_false, is_up}
 use Rattle.host_node.specs.declared.series.Series.{Series}
 use Rattle.host_node.specs.declared.series.Series.TheVariants.{Idle, Due, Running}
 use Rattle.proof_rests.specs.proof_requests.host_model.State.{HostState, node_of}
@@ -74,6 +75,20 @@ knows_if listing past n = by (is_interviewed past n) (n == first_node)
     by : (b c : Bool) → is_some (if b then Some (listing past n) else known_at_first n) ≡ (b || (n == first_node))
     by true c = refl
     by false c = first (n == first_node) _
+
+-- so one that does not listen does not count as up
+asleep_if : (counts hears some : Bool) → not (counts && not hears) || not some ≡ true → hears ≡ false → some ≡ true → counts ≡ false
+asleep_if false hears some asleep sleeps known = refl
+asleep_if true true some asleep sleeps known = absurd (false≢true (sym sleeps))
+asleep_if true false true asleep sleeps known = absurd (false≢true asleep)
+asleep_if true false false asleep sleeps known = absurd (false≢true known)
+
+pub not_up : (listing other : List Entry → ℕ → List ℕ) (past : List Entry) (h : HostState) (n : ℕ) → NodeIsAsTold past h n → listens n past ≡ false → is_some (known_classes other past n) ≡ true
+    → is_asleep_if_known listing past n ≡ true → is_up (node_of h n) ≡ false
+not_up listing other past h n told sleeps known asleep =
+    ap₂ (λ (a b : Bool). a || b) (told.listens_so ∙ sleeps)
+    (told.awake
+    ∙ asleep_if (counts_awake n past) (listens n past) (is_some (known_classes listing past n)) asleep sleeps (knows_if listing past n ∙ (sym (knows_if other past n) ∙ known)))
 
 -- ---- of a host alone at rest
 

@@ -20,8 +20,7 @@ each_node So [] all = tt
 each_node So (node ∷ nodes) all = (all 0, each_node So nodes (λ n. all (suc n)))
 
 module _ (these : List Bool) (past : List Entry) (h : HostState) (workers : AreWorkers these past) (done : HostIsDone h) (outside : (n : ℕ) → is_joined past n ≡ false → IsStill (node_of h n))
-    (inside : (n : ℕ) → is_joined past n ≡ true → is_marked these n ≡ false → IsStill (node_of h n)) (idle : (n : ℕ) → is_joined past n ≡ true → (node_of h n).series ≡ Idle)
-    (listen : (n : ℕ) → is_marked these n ≡ true → (node_of h n).listens ≡ true) where
+    (inside : (n : ℕ) → is_joined past n ≡ true → is_marked these n ≡ false → IsStill (node_of h n)) (idle : (n : ℕ) → is_joined past n ≡ true → (node_of h n).series ≡ Idle) where
   other : (n : ℕ) (b : Bool) → is_joined past n ≡ b → is_marked these n ≡ false → IsStill (node_of h n)
   other n true joined apart = inside n joined apart
   other n false unjoined apart = outside n unjoined
@@ -41,8 +40,8 @@ module _ (these : List Bool) (past : List Entry) (h : HostState) (workers : AreW
   ready = record {
     knows = knows;
     first = each_node IsFirst h.nodes (λ n runs. absurd (runs (idle_at n (is_joined past n) refl)));
+    no_request = done.free.none_under_way;
     no_task = done.rests.no_task;
-    listen = listen;
   }
 
 -- node 0 is none of them

@@ -1,6 +1,6 @@
 -- The nodes at work in a stretch are those for which an order is accepted there, or waits before: each is joined, so that the lines are for these alone, and each lists Supervision.
 use Rattle.std.proofs.Common.{◌≡◌, ◌⊎◌, ℕ, ◌+◌, ◌≤◌, ◌==◌, ◌&&◌, ◌||◌, not, Bool, true, false, if◌then◌else◌, List, [], ◌∷◌, ◌++◌, length, length-append, append-nil, append_assoc, arith, inl, inr, refl, sym, ap, ap₂, subst, ◌∙◌}
-use Rattle.std.proofs.lemmas.Bool.{and_parts, eq-eqb, eqb-true, ne_eqb, false≢true}
+use Rattle.std.proofs.lemmas.Bool.{and_parts, eq-eqb, eqb-true, ne_eqb, false≢true, or_right}
 use Rattle.std.proofs.lemmas.List.Concat.{flat_map-append}
 use Rattle.std.proofs.lemmas.List.Folds.{list_all-append, list_any-append}
 use Rattle.std.proofs.lemmas.Slice.Eq.{bytes_eq-Decides}
@@ -24,12 +24,13 @@ use Rattle.law_wire.proofs.Having.{all_has, all_of, has_either, has_right, has_s
 use Rattle.law_time.specs.Interviews.{listens}
 use Rattle.law_time.specs.Requests.{are_none}
 use Rattle.law_time.specs.Sessions.{is_final}
-use Rattle.law_time.specs.Stretches.{Orders, Wakes, accepted_for, are_listed, commands_in, is_open, is_quiet_line, is_taken_back, is_woken_so, open_commands, turn_of, turns, wakes_last, wakes_never, woken_by, workers}
+use Rattle.law_time.specs.Stretches.{Turn, Orders, Wakes, accepted_for, are_listed, commands_in, is_open, is_quiet_line, is_taken_back, is_woken_so, open_commands, turn_of, turns, wakes_last, wakes_never, woken_by, workers}
 use Rattle.proof_rests.specs.proof_attempts.proof_host.device_sim.State.{State}
+use Rattle.proof_in_time.specs.proof_answered.Sleepers.{wakes_at_most_last}
 use Rattle.proof_in_time.specs.proof_answered.Workers.{IsWorkedFor, is_accepted_for, is_line_for}
 use Rattle.proof_in_time.proofs.Endings.{is_accepted, numbers_grow}
 use Rattle.proof_ready.specs.LetIn.{IsLetIn, MayBeLetIn}
-use Rattle.proof_ready.specs.Ready.{AreWorkers, marks_of}
+use Rattle.proof_ready.specs.Ready.{AreWorkers, OneSleeps, marks_of}
 use Rattle.proof_rests.specs.proof_attempts.proof_host.Laws.{number_for, numbers_for}
 use Rattle.proof_ready.proofs.Each.{any_that_has}
 use Rattle.proof_ready.proofs.Marks.{marked_is}
@@ -124,7 +125,7 @@ accepted_joined past told n c all has =
     let at = shown_has (accepted_for n) told c has in
     subst (IsOfJoined past) (is_accepted n c at.by at.shows) (all_has (IsOfJoined past) told at.by all at.among)
 
--- ---- no line wakes a node that listens
+-- ---- lines wake the node alone that sleeps, once
 
 none_wakes : (n : ℕ) (ls : List Line) → wakes_never (flat_map (turn_of n) ls) ≡ true → list_any (λ one. one == n) (flat_map woken_by ls) ≡ true → ⊥
 none_wakes n [] never woken = false≢true woken
@@ -141,10 +142,69 @@ none_wakes n (lines.Command order ∷ ls) never woken = by (order.node == n) nev
     by false never rest = rest never
 none_wakes n (line ∷ ls) never woken = none_wakes n ls never woken
 
-lines_for : (these : List Bool) (ls : List Line) → flat_map woken_by ls ≡ [] → list_all (is_line_for these) ls ≡ true
-lines_for these [] none = refl
-lines_for these (lines.Wake of ∷ ls) none = absurd cc
-lines_for these (line ∷ ls) none = lines_for these ls none
+-- each that lines wake is one of these
+lines_for : (these : List Bool) (ls : List Line) → ((n : ℕ) → list_any (λ one. one == n) (flat_map woken_by ls) ≡ true → is_marked these n ≡ true) → list_all (is_line_for these) ls ≡ true
+lines_for these [] woken = refl
+lines_for these (lines.Wake of ∷ ls) woken =
+    ap₂ (λ (a b : Bool). a && b) (woken of (any_that_has (of ∷ flat_map woken_by ls) of (inl refl))) (lines_for these ls (λ n has. woken n (or_right (of == n) (list_any (λ one. one == n) (flat_map woken_by ls)) has)))
+lines_for these (line ∷ ls) woken = lines_for these ls woken
+
+-- one node alone that is woken last is woken once at most
+last_wakes : (n : ℕ) (ls : List Line) → wakes_at_most_last (flat_map (turn_of n) ls) ≡ true → ((k : ℕ) → list_any (λ one. one == k) (flat_map woken_by ls) ≡ true → k ≡ n)
+    → length (flat_map woken_by ls) ≤ 1
+last_wakes n [] last alone = omega arith
+last_wakes n (lines.Wake of ∷ ls) last alone =
+    let is : of ≡ n = alone of (any_that_has (of ∷ flat_map woken_by ls) of (inl refl)) in
+    let none : flat_map (turn_of n) ls ≡ [] =
+    nothing_more (flat_map (turn_of n) ls) (sym (ap (λ (b : Bool). wakes_at_most_last ((if b then Wakes ∷ [] else []) ++ flat_map (turn_of n) ls)) (eq-eqb of n is)) ∙ last) in
+    let never : wakes_never (flat_map (turn_of n) ls) ≡ true = ap (λ (ts : List Turn). wakes_never ts) none in
+    let rest : flat_map woken_by ls ≡ [] =
+    none_in (flat_map woken_by ls)
+    (λ k has.
+    none_wakes n ls never
+    (subst (λ (j : ℕ). list_any (λ one. one == j) (flat_map woken_by ls) ≡ true) (alone k (or_right (of == k) (list_any (λ one. one == k) (flat_map woken_by ls)) has)) has)) in
+    subst (λ (l : List ℕ). length (of ∷ l) ≤ 1) (sym rest) (omega arith)
+  where
+    nothing_more : (ts : List Turn) → wakes_at_most_last (Wakes ∷ ts) ≡ true → ts ≡ []
+    nothing_more [] is = refl
+    nothing_more (one ∷ ts) is = absurd (false≢true is)
+last_wakes n (lines.Command order ∷ ls) last alone = by (order.node == n) last (λ later. last_wakes n ls later alone)
+  where
+    by : (b : Bool) → wakes_at_most_last ((if b then Orders ∷ [] else []) ++ flat_map (turn_of n) ls) ≡ true
+        → (wakes_at_most_last (flat_map (turn_of n) ls) ≡ true → length (flat_map woken_by ls) ≤ 1) → length (flat_map woken_by ls) ≤ 1
+    by true last rest = rest last
+    by false last rest = rest last
+last_wakes n (line ∷ ls) last alone = last_wakes n ls last alone
+
+-- ---- who is woken
+
+-- a node that has a command and does not listen is woken last
+record SleepsAtWork (past stretch : List Entry) (n : ℕ) : Type 0 where
+  pub some : not (are_none (commands_in past stretch n)) ≡ true
+  pub sleeps : listens n past ≡ false
+  pub last : wakes_last (turns n stretch) ≡ true
+
+-- and any other never
+either_woken : (past stretch : List Entry) (n : ℕ) → is_woken_so past stretch n ≡ true → SleepsAtWork past stretch n ⊎ (wakes_never (turns n stretch) ≡ true)
+either_woken past stretch n so = by (not (are_none (commands_in past stretch n))) (listens n past) refl refl so
+  where
+    by : (a b : Bool) → not (are_none (commands_in past stretch n)) ≡ a → listens n past ≡ b → (if a && not b then wakes_last (turns n stretch) else wakes_never (turns n stretch)) ≡ true
+        → SleepsAtWork past stretch n ⊎ (wakes_never (turns n stretch) ≡ true)
+    by true false some sleeps last = inl (record { some = some; sleeps = sleeps; last = last })
+    by true true some hears never = inr never
+    by false b none hears never = inr never
+
+woken_parts : (past stretch : List Entry) → list_all (is_woken_so past stretch) (joined past ++ flat_map woken_by (lines_run stretch)) ≡ true
+    → (list_all (is_woken_so past stretch) (joined past) ≡ true) × (list_all (is_woken_so past stretch) (flat_map woken_by (lines_run stretch)) ≡ true)
+woken_parts past stretch woken =
+    and_parts (list_all (is_woken_so past stretch) (joined past)) (list_all (is_woken_so past stretch) (flat_map woken_by (lines_run stretch)))
+    (sym (list_all-append (is_woken_so past stretch) (joined past) (flat_map woken_by (lines_run stretch))) ∙ woken)
+
+pub woken_last : (past stretch : List Entry) → list_all (is_woken_so past stretch) (joined past ++ flat_map woken_by (lines_run stretch)) ≡ true → (n c : ℕ) → is_joined past n ≡ true
+    → Has (commands_in past stretch n) c → listens n past ≡ false → wakes_last (turns n stretch) ≡ true
+woken_last past stretch woken n c joined_so has sleeps =
+    sym (ap₂ (λ (a b : Bool). if a && not b then wakes_last (turns n stretch) else wakes_never (turns n stretch)) (some_not (commands_in past stretch n) c has) sleeps)
+    ∙ of_one (is_woken_so past stretch) (joined past) n (woken_parts past stretch woken).0 joined_so
 
 -- ---- the stretch
 
@@ -176,29 +236,44 @@ module _ (listing : ℕ → List ℕ) (past stretch : List Entry) (each : EachAf
   one_accepted entry has = refl
 
   module _ (are : AreWorkers (marks_of (workers past stretch)) past) (woken : list_all (is_woken_so past stretch) (joined past ++ flat_map woken_by (lines_run stretch)) ≡ true) where
-    -- a node at work listens
-    listens_if : (n : ℕ) (some : Bool) → not (are_none (commands_in past stretch n)) ≡ some → some && not (listens n past) ≡ false
-    listens_if n true some =
-        let one = some_of (commands_in past stretch n) some in
-        ap (λ (b : Bool). not b) (are.listen n (works n one.0 one.1))
-    listens_if n false none = refl
+    -- each that lines wake is at work, and sleeps
+    woken_sleeps : (n : ℕ) → list_any (λ one. one == n) (flat_map woken_by (lines_run stretch)) ≡ true → SleepsAtWork past stretch n
+    woken_sleeps n has = by (either_woken past stretch n (of_one (is_woken_so past stretch) (flat_map woken_by (lines_run stretch)) n (woken_parts past stretch woken).1 has))
+      where
+        by : SleepsAtWork past stretch n ⊎ (wakes_never (turns n stretch) ≡ true) → SleepsAtWork past stretch n
+        by (inl sleeps) = sleeps
+        by (inr never) = absurd (none_wakes n (lines_run stretch) never has)
 
-    is_never : (n : ℕ) → list_any (λ one. one == n) (flat_map woken_by (lines_run stretch)) ≡ true → wakes_never (turns n stretch) ≡ true
-    is_never n has =
-        let all = and_parts (list_all (is_woken_so past stretch) (joined past)) (list_all (is_woken_so past stretch) (flat_map woken_by (lines_run stretch)))
-        (sym (list_all-append (is_woken_so past stretch) (joined past) (flat_map woken_by (lines_run stretch))) ∙ woken) in
-        sym (ap (λ (b : Bool). if b then wakes_last (turns n stretch) else wakes_never (turns n stretch)) (listens_if n (not (are_none (commands_in past stretch n))) refl))
-        ∙ of_one (is_woken_so past stretch) (flat_map woken_by (lines_run stretch)) n all.1 has
+    woken_works : (n : ℕ) → list_any (λ one. one == n) (flat_map woken_by (lines_run stretch)) ≡ true → is_marked (marks_of (workers past stretch)) n ≡ true
+    woken_works n has = let one = some_of (commands_in past stretch n) (woken_sleeps n has).some in works n one.0 one.1
 
-    none_woken : flat_map woken_by (lines_run stretch) ≡ []
-    none_woken = none_in (flat_map woken_by (lines_run stretch)) (λ n has. none_wakes n (lines_run stretch) (is_never n has) has)
+    module _ (last : (n : ℕ) (told : List Entry) → wakes_last (turns n told) ≡ true → wakes_at_most_last (turns n told) ≡ true)
+        (never : (n : ℕ) (told : List Entry) → wakes_never (turns n told) ≡ true → wakes_at_most_last (turns n told) ≡ true) where
+      at_most_last : (n : ℕ) → is_marked (marks_of (workers past stretch)) n ≡ true → wakes_at_most_last (turns n stretch) ≡ true
+      at_most_last n marked = by (either_woken past stretch n (of_one (is_woken_so past stretch) (joined past) n (woken_parts past stretch woken).0 (are.joined n marked)))
+        where
+          by : SleepsAtWork past stretch n ⊎ (wakes_never (turns n stretch) ≡ true) → wakes_at_most_last (turns n stretch) ≡ true
+          by (inl sleeps) = last n stretch sleeps.last
+          by (inr none) = never n stretch none
 
-    pub worked : IsWorkedFor (marks_of (workers past stretch)) stretch
-    worked = record {
-      stretched = record { quiet = quiet; few = subst (λ (l : List ℕ). length l ≤ 16) (sym none_woken) (omega arith) };
-      lines = lines_for (marks_of (workers past stretch)) (lines_run stretch) none_woken;
-      accepted = all_true (is_accepted_for (marks_of (workers past stretch))) stretch (all_of (λ (entry : Entry). is_accepted_for (marks_of (workers past stretch)) entry ≡ true) stretch one_accepted);
-    }
+      few_woken : length (flat_map woken_by (lines_run stretch)) ≤ 1
+      few_woken = by are.hear
+        where
+          by : ((n : ℕ) → is_marked (marks_of (workers past stretch)) n ≡ true → listens n past ≡ true) ⊎ OneSleeps (marks_of (workers past stretch)) past
+              → length (flat_map woken_by (lines_run stretch)) ≤ 1
+          by (inl listen) =
+              let none : flat_map woken_by (lines_run stretch) ≡ [] =
+              none_in (flat_map woken_by (lines_run stretch)) (λ n has. false≢true (sym (woken_sleeps n has).sleeps ∙ listen n (woken_works n has))) in
+              subst (λ (l : List ℕ). length l ≤ 1) (sym none) (omega arith)
+          by (inr one) = last_wakes one.node (lines_run stretch) (at_most_last one.node one.alone.marked) (λ n has. one.alone.only n (woken_works n has))
+
+      pub worked : IsWorkedFor (marks_of (workers past stretch)) stretch
+      worked = record {
+        stretched = record { quiet = quiet; few = let one = few_woken in omega (arith, one) };
+        lines = lines_for (marks_of (workers past stretch)) (lines_run stretch) woken_works;
+        accepted = all_true (is_accepted_for (marks_of (workers past stretch))) stretch (all_of (λ (entry : Entry). is_accepted_for (marks_of (workers past stretch)) entry ≡ true) stretch one_accepted);
+        woken = at_most_last;
+      }
 
 -- ---- Supervision
 

@@ -1,5 +1,5 @@
 -- Nodes that are ready for a stretch by the transcript (this project's own rule): what is so of them in the machine.
-use Rattle.std.specs.Prelude.{◌≡◌, ℕ, zero, suc, ◌≤◌, ◌==◌, ◌||◌, Bool, true, false, List, [], ◌∷◌, length}
+use Rattle.std.specs.Prelude.{◌≡◌, ◌⊎◌, ℕ, zero, suc, ◌≤◌, ◌==◌, Bool, true, false, List, [], ◌∷◌, length, None}
 use Rattle.std.specs.List.{AllByRecursion, list_any}
 use Rattle.zw_text.specs.declared.entry.Entry.{Entry}
 use Rattle.device_kinds.specs.Kind.{listens as kind_listens}
@@ -10,15 +10,18 @@ use Rattle.law_wire.specs.law_transcript.Nodes.{always, device_of, is_joined, kn
 use Rattle.law_time.specs.Interviews.{listens}
 use Rattle.law_time.specs.Calm.{is_asleep_if_known, is_idle}
 use Rattle.law_time.specs.Rests.{is_rest}
-use Rattle.law_time.specs.Stretches.{are_listed, knows_device}
+use Rattle.law_time.specs.Stretches.{are_listed, are_plain_listeners, is_sleeper_alone, knows_device, lists_a_layer}
 use Rattle.proof_rests.specs.proof_attempts.proof_host.device_sim.State.{State}
-use Rattle.proof_rests.specs.proof_requests.host_model.State.{HostState, node_of}
+use Rattle.proof_rests.specs.proof_requests.host_model.State.{HostState}
 use Rattle.proof_rests.specs.proof_attempts.world_model.State.{Machine}
 use Rattle.proof_in_time.specs.proof_answered.FirstAttempts.{AllFirst}
-use Rattle.proof_in_time.specs.proof_answered.Outward.{AllListen}
+use Rattle.proof_in_time.specs.proof_answered.Sleepers.{AllHear, IsAlone}
 use Rattle.proof_in_time.specs.proof_answered.Workers.{IsAway, KnowsWorkers}
+use Rattle.proof_in_time.specs.proof_answered.proof_calm.Tied.{unheard}
+use Rattle.proof_in_time.specs.proof_answered.proof_calm.proof_traffic.OnAir.{on_air}
 use Rattle.proof_in_time.specs.proof_answered.proof_calm.proof_waking.proof_walk.Phases.{Between}
 use Rattle.proof_in_time.specs.Coming.{AllWaitFor, AreInAir}
+use Rattle.proof_in_time.specs.InHand.{AllServe, SleepsAlone}
 use Rattle.proof_ready.specs.Ease.{clock_of}
 
 -- ---- by the transcript
@@ -29,17 +32,27 @@ pub record HostIsStill (listing : List Entry → ℕ → List ℕ) (past : List 
   pub idle : (n : ℕ) → is_joined past n ≡ true → is_idle past (clock_of past) n ≡ true
   pub asleep : (n : ℕ) → is_joined past n ≡ true → is_asleep_if_known listing past n ≡ true
 
--- these nodes are joined and listen, and no command waits for another that is joined
+-- the nodes at work in a stretch list neither Transport Service nor Security 0, and listen; or it is one that sleeps
+abbrev pub ArePlain : List State → List Entry → List Entry → Type 0
+ArePlain devices past stretch = (are_plain_listeners devices past stretch ≡ true) ⊎ (is_sleeper_alone devices past stretch ≡ true)
+
+-- these are one node alone, which sleeps
+pub record OneSleeps (these : List Bool) (past : List Entry) : Type 0 where
+  pub node : ℕ
+  pub alone : IsAlone these node
+  pub sleeps : listens node past ≡ false
+
+-- these nodes are joined, and all of them listen, or one sleeps; and no command waits for another that is joined
 pub record AreWorkers (these : List Bool) (past : List Entry) : Type 0 where
   pub joined : (n : ℕ) → is_marked these n ≡ true → is_joined past n ≡ true
-  pub listen : (n : ℕ) → is_marked these n ≡ true → listens n past ≡ true
+  pub hear : ((n : ℕ) → is_marked these n ≡ true → listens n past ≡ true) ⊎ OneSleeps these past
   pub others : (n : ℕ) → is_marked these n ≡ false → is_joined past n ≡ true → waiting n past ≡ []
 
 -- the host knows of a node whether it listens, and what it lists; and that is neither Transport Service nor Security 0
 pub record IsKnown (devices : List State) (past : List Entry) (n : ℕ) : Type 0 where
   pub device : knows_device devices n past (device_of n devices) ≡ true
   pub classes : are_listed devices n (known_classes (always (listing_of devices)) past n) ≡ true
-  pub plain : list_any (λ class. (class == 0x55) || (class == 0x98)) (listing_of devices n) ≡ false
+  pub plain : lists_a_layer devices n ≡ false
 
 abbrev pub AreKnown : List Bool → List State → List Entry → Type 0
 AreKnown these devices past = (n : ℕ) → is_marked these n ≡ true → IsKnown devices past n
@@ -66,21 +79,24 @@ pub record IsThere (n : ℕ) (m : Machine) : Type 0 where
   pub to : n ≤ 232
   pub in_air : is_in_air m.outside.outer.air n ≡ true
 
--- the host has to do with these nodes alone: no task waits, none is to be done for another, and each series that is due or runs is at its first attempt; and
--- each of these listens
+-- the host has to do with these nodes alone: no request is under way, no task waits, none is to be done for another, and each series that is due or runs is at
+-- its first attempt
 pub record HostIsReady (these : List Bool) (h : HostState) : Type 0 where
   pub knows : KnowsWorkers these h
   pub first : AllFirst h
+  pub no_request : h.requests.under_way ≡ None
   pub no_task : h.requests.queue ≡ []
-  pub listen : (n : ℕ) → is_marked these n ≡ true → (node_of h n).listens ≡ true
 
--- So it is. Each of these is joined in the air, has a device that listens, and is no reason for the host to wait; no frame is on the air for another, and no
--- device of another is at work.
+-- So it is. Each of these is joined in the air, and is no reason for the host to wait; all of them listen, as the host knows too, or it is one that sleeps, and
+-- was not woken; no frame is on the air, none on its way to the host, and no device of another is at work.
 pub record MachineIsReady (these : List Bool) (m : Machine) : Type 0 where
   pub many : length these ≡ 233
   pub none : is_marked these 0 ≡ false
   pub host : HostIsReady these m.host.state
   pub joined : AreInAir these m
-  pub listen : AllListen these m
+  pub hears : AllHear these Between [] m
+  pub serves : AllServe these m.host.state ⊎ SleepsAlone these m
+  pub none_flies : on_air m.outside.outer.air.frames ≡ []
+  pub none_unheard : unheard m.outside.outer ≡ []
   pub away : AllByRecursion (IsAway these) m.outside.devices
   pub waits : AllWaitFor these Between m

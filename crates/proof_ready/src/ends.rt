@@ -1,31 +1,48 @@
 //! That commands are answered in time, as a law of the transcript.
 
-ghost use Rattle.std.specs.Prelude.{◌++◌, List, ℕ};
-ghost use Rattle.std.specs.List.{AllByRecursion};
+ghost use Rattle.std.specs.Prelude.{◌≡◌, ◌++◌, true, List, ℕ};
+ghost use Rattle.std.specs.List.{list_all, AllByRecursion};
 ghost use Rattle.s0_crypto.specs.declared.key_pair.Keys.{Keys};
+ghost use Rattle.zw_text.specs.Transcript.{joined};
 ghost use Rattle.law_wire.specs.law_transcript.Headline.{IsAsMade};
-ghost use Rattle.law_time.specs.Stretches.{AnswersTogether};
+ghost use Rattle.law_time.specs.Calm.{is_not_stuck};
+ghost use Rattle.law_time.specs.Stretches.{AnswersAsleep, AnswersTogether, answers_all, is_long_enough};
 ghost use Rattle.proof_rests.specs.proof_attempts.proof_host.device_sim.State.{State};
 ghost use Rattle.proof_rests.specs.world_lines.Spoken.{Spoken};
 ghost use Rattle.proof_rests.specs.world_lines.Done.{AreDone};
 ghost use Rattle.proof_rests.specs.world_lines.Whole.{AreWhole};
-ghost use Rattle.proof_ready.specs.Stretch.{first_of, moment, told_before, told_in};
+ghost use Rattle.proof_ready.specs.Ease.{clock_of};
+ghost use Rattle.proof_ready.specs.Stretch.{IsStretchByText, first_of, moment, told_before, told_in};
 
 use crate::nodes::joined_nodes_are_there;
 use crate::stretch::workers_are_plain;
 use crate::stuck::still_stretches_end_in_time;
 use proof_in_time::stretches_are_answered;
 
-/// Wherever lines go on from others, all run whole, from the first machine on with devices as their makers left them: if the moment between is calm,
-/// and the later lines are a stretch for plain listeners, each command of these has the final outcome that its device's kind says, once 500 ticks have
-/// passed since the last order.
-pub fn stretches_are_answered_in_time()
-    ensures { (key : List ℕ) (keys : Keys) (devices : List State) (before lines : List Spoken) → AllByRecursion (IsAsMade key) devices →
-        AreDone (first_of keys devices) (before ++ lines) → AreWhole (first_of keys devices) (before ++ lines) →
-        AnswersTogether key (moment keys devices before).outside.devices (told_before keys devices before) (told_in keys devices before lines) }
+/// So each command in a stretch by its text (`IsStretchByText`), as it was for `still_stretches_end_in_time`, has the final outcome that its device's kind says.
+pub fn still_stretches_are_answered()
+    ensures { (key : List ℕ) (keys : Keys) (devices : List State) (before lines : List Spoken) → IsStretchByText key keys devices before lines →
+        list_all (is_not_stuck (told_before keys devices before) (clock_of (told_before keys devices before)))
+        (joined (told_before keys devices before)) ≡ true →
+        is_long_enough (told_in keys devices before lines) ≡ true →
+        answers_all (moment keys devices before).outside.devices (told_before keys devices before) (told_in keys devices before lines) ≡ true }
 {
     joined_nodes_are_there();
     still_stretches_end_in_time();
     stretches_are_answered();
     workers_are_plain();
+}
+
+/// Wherever lines go on from others, all run whole, from the first machine on with devices as their makers left them: if the moment between is calm,
+/// and the later lines are a stretch for plain listeners, each command of these has the final outcome that its device's kind says, once 500 ticks have
+/// passed since the last order (`together`); and so it is of one plain node that sleeps, since its `wake` line (`asleep`).
+pub fn stretches_are_answered_in_time()
+    ensures together { (key : List ℕ) (keys : Keys) (devices : List State) (before lines : List Spoken) → AllByRecursion (IsAsMade key) devices →
+        AreDone (first_of keys devices) (before ++ lines) → AreWhole (first_of keys devices) (before ++ lines) →
+        AnswersTogether key (moment keys devices before).outside.devices (told_before keys devices before) (told_in keys devices before lines) }
+    ensures asleep { (key : List ℕ) (keys : Keys) (devices : List State) (before lines : List Spoken) → AllByRecursion (IsAsMade key) devices →
+        AreDone (first_of keys devices) (before ++ lines) → AreWhole (first_of keys devices) (before ++ lines) →
+        AnswersAsleep key (moment keys devices before).outside.devices (told_before keys devices before) (told_in keys devices before lines) }
+{
+    still_stretches_are_answered();
 }

@@ -1,16 +1,17 @@
 //! What the host knows of nodes, and their devices.
 
-ghost use Rattle.std.specs.Prelude.{◌≡◌, true, List, Some, ℕ};
+ghost use Rattle.std.specs.Prelude.{◌≡◌, false, true, List, Some, ℕ};
 ghost use Rattle.device_kinds.specs.Kind.{listens};
 ghost use Rattle.zw_text.specs.declared.entry.Entry.{Entry};
 ghost use Rattle.law_wire.specs.law_transcript.Nodes.{always, device_of, known_classes, listing_of};
-ghost use Rattle.law_time.specs.Stretches.{are_plain_listeners, is_quiet, workers};
+ghost use Rattle.law_time.specs.Stretches.{is_quiet, workers};
 ghost use Rattle.proof_rests.specs.proof_attempts.proof_host.device_sim.State.{State};
 ghost use Rattle.proof_rests.specs.proof_requests.host_model.State.{node_of};
 ghost use Rattle.proof_rests.specs.proof_attempts.proof_walk.proof_device.GoingOn.{AreSame};
 ghost use Rattle.proof_in_time.specs.proof_answered.Listening.{HasListener};
+ghost use Rattle.proof_in_time.specs.proof_answered.Sleepers.{HasSleeper};
 ghost use Rattle.proof_ready.specs.Ease.{AfterLines};
-ghost use Rattle.proof_ready.specs.Ready.{AreKnown, AreUp, AreWorkers, marks_of};
+ghost use Rattle.proof_ready.specs.Ready.{AreKnown, ArePlain, AreUp, AreWorkers, marks_of};
 
 use crate::nodes::joined_nodes_are_there;
 use proof_in_time::{devices_go_on, devices_stay_the_same, listeners_hear};
@@ -40,11 +41,19 @@ pub fn devices_are_the_same()
     devices_stay_the_same();
 }
 
-/// The nodes at work in a quiet stretch with plain listeners alone, with the devices as they are then, are joined and listen, and no command waits for others;
-/// and the host knows what they list, and whether they listen.
+/// So a node whose first device is of a kind that does not listen has one that sleeps at every moment.
+pub fn sleepers_are_there()
+    ensures { AfterLines (λ devices past m. (n : ℕ) → (device : State) → device_of n devices ≡ Some device → listens device.kind ≡ false →
+        HasSleeper n m.outside.devices) }
+{
+    devices_are_the_same();
+}
+
+/// The nodes at work in a quiet stretch for plain ones, with the devices as they are then, are joined, all of them listen or one sleeps, and no command waits
+/// for others; and the host knows what they list, and whether they listen.
 pub fn workers_are_known()
     ensures { AfterLines (λ devices past m. (key : List ℕ) (stretch : List Entry) → is_quiet key m.outside.devices past stretch ≡ true →
-        are_plain_listeners m.outside.devices past stretch ≡ true →
+        ArePlain m.outside.devices past stretch →
         AreWorkers (marks_of (workers past stretch)) past × AreKnown (marks_of (workers past stretch)) devices past) }
 {
     devices_are_the_same();

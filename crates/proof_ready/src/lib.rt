@@ -11,14 +11,15 @@
 //! where the host knows nothing of nodes that have not joined (`hosts_know_their_members`).
 //! A joined node has a place in the tables, and is joined in the air (`joined_nodes_are_there`). Nothing is to be done for a node that is not joined, nor in a
 //! calm moment for one that is joined and for which no command waits (`nodes_are_still`). So where these are all nodes for which one does, the host has to do
-//! with these alone (`hosts_are_ready`). It knows of each node what its device lists (`hosts_know_what_devices_list`), and one whose device listens has one
-//! that does at every moment (`listeners_are_there`). All of it is one record (`machines_are_ready`), which so is had of the nodes at work in a quiet stretch
-//! with plain listeners alone, where all is still (`still_machines_are_ready`). So a stretch may begin there (`stretches_may_begin`). An order that is
+//! with these alone (`hosts_are_ready`). It knows of each node what its device lists (`hosts_know_what_devices_list`), and one whose device listens, or sleeps,
+//! has one that does at every moment (`listeners_are_there`, `sleepers_are_there`); one that sleeps is asleep in the host (`sleepers_are_asleep`). All of it is
+//! one record (`machines_are_ready`), which so is had of the nodes at work in a quiet stretch for plain ones, where all is still: listeners, or one node that
+//! sleeps (`still_machines_are_ready`). So a stretch may begin there (`stretches_may_begin`). An order that is
 //! accepted is for a node that is joined and lists Supervision (`orders_are_let_in`): so the lines are for the nodes at work alone
 //! (`stretches_are_for_their_workers`), and these are plain by their kinds (`workers_are_plain`). So such lines are a stretch for these
 //! (`still_stretches_begin`), and each command of these has its final outcome in time, where another series of attempts is to come by the text for each node
-//! that is to wait for one (`still_stretches_end_in_time`). So it has the one that its device's
-//! kind says, by the text alone (`stretches_are_answered_in_time`). There is no code here.
+//! that is to wait for one (`still_stretches_end_in_time`). So it has the one that its device's kind says (`still_stretches_are_answered`), by the text alone
+//! (`stretches_are_answered_in_time`). There is no code here.
 //! The definitions are in `specs/Ease`, `specs/Ready`, `specs/LetIn` and `specs/Stretch`. `proofs/Untold` has that the records keep nothing of a node that is
 //! not joined, `Stillness` is of one node, `Workers` of the host, `Listening` of devices and classes; `LetIn`, `Marks`, `Reading`, `Waiting` and `Working` are
 //! of what the transcript says.
@@ -49,16 +50,17 @@ pub use at_rest::lines_leave_a_host_at_rest;
 pub use calls::lines_await_calls;
 pub use chip::calm_chips_rest;
 pub use due::calm_chips_are_owed_nothing;
-pub use ends::stretches_are_answered_in_time;
+pub use ends::{still_stretches_are_answered, stretches_are_answered_in_time};
 pub use facts::lines_leave_hosts_fit;
 pub use host::calm_hosts_are_done;
 pub use known::{
-    devices_are_the_same, hosts_know_what_devices_list, listeners_are_there, workers_are_known,
+    devices_are_the_same, hosts_know_what_devices_list, listeners_are_there, sleepers_are_there,
+    workers_are_known,
 };
 pub use nodes::{hosts_know_their_members, joined_nodes_are_there, nodes_are_still};
 pub use pipes::{calm_hosts_have_heard_all, lines_lead_links};
 pub use reach::{calm_machines_are_reached, lines_join_the_same_nodes};
-pub use ready::hosts_are_ready;
+pub use ready::{hosts_are_ready, sleepers_are_asleep};
 pub use stretch::{
     machines_are_ready, still_machines_are_ready, still_stretches_begin,
     stretches_are_for_their_workers, stretches_may_begin, workers_are_plain,

@@ -5,7 +5,7 @@ ghost use Rattle.s0_crypto.specs.declared.key_pair.Keys.{Keys};
 ghost use Rattle.zw_text.specs.declared.entry.Entry.{Entry};
 ghost use Rattle.law_wire.specs.law_transcript.Nodes.{always, listing_of};
 ghost use Rattle.law_time.specs.Calm.{IsStill};
-ghost use Rattle.law_time.specs.Stretches.{are_plain_listeners, is_quiet, workers};
+ghost use Rattle.law_time.specs.Stretches.{is_quiet, workers};
 ghost use Rattle.proof_ready.specs.Ease.{
   AfterLines,
   AreToReach,
@@ -21,40 +21,47 @@ ghost use Rattle.proof_rests.specs.world_lines.Spoken.{Spoken};
 ghost use Rattle.proof_rests.specs.world_lines.Done.{events_of};
 ghost use Rattle.proof_in_time.specs.Stretch.{IsStretchFor};
 ghost use Rattle.proof_ready.specs.Stretch.{IsStretchByText, at_work, told_in};
-ghost use Rattle.proof_ready.specs.Ready.{AreKnown, AreUp, AreWorkers, MachineIsReady, marks_of};
+ghost use Rattle.proof_ready.specs.Ready.{AreKnown, ArePlain, AreUp, AreWorkers, MachineIsReady, marks_of};
 
 use crate::accepting::orders_are_let_in;
 use crate::air::{calm_air_is_empty, calm_machines_have_few_frames};
 use crate::chip::calm_chips_rest;
 use crate::host::calm_hosts_are_done;
 use crate::known::{
-    devices_are_the_same, hosts_know_what_devices_list, listeners_are_there, workers_are_known,
+    devices_are_the_same, hosts_know_what_devices_list, listeners_are_there, sleepers_are_there,
+    workers_are_known,
 };
 use crate::nodes::{hosts_know_their_members, joined_nodes_are_there, nodes_are_still};
 use crate::pipes::calm_hosts_have_heard_all;
-use crate::ready::hosts_are_ready;
+use crate::ready::{hosts_are_ready, sleepers_are_asleep};
 use crate::tied::calm_requests_are_tied;
-use proof_in_time::{listeners_hear, nodes_are_plain_by_kind, orders_go_whole};
+use proof_in_time::{
+    listeners_hear, nodes_are_plain_by_kind, nodes_are_woken_last, orders_go_whole,
+};
 
-/// Where all is still by the transcript, these are the nodes for which a command waits, and each of these is known, listens and is plain, the machine is ready
-/// for these.
+/// Where all is still by the transcript, these are the nodes for which a command waits, each of these is known and plain, and all of them listen or one sleeps,
+/// the machine is ready for these.
 pub fn machines_are_ready()
     ensures { AfterLines (λ devices past m. AreUp devices → (listing : List Entry → ℕ → List ℕ) → IsStill listing m.outside.devices past (clock_of past) →
         (nodes : List ℕ) → AreWorkers (marks_of nodes) past → AreKnown (marks_of nodes) devices past → MachineIsReady (marks_of nodes) m) }
 {
-    hosts_are_ready();
-    joined_nodes_are_there();
     calm_air_is_empty();
+    calm_chips_rest();
     calm_hosts_are_done();
+    calm_hosts_have_heard_all();
+    hosts_are_ready();
     hosts_know_what_devices_list();
+    joined_nodes_are_there();
     listeners_are_there();
+    sleepers_are_asleep();
+    sleepers_are_there();
 }
 
-/// So it is for the nodes at work in a stretch that is quiet and has plain listeners alone, with the devices as they are then.
+/// So it is for the nodes at work in a stretch that is quiet and for plain ones, with the devices as they are then.
 pub fn still_machines_are_ready()
     ensures { AfterLines (λ devices past m. AreUp devices → IsStill (always (listing_of m.outside.devices)) m.outside.devices past (clock_of past) →
         (key : List ℕ) (stretch : List Entry) → is_quiet key m.outside.devices past stretch ≡ true →
-        are_plain_listeners m.outside.devices past stretch ≡ true → MachineIsReady (marks_of (workers past stretch)) m) }
+        ArePlain m.outside.devices past stretch → MachineIsReady (marks_of (workers past stretch)) m) }
 {
     machines_are_ready();
     workers_are_known();
@@ -64,28 +71,28 @@ pub fn still_machines_are_ready()
 pub fn stretches_may_begin()
     ensures { AfterLines (λ devices past m. AreNodes devices → AreUp devices →
         IsStill (always (listing_of m.outside.devices)) m.outside.devices past (clock_of past) → (key : List ℕ) (stretch : List Entry) →
-        is_quiet key m.outside.devices past stretch ≡ true → are_plain_listeners m.outside.devices past stretch ≡ true →
+        is_quiet key m.outside.devices past stretch ≡ true → ArePlain m.outside.devices past stretch →
         AreToReach (marks_of (workers past stretch)) devices past →
         IsReadyFor (marks_of (workers past stretch)) m × SpeakPlainly (marks_of (workers past stretch)) m) }
 {
     still_machines_are_ready();
     workers_are_known();
     hosts_know_their_members();
-    calm_air_is_empty();
     calm_chips_rest();
-    calm_hosts_have_heard_all();
     calm_machines_have_few_frames();
     calm_requests_are_tied();
     orders_go_whole();
 }
 
-/// The lines of such a stretch are for the nodes at work in it: no line wakes a node, and each order that is accepted is for one of these.
+/// The lines of such a stretch are for the nodes at work in it: none wakes a node, but the one that sleeps, once, after its orders; and each order that is
+/// accepted is for one of these.
 pub fn stretches_are_for_their_workers()
     ensures { (key : List ℕ) (keys : Keys) (devices : List State) (before lines : List Spoken) → IsStretchByText key keys devices before lines →
         IsWorkedFor (at_work keys devices before lines) (told_in keys devices before lines) }
 {
     joined_nodes_are_there();
     nodes_are_still();
+    nodes_are_woken_last();
     orders_are_let_in();
     workers_are_known();
 }

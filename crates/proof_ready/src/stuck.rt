@@ -21,7 +21,9 @@ ghost use Rattle.proof_ready.specs.Stretch.{
 ghost use Rattle.law_time.specs.Calm.{is_not_stuck, is_series_to_come};
 
 use crate::host::calm_hosts_are_done;
+use crate::known::workers_are_known;
 use crate::nodes::joined_nodes_are_there;
+use crate::ready::sleepers_are_asleep;
 use crate::stretch::still_stretches_begin;
 use proof_in_time::stretches_end_in_time;
 
@@ -35,8 +37,8 @@ pub fn series_to_come_are_waited_for()
 }
 
 /// So over a stretch by its text (`IsStretchByText`), where as it begins another series is to come for each listening node for which a command waits and whose
-/// session is open: 500 ticks after the last order each command of a joined node, whether it waited before or was accepted in the stretch, has its final
-/// outcome in the entries.
+/// session is open: 500 ticks after the last order or `wake` line each command of a joined node, whether it waited before or was accepted in the stretch, has
+/// its final outcome in the entries.
 pub fn still_stretches_end_in_time()
     ensures { (key : List ℕ) (keys : Keys) (devices : List State) (before lines : List Spoken) (n command : ℕ) →
         IsStretchByText key keys devices before lines →
@@ -47,8 +49,11 @@ pub fn still_stretches_end_in_time()
         500 ≤ waited (told_in keys devices before lines) →
         is_final (outcome command (transcript_of (first_of keys devices) (before ++ lines))) ≡ true }
 {
+    calm_hosts_are_done();
     joined_nodes_are_there();
     series_to_come_are_waited_for();
+    sleepers_are_asleep();
     still_stretches_begin();
     stretches_end_in_time();
+    workers_are_known();
 }

@@ -1,13 +1,10 @@
 -- The frame that arrives is the first on the air.
 use Rattle.proof_calm.proofs.proof_traffic_Parts.{Airs}
-use Rattle.proof_answered.proofs.AwakeNodes.{all_heard, all_listen}
+use Rattle.proof_answered.proofs.AwakeNodes.{all_heard}
 use Rattle.proof_answered.proofs.sleepers.awake_nodes_hear.Goals as goal
 
-pub returns-clause-listening : goal.returns-clause-listening
-returns-clause-listening c = all_listen
-
-pub returns-clause-heard : goal.returns-clause-heard
-returns-clause-heard c = all_heard airs
+pub returns : goal.returns
+returns c = record { heard = all_heard airs }
   where
     airs : Airs
     airs = record {

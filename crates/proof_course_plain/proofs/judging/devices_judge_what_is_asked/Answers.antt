@@ -1,5 +1,7 @@
 -- Each clause is a lemma, over the laws of the air, of devices and of messages.
+use Rattle.outside_model.specs.Events.{mesh_of}
 use Rattle.proof_course_plain.proofs.Arrivals.{Laws as ArrivalLaws}
+use Rattle.proof_course_plain.proofs.JudgedArrivals.{judges_each}
 use Rattle.proof_course_plain.proofs.JudgedFrames.{event_judged}
 use Rattle.proof_course_plain.proofs.JudgedMessages.{Judging, payload_judges}
 use Rattle.proof_course_plain.proofs.judging.devices_judge_what_is_asked.Goals as goal
@@ -43,4 +45,7 @@ pub returns-clause-hears : goal.returns-clause-hears
 returns-clause-hears c = hearing_of c
 
 pub returns-clause-event : goal.returns-clause-event
-returns-clause-event c = λ node orders course up down m event within follows none. event_judged node orders (arrivals_of c) (hearing_of c) course up down m event within follows none
+returns-clause-event c = λ node orders course up down m event within follows none.
+    let is = follows.outside.mesh in
+    event_judged node orders course.host.commands m event is.device.place is.device.device is.device.first is.device.stands
+    (judges_each (arrivals_of c) (hearing_of c) node orders course (mesh_of m.outside) is follows.course within) none

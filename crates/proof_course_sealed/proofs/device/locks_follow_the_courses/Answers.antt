@@ -1,6 +1,7 @@
 -- Each clause is a lemma, over the laws of devices, of messages and of the nonces of each end.
 use Rattle.proof_course_sealed.proofs.LockStates.{other_event, Laws}
 use Rattle.proof_course_sealed.proofs.HeardPayloads.{payload_heard}
+use Rattle.proof_course_sealed.proofs.JudgedPayloads.{payload_judges}
 use Rattle.proof_course_sealed.proofs.MadeSettings.{payload_makes}
 use Rattle.proof_course_sealed.proofs.device.locks_follow_the_courses.Goals as goal
 
@@ -33,6 +34,9 @@ returns-clause-hears c = payload_heard (laws_of c)
 
 pub returns-clause-makes : goal.returns-clause-makes
 returns-clause-makes c = payload_makes (laws_of c)
+
+pub returns-clause-judges : goal.returns-clause-judges
+returns-clause-judges c = payload_judges (laws_of c)
 
 pub returns-clause-other : goal.returns-clause-other
 returns-clause-other c = other_event (laws_of c)

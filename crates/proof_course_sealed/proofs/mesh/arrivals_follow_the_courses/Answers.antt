@@ -1,5 +1,6 @@
 -- Each clause is a lemma, over the laws of the air, of the lock and of the courses.
 use Rattle.proof_course_sealed.proofs.Arrivals.{Laws, arrives_go, repeats_go, own_goes, ticks_go}
+use Rattle.proof_course_sealed.proofs.JudgedArrivals.{judges_each}
 use Rattle.proof_course_sealed.proofs.mesh.arrivals_follow_the_courses.Goals as goal
 
 laws_of : (c : goal.After-first_bytes_name_one_of_the_host) → Laws
@@ -8,6 +9,7 @@ laws_of c = record {
   same = c.devices_stay_the_same.ensures.event;
   hears = c.locks_follow_the_courses.ensures.hears;
   makes = c.locks_follow_the_courses.ensures.makes;
+  judges = c.locks_follow_the_courses.ensures.judges;
   other = c.locks_follow_the_courses.ensures.other;
   keeps = c.devices_follow_the_course.ensures.keeps;
   idle = c.idle_devices_stay_idle.ensures.ticks;
@@ -35,3 +37,6 @@ returns-clause-own c past node = own_goes (laws_of c) past node
 
 pub returns-clause-ticks : goal.returns-clause-ticks
 returns-clause-ticks c past node = ticks_go (laws_of c) past node
+
+pub returns-clause-judges : goal.returns-clause-judges
+returns-clause-judges c past node courses mesh within facts is = judges_each (laws_of c) past node courses mesh within facts is

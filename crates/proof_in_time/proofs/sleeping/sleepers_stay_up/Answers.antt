@@ -1,5 +1,5 @@
 -- One lemma for each kind of event.
-use Rattle.proof_in_time.proofs.StayingUp.{answer_wakes_none, arrives_up, lately_up, still_up, ticks_up, wakes_up}
+use Rattle.proof_in_time.proofs.StayingUp.{answer_quiet, arrives_up, lately_up, still_up, ticks_up, wakes_up}
 use Rattle.proof_in_time.proofs.sleeping.sleepers_stay_up.Goals as goal
 
 pub returns-clause-ticks : goal.returns-clause-ticks
@@ -15,7 +15,7 @@ pub returns-clause-still : goal.returns-clause-still
 returns-clause-still c = still_up
 
 pub returns-clause-answers : goal.returns-clause-answers
-returns-clause-answers c = λ session new replies is. (is.up.awake, answer_wakes_none session new replies is)
+returns-clause-answers c = λ session new replies is. (is.up.awake, answer_quiet session new replies is)
 
 pub returns-clause-lately : goal.returns-clause-lately
 returns-clause-lately c = lately_up

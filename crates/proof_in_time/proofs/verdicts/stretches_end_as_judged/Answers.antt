@@ -14,7 +14,7 @@ use Rattle.proof_in_time.proofs.Spoken.{done_first, done_later, told_both}
 use Rattle.proof_in_time.proofs.verdicts.stretches_end_as_judged.Goals as goal
 
 pub returns : goal.returns
-returns c = λ n command keys devices before lines openly are quiet own over.
+returns c = λ n command keys devices before lines judged are quiet own over.
     let m : Machine = first_machine keys (Some []) devices in
     let start : Machine = after_all m before in
     let T0 : List Entry = transcript_of m before in
@@ -29,4 +29,4 @@ returns c = λ n command keys devices before lines openly are quiet own over.
     let begun =
     begun_inside n command T0 T1 start.host.state (after_all m (before ++ lines)).host.state facts0 (c.laws_follow.ensures.laws T0 start.host.state facts0) facts numbers own
     (subst (λ (T : List Entry). is_final (outcome command T) ≡ true) (told_both m before lines) over) in
-    c.outcomes_are_as_judged.ensures n command keys devices before lines openly (lines_free n start lines (done_later m before lines are) quiet) are begun over
+    c.outcomes_are_as_judged.ensures n command keys devices before lines judged (lines_free n start lines (done_later m before lines are) quiet) are begun over

@@ -1,45 +1,11 @@
--- Each command of each node at work has a final outcome, so all have; and the nodes at work are such that it is the one that is due.
-use Rattle.std.proofs.Common.{◌≡◌, ◌≤◌, ◌&&◌, true, ◌++◌, List, length, not, nat_le, subst, ◌∙◌, arith}
-use Rattle.std.proofs.lemmas.Bool.{and_parts, leb-true}
-use Rattle.std.specs.List.{flat_map, list_all}
-use Rattle.zw_text.specs.declared.entry.Entry.{Entry}
-use Rattle.zw_text.specs.Transcript.{joined, lines_run, outcome}
-use Rattle.law_wire.specs.law_transcript.Nodes.{is_joined}
-use Rattle.law_time.specs.Requests.{are_none}
-use Rattle.law_time.specs.Sessions.{is_final}
-use Rattle.law_time.specs.Stretches.{commands_in, is_quiet_line, is_woken_so, knows_node, waited, woken_by, workers}
-use Rattle.proof_in_time.proofs.Spoken.{told_both, whole_parts}
-use Rattle.proof_ready.specs.Stretch.{IsStretchByText, first_of, moment, told_before, told_in}
-use Rattle.proof_ready.proofs.Each.{all_of_each, all_that_has, any_that_has}
-use Rattle.proof_ready.proofs.Marks.{marked_is}
-use Rattle.proof_ready.proofs.Reading.{in_filter}
+-- A calm moment is still, and no node is stuck there.
+use Rattle.std.proofs.Common.{inl, inr}
 use Rattle.proof_ready.proofs.ends.stretches_are_answered_in_time.Goals as goal
 
-pub returns : goal.returns
-returns c = λ key keys devices before lines made done whole calm stretch plain long.
-    let past = told_before keys devices before in
-    let told = told_in keys devices before lines in
-    let now = (moment keys devices before).outside.devices in
-    let text : IsStretchByText key keys devices before lines = record { done = done; whole = whole; made = made; still = calm.still; stretch = stretch; listeners = plain } in
-    let began = whole_parts (first_of keys devices) before lines done whole in
-    let quiet : list_all is_quiet_line (lines_run told) ≡ true =
-    (and_parts (list_all is_quiet_line (lines_run told)) (nat_le (length (workers past told)) 16)
-    (and_parts (list_all is_quiet_line (lines_run told) && nat_le (length (workers past told)) 16) (list_all (λ node. knows_node key now past node) (workers past told))
-    (and_parts (list_all is_quiet_line (lines_run told) && nat_le (length (workers past told)) 16 && list_all (λ node. knows_node key now past node) (workers past told))
-    (list_all (is_woken_so past told) (joined past ++ flat_map woken_by (lines_run told))) stretch.quiet).0).0).0 in
-    let ends : list_all (λ node. list_all (λ command. is_final (outcome command (past ++ told))) (commands_in past told node)) (workers past told) ≡ true =
-    all_of_each (λ node. list_all (λ command. is_final (outcome command (past ++ told))) (commands_in past told node)) (workers past told)
-    (λ node works.
-    all_that_has (λ command. is_final (outcome command (past ++ told))) (commands_in past told node)
-    (λ command has.
-    subst (λ (T : List Entry). is_final (outcome command T) ≡ true) (told_both (first_of keys devices) before lines)
-    (c.still_stretches_end_in_time.ensures key keys devices before lines node command text calm.to_come
-    (in_filter (λ one. not (are_none (commands_in past told one))) (joined past) node works).0 has (leb-true 500 (waited told) long)))) in
-    c.stretches_are_answered.ensures keys devices before lines done quiet
-    (λ n works.
-    let listed = any_that_has (workers past told) n works in
-    let there : is_joined past n ≡ true = (in_filter (λ one. not (are_none (commands_in past told one))) (joined past) n listed).0 in
-    let within : n ≤ 232 = (c.joined_nodes_are_there.ensures keys devices before began.0 began.1 n there).to in
-    let over = c.workers_are_plain.ensures key keys devices before lines text n (marked_is (workers past told) n within ∙ listed) in
-    record { within = omega (arith, within); at_first = over.at_first; orders = over.orders })
-    ends
+pub returns-clause-together : goal.returns-clause-together
+returns-clause-together c = λ key keys devices before lines made done whole calm stretch plain long.
+    c.still_stretches_are_answered.ensures key keys devices before lines (record { done = done; whole = whole; made = made; still = calm.still; stretch = stretch; plain = inl plain }) calm.to_come long
+
+pub returns-clause-asleep : goal.returns-clause-asleep
+returns-clause-asleep c = λ key keys devices before lines made done whole calm stretch plain long.
+    c.still_stretches_are_answered.ensures key keys devices before lines (record { done = done; whole = whole; made = made; still = calm.still; stretch = stretch; plain = inr plain }) calm.to_come long

@@ -1,5 +1,5 @@
 -- Each node is still or one of these.
-use Rattle.std.proofs.Common.{◌∙◌, arith}
+use Rattle.std.proofs.Common.{arith}
 use Rattle.std.specs.Prelude.{Some, []}
 use Rattle.proof_chip.specs.proof_line.world_model.State.{first_machine}
 use Rattle.proof_chip.specs.proof_world.world_lines.Spoken.{after_all, transcript_of}
@@ -15,6 +15,3 @@ returns c = λ keys devices lines are whole listing still these workers.
     (λ n joined.
     let there = c.joined_nodes_are_there.ensures keys devices lines are whole n joined in
     c.calm_hosts_are_done.ensures.idle keys devices lines are whole n (omega (arith, there.from)) there.to (still.idle n joined))
-    (λ n marked.
-    let there = c.joined_nodes_are_there.ensures keys devices lines are whole n (workers.joined n marked) in
-    (c.calm_hosts_are_done.ensures.told keys devices lines are whole n (omega (arith, there.from)) there.to).listens_so ∙ workers.listen n marked)

@@ -20,11 +20,11 @@ returns c = λ key keys devices before lines is.
     let up = made_up c.listeners_hear.ensures.fresh key devices is.made in
     let same = c.devices_are_the_same.ensures keys devices before parts.0 parts.1 in
     let within : (n : ℕ) → is_joined past n ≡ true → n ≤ 232 = λ n joined. (c.joined_nodes_are_there.ensures keys devices before parts.0 parts.1 n joined).to in
-    let workers = (c.workers_are_known.ensures keys devices before parts.0 parts.1 key told is.stretch.quiet is.listeners).0 in
+    let workers = (c.workers_are_known.ensures keys devices before parts.0 parts.1 key told is.stretch.quiet is.plain).0 in
     let reach : AreToReach these devices past
-    = λ n marked. (workers.joined n marked, reached_before past devices now same n (reached_are key now past told is.stretch.quiet is.listeners within is.stretch.reached n marked)) in
-    let ready = c.still_machines_are_ready.ensures keys devices before parts.0 parts.1 up is.still key told is.stretch.quiet is.listeners in
-    let begins = c.stretches_may_begin.ensures keys devices before parts.0 parts.1 (made_nodes key devices is.made) up is.still key told is.stretch.quiet is.listeners reach in
+    = λ n marked. (workers.joined n marked, reached_before past devices now same n (reached_are key now past told is.stretch.quiet is.plain within is.stretch.reached n marked)) in
+    let ready = c.still_machines_are_ready.ensures keys devices before parts.0 parts.1 up is.still key told is.stretch.quiet is.plain in
+    let begins = c.stretches_may_begin.ensures keys devices before parts.0 parts.1 (made_nodes key devices is.made) up is.still key told is.stretch.quiet is.plain reach in
     record {
       many = ready.many;
       none = ready.none;
@@ -33,6 +33,6 @@ returns c = λ key keys devices before lines is.
       whole = is.whole;
       kept = record { worked = c.stretches_are_for_their_workers.ensures key keys devices before lines is; kept = is.stretch.kept };
       ready = begins.0;
-      serves = record { listens = ready.host.listen; no_task = ready.host.no_task };
+      serves = ready.serves;
       speak = begins.1;
     }

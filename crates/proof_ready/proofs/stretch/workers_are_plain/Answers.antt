@@ -31,18 +31,18 @@ returns c = λ key keys devices before lines is.
     let parts = whole_parts m before lines is.done is.whole in
     let same = c.devices_are_the_same.ensures keys devices before parts.0 parts.1 in
     let within : (n : ℕ) → is_joined past n ≡ true → n ≤ 232 = λ n joined. (c.joined_nodes_are_there.ensures keys devices before parts.0 parts.1 n joined).to in
-    let known = c.workers_are_known.ensures keys devices before parts.0 parts.1 key told is.stretch.quiet is.listeners in
+    let known = c.workers_are_known.ensures keys devices before parts.0 parts.1 key told is.stretch.quiet is.plain in
     let first = c.orders_are_let_in.ensures keys devices before parts.0 in
     let each : EachAfter (MayBeLetIn (listing_of devices)) past told =
     each-right (MayBeLetIn (listing_of devices)) [] past told
     (subst (λ (T : List Entry). EachAfter (MayBeLetIn (listing_of devices)) [] T) (told_both m before lines) (c.orders_are_let_in.ensures keys devices (before ++ lines) is.done).0) in
     let supervised : (n : ℕ) → is_marked these n ≡ true → lists (listing_of devices n) 0x6C ≡ true = λ n marked.
-    let one = command_of key now past told is.stretch.quiet is.listeners within n marked in
+    let one = command_of key now past told is.stretch.quiet is.plain within n marked in
     elim (has_either (waiting n past) (shown (accepted_for n) told) one.0 one.1) [
       | inl waits ↦
-          waiting_lists devices now past n one.0 (same_listing n devices now same) first.0 (first.1 n) (opened_are key now past told is.stretch.quiet is.listeners within n marked) waits
+          waiting_lists devices now past n one.0 (same_listing n devices now same) first.0 (first.1 n) (opened_are key now past told is.stretch.quiet is.plain within n marked) waits
       | inr later ↦ accepted_lists (listing_of devices) n one.0 past told (known_list devices past n (known.1 n marked)) each later
     ] in
     let plain : (n : ℕ) → is_marked these n ≡ true → IsPlainByKind devices n = λ n marked.
-    plain_by_kind devices past n (known.1 n marked) (known.0.listen n marked) (supervised n marked) in
+    plain_by_kind devices past n (known.1 n marked) (supervised n marked) in
     c.nodes_are_plain_by_kind.ensures.plain these key keys devices (before ++ lines) is.made plain is.done

@@ -7,12 +7,12 @@ use Rattle.s0_crypto.specs.Sealing.{keys_of}
 use Rattle.device_sim.specs.State.{State, fresh}
 use Rattle.law_transcript.specs.Headline.{IsAsMade}
 use Rattle.law_transcript.specs.Nodes.{device_of}
-use Rattle.proof_course_sealed.specs.Plain.{IsIdle}
+use Rattle.proof_course_plain.specs.Device.{IsIdle}
 use Rattle.proof_course_sealed.specs.Courses.{first_courses}
 use Rattle.proof_course_sealed.specs.Meaning.{first_past}
 use Rattle.proof_course_sealed.specs.Lock.{AtLock}
-use Rattle.proof_course_sealed.proofs.AsMade.{stand_as_made}
-use Rattle.proof_headline.specs.Locks.{IsLockKind, IsLockNode}
+use Rattle.proof_course_plain.proofs.AsMade.{stand_as_made}
+use Rattle.proof_course_sealed.specs.LockNodes.{IsLockKind, IsLockNode}
 
 -- the only kind that lists both
 is_lock : (kind : Kind) → IsLockKind kind → kind ≡ kinds.Lock

@@ -1,4 +1,4 @@
--- Locks (this project's own): devices that take their commands sealed.
+-- Which nodes are locks (this project's own): their devices take their commands sealed.
 use Rattle.std.specs.Prelude.{◌≡◌, ℕ, ◌<◌, true, List}
 use Rattle.s0_crypto.specs.declared.key_pair.Keys.{Keys}
 use Rattle.device_kinds.specs.declared.kind.Kind.{Kind}
