@@ -22,7 +22,6 @@ use Rattle.host_orders.specs.declared.carriage.Carriage.{Carriage}
 use Rattle.host_requests.specs.declared.task.Purpose.TheVariants.{Housekeeping}
 use Rattle.host_requests.specs.declared.task.Task.TheVariants.{NoMore}
 use Rattle.host_requests.specs.declared.under_way.UnderWay.{UnderWay}
-use Rattle.host_node.specs.declared.no_more.NoMore.TheVariants.{Queued, Unasked}
 use Rattle.host_model.proofs.Submitted.{SubmittedAre, next_is, no_more_is}
 use Rattle.host_model.specs.Events.{HostEvent, Accepts, Line_ticks, Node_ticks, Requests_do}
 use Rattle.host_model.specs.State.{HostState, node_of}
@@ -404,16 +403,3 @@ module _ (airs : Airs) (same : Same) (these : List Bool) (n : ℕ) (alone : IsAl
   quiet_on here next past m event goes may worked staff staff_then none in_time says after none_wake =
       let a = around these here next past m event goes may worked staff staff_then in_time in
       quiet airs same these many n alone here next past (entries m event) none m event a says (after_unwoken airs same these many n alone here next past (entries m event) none m event a says after) none_wake
-
--- ---- while something is left no task waits
-
-pub left_free : (n : ℕ) (h : HostState) → IsUpAt n h → HasLeft (node_of h n) → (h.requests.queue ≡ []) × (IsTelling n h → ⊥)
-left_free n h up left = by up.no_more
-  where
-    wrong : (node_of h n).no_more ≡ Queued → ⊥
-    wrong asked = let both : Queued ≡ Unasked = sym asked ∙ up.kept.unasked left in absurd cc
-
-    by : NoMoreAt n h → (h.requests.queue ≡ []) × (IsTelling n h → ⊥)
-    by (Not_asked empty not) = (empty, not)
-    by (Is_queued waits not asked) = absurd (wrong asked)
-    by (Is_sent empty tells asked) = absurd (wrong asked)

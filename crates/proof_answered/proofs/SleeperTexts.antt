@@ -166,15 +166,6 @@ module _ (n : ℕ) (past told : List Entry) (none : lines_run told ≡ []) where
   before_next (Moved b passes ticks) next m event goes (Now woken to_wake) = absurd to_wake
   before_next here next m event goes before = absurd goes
 
--- at each other event it is not woken yet
-pub unroused : (n : ℕ) (here next : Phase) (past told : List Entry) (m : Machine) (event : Event) → Goes here m event next → lines_run told ≡ [] → ((route : Option Route) → event ≡ Outside_does (Wakes_device n route) → ⊥) → IsBefore n here past
-    → IsBefore n next (past ++ told)
-unroused n here next past told m event goes none other before = by (before_next n past told none here next m event goes before)
-  where
-    by : Later n next (past ++ told) event → IsBefore n next (past ++ told)
-    by (inl still) = still.0
-    by (inr woken) = absurd (other woken.1.0 woken.1.1)
-
 -- ---- a part that begins
 
 -- of the events of a line

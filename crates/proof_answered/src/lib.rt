@@ -8,8 +8,8 @@
 //! (`attempts_stay_first`); and each service of another node brings a node that has work nearer to its turn (`nodes_are_served_in_turn`). That each frame
 //! is heard is assumed of events there, and these tell which are: a node whose device is of a kind that listens hears each that is sent to it
 //! (`listeners_hear`), and where the devices of some nodes are such and the frames are for these, that stays so (`nodes_hear`); a node that sleeps hears each
-//! from its `wake` line until it is told that there is no more for it (`awake_nodes_hear`, `sleepers_are_where_they_may_be`), and counts as awake while
-//! something is left for it (`work_keeps_nodes_up`, `nodes_are_woken_last`). There is no code here.
+//! from its `wake` line, which is its last (`nodes_are_woken_last`), until it is told that there is no more for it, and counts as awake while something is left
+//! for it (`sleepers_are_where_they_may_be`). There is no code here.
 //! The definitions are in `specs/`: `Few` (for how long devices are at work, and how many frames are on the air, at each phase), `Listening`, `Heard` (what
 //! calls say), `Outward` (for which nodes frames are), `Workers` (which nodes lines, host and air have to do with), `FirstAttempts`, `Sleepers`, and `Turns`.
 #![tactic(auto)]
@@ -30,7 +30,5 @@ pub use hearing::nodes_hear;
 pub use listening::listeners_hear;
 pub use proof_calm::{frames_fly_in_order, hosts_are_tended, work_in_order_means};
 pub use serving::nodes_are_served_in_turn;
-pub use sleepers::{
-    awake_nodes_hear, nodes_are_woken_last, sleepers_are_where_they_may_be, work_keeps_nodes_up,
-};
+pub use sleepers::{nodes_are_woken_last, sleepers_are_where_they_may_be};
 pub use working::{workers_alone_speak, workers_hear};

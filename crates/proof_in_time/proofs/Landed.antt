@@ -1,5 +1,5 @@
 -- What a frame that arrives brings: a report to the chip, and a message to a device, whose answer goes on the air.
-use Rattle.std.proofs.Common.{◌≡◌, ◌≤◌, ◌<◌, ℕ, ◌+◌, nat_lt, inl, inr, Bool, true, List, [], ◌∷◌, ◌++◌, length, refl, sym, ap, ◌∙◌, subst}
+use Rattle.std.proofs.Common.{◌≡◌, ◌≤◌, ◌<◌, ℕ, nat_lt, inl, inr, Bool, true, List, [], ◌∷◌, ◌++◌, length, refl, sym, ap, ◌∙◌, subst}
 use Rattle.std.specs.Prelude.{◌⊎◌, ◌||◌, Option, Some, option_map, slice_get}
 use Rattle.std.specs.Option.{is_none, unwrap_or}
 use Rattle.serial_frame.specs.Frame.{FrameParts}

@@ -19,10 +19,6 @@ use Rattle.device_sim.specs.State.{State}
 use Rattle.device_sim.specs.Event.{Hears, Ticks, Wakes, device_after, device_replies}
 use Rattle.mesh_sim.specs.Fates.{dead_hop_of, fate_by, fate_of, listener_of, place_of}
 use Rattle.mesh_sim.specs.declared.fate.Fate.TheVariants.{AtDevice, Lost}
-use Rattle.host_heard.specs.Telling.{heard_at}
-use Rattle.host_heard.specs.declared.payload.Heard.TheVariants.{Messages}
-use Rattle.host_heard.specs.declared.told.Told.{Told}
-use Rattle.host_heard.specs.declared.told.Told.TheVariants.{Notification}
 use Rattle.host_requests.specs.Frames.{no_more_information}
 use Rattle.host_requests.specs.declared.task.Purpose.TheVariants.{Housekeeping}
 use Rattle.host_requests.specs.declared.task.Task.TheVariants.{NoMore}
@@ -39,13 +35,11 @@ use Rattle.world_model.specs.Events.{Event, Outside_does, Host_does, Host_takes,
 use Rattle.world_model.specs.State.{Machine}
 use Rattle.world_model.proofs.Hosting.{devices_host-all}
 use Rattle.proof_answered.specs.proof_calm.proof_work.proof_walk.Phases.{Phase, Between, Said_line, Begun, Doing, To_tick, Ticked, Arriving, Giving, Ticking_devices, Ticking_chip, Ticking_decoder, Ticking_host, Sleeping, Submitting, Moving, Moved, Goes, Turns}
-use Rattle.proof_answered.specs.proof_calm.proof_traffic.OnAir.{on_air}
 use Rattle.proof_answered.specs.proof_calm.Resting.{IsEffect, LineAt}
-use Rattle.proof_answered.specs.proof_calm.Tied.{unheard}
 use Rattle.proof_answered.proofs.SleeperTexts.{Wakes_it, before_next, before_said, before_turn}
 use Rattle.proof_answered.proofs.proof_traffic_Parts.{Airs}
 use Rattle.proof_answered.specs.Listening.{HasListener}
-use Rattle.proof_answered.specs.Sleepers.{AllHear, All_listen, Back_asleep, Before, BringsNotification, Comes_home, Counts, Flies_home, HasOne, HasSleeper, IsAfter, IsAlone, IsBefore, IsNotification, IsQuietFlown, IsQuietFrame, IsQuietTold, IsTelling, IsUpAt, IsDown, IsWanted, NoneWakes, One_sleeps, OneWakes, SaysAs, SleeperAt, StaysUp, TellsQuietly, Tells_it, Up, Was_told, Woken}
+use Rattle.proof_answered.specs.Sleepers.{AllHear, All_listen, Back_asleep, Before, Counts, HasSleeper, IsAfter, IsAlone, IsBefore, IsTelling, IsUpAt, IsDown, IsWanted, One_sleeps, SaysAs, SleeperAt, StaysUp, TellsQuietly, Tells_it, Up, Was_told, Woken}
 use Rattle.proof_answered.proofs.Speaking.{fate_listens, hears_at}
 use Rattle.proof_course_plain.proofs.Arrivals.{awake_at_place}
 use Rattle.proof_course_plain.proofs.Replies.{one_place, one_stands}
@@ -57,10 +51,11 @@ use Rattle.proof_in_time.specs.InStep.{HasInStep, IsPlainly}
 use Rattle.proof_in_time.specs.Sleeping.{IsLately, IsPlainlyUp, LeavesUp, is_to_tick, quiet_for}
 use Rattle.proof_in_time.proofs.Bounded.{Devices, counted_devices, cuts_devices, decoder_devices, line_devices, refuses_devices, session_of, shows_devices, tick_devices, values_devices}
 use Rattle.proof_in_time.proofs.Plainly.{Tells, ticks_so}
+use Rattle.proof_in_time.proofs.Rising.{not_both_wake}
 use Rattle.proof_in_time.proofs.Served.{event_clock, tick_clock}
 use Rattle.proof_in_time.proofs.Settled.{chip_devices}
 use Rattle.proof_answered.proofs.Walking.{takes_still}
-use Rattle.proof_in_time.proofs.Sleepers.{HeardNow, heard_now, no_more_sleeps, ticks_on, wakes_telling}
+use Rattle.proof_in_time.proofs.Sleepers.{HeardNow, heard_now, no_more_silent, ticks_on, wakes_telling}
 use Rattle.proof_in_time.proofs.StayingUp.{Then, answer_quiet, arrives_then, arrives_up, lately_up, same_then, still_up, ticks_then, wakes_own, wakes_then, wakes_up}
 
 -- ---- nodes that listen
@@ -402,28 +397,6 @@ fate_out false (Some hop) heading listener place is = absurd cc
 fate_out false None Homeward listener place is = absurd cc
 fate_out false None Outward listener place is = refl
 
--- one that tells of its waking, among others that do not
-one_none : {X : Type 0} (Is Others : X → Type 0) → ((x : X) → Is x → Others x → ⊥) → (xs : List X) → HasOne Is Others xs → AllByRecursion Others xs → ⊥
-one_none Is Others not [] one all = one
-one_none Is Others not (x ∷ xs) (inl (is, rest)) all = not x is all.0
-one_none Is Others not (x ∷ xs) (inr (other, one)) all = one_none Is Others not xs one all.1
-
-same_told : (a b : List Told) → Messages a ≡ Messages b → a ≡ b
-same_told a b e = cc
-
-not_quiet : (payload : List ℕ) → heard_at payload ≡ Messages (Notification ∷ []) → TellsQuietly payload → ⊥
-not_quiet payload heard quiet = by quiet.told quiet.quiet (sym heard ∙ quiet.heard)
-  where
-    by : (told : Told) → IsQuietTold told → Messages (Notification ∷ []) ≡ Messages (told ∷ []) → ⊥
-    by Notification none same = none
-    by told none same = let are : Notification ∷ [] ≡ told ∷ [] = same_told (Notification ∷ []) (told ∷ []) same in absurd cc
-
-wakes_or_none : (n : ℕ) (m : Machine) → OneWakes n m → NoneWakes m → ⊥
-wakes_or_none n m (Flies_home one rest) none =
-    one_none (IsNotification n) IsQuietFlown (λ frame is quiet. not_quiet frame.payload is.tells.heard (quiet is.home)) (on_air m.outside.outer.air.frames) one none.frames
-wakes_or_none n m (Comes_home rest one) none =
-    one_none (BringsNotification n) IsQuietFrame (λ frame is quiet. not_quiet is.payload is.tells.heard (quiet n is.payload is.is)) (unheard m.outside.outer) one none.pending
-
 down_silent : (n : ℕ) (h : HostState) → IsDown n h → IsTelling n h → ⊥
 down_silent n h down telling = let wrong : Some (Housekeeping (NoMore n)) ≡ None = sym telling ∙ ap (λ (u : Option UnderWay). option_map (λ (request : UnderWay). request.purpose) u) down.no_request in absurd cc
 
@@ -436,7 +409,7 @@ up_awake n h up asleep = let wrong : true ≡ false = sym up.kept.awake ∙ asle
 
 -- before it is woken nothing is wanted
 unwanted : (n : ℕ) (device : State) (here : Phase) (past : List Entry) (m : Machine) (event : Event) → ((h : Phase) (T : List Entry) → IsBefore n h T → IsAfter n h T → ⊥) → IsBefore n here past → SleeperAt n device here past m → IsWanted n m event → ⊥
-unwanted n device here past m event apart before (Before is down none quiet) (Tells_it asleep one) = wakes_or_none n m one quiet
+unwanted n device here past m event apart before (Before is down none quiet) (Tells_it asleep one) = not_both_wake n m one quiet
 unwanted n device here past m event apart before (Before is down none quiet) (Counts awake not) = down_asleep n m.host.state down awake
 unwanted n device here past m event apart before (Woken after down none one awake) wanted = apart here past before after
 unwanted n device here past m event apart before (Up after up quiet awake) wanted = apart here past before after
@@ -477,8 +450,8 @@ module _ (airs : Airs) (laws : Devices) (tells : Tells) (these : List Bool) (lim
       let is = answered payload drawn awake some message in
       (answer_quiet (session_of n m) (device_after sleeper.device (Hears payload drawn)) (device_replies sleeper.device (Hears payload drawn)) is, inl is.up.awake)
   hears_so payload drawn awake (No_more telling same) =
-      let falls = no_more_sleeps sleeper.device drawn awake sleeper.sleeps in
-      (subst (λ (p : List ℕ). AllByRecursion TellsQuietly (device_replies sleeper.device (Hears p drawn))) (sym same) (subst (AllByRecursion TellsQuietly) (sym falls.silent) tt), inr telling)
+      let silent = no_more_silent sleeper.device drawn awake sleeper.sleeps in
+      (subst (λ (p : List ℕ). AllByRecursion TellsQuietly (device_replies sleeper.device (Hears p drawn))) (sym same) (subst (AllByRecursion TellsQuietly) (sym silent) tt), inr telling)
 
   -- what is so of the one node is so of each
   of_one : (P : ℕ → Type 0) → P n → (k : ℕ) → is_marked these k ≡ true → P k

@@ -1,5 +1,5 @@
 -- A device that does not listen: it tells that it was woken, stays awake while it heard something a short time ago, and sleeps once it is told that there is no more for it.
-use Rattle.std.proofs.Common.{◌≡◌, ℕ, ◌+◌, ◌-◌, ◌<◌, ◌==◌, ◌&&◌, ◌||◌, nat_lt, inl, inr, Bool, true, false, if◌then◌else◌, Option, Some, None, Ok, List, [], ◌∷◌, refl, sym, ap, ◌∙◌, subst, arith}
+use Rattle.std.proofs.Common.{◌≡◌, ℕ, ◌+◌, ◌-◌, ◌<◌, ◌==◌, ◌&&◌, ◌||◌, nat_lt, inl, inr, Bool, true, false, if◌then◌else◌, Option, Some, None, Ok, List, [], ◌∷◌, length, refl, sym, ap, ◌∙◌, subst, arith}
 use Rattle.std.specs.Prelude.{◌⊎◌}
 use Rattle.std.proofs.lemmas.Bool.{lt-ltb}
 use Rattle.class_info.specs.declared.message.InfoMessage.TheVariants.{WakeUpNoMoreInformation, WakeUpNotification}
@@ -28,8 +28,8 @@ use Rattle.device_stack.specs.Hearing.{active, answers, answers_bytes, answers_o
 use Rattle.device_stack.specs.Ticking.{aged, awake_ticks, ticked, woken, works_out}
 use Rattle.device_sim.specs.Event.{Hears, Ticks, Wakes, device_after, device_replies, outcome_of}
 use Rattle.proof_messages.proofs.Bare.{bare, bare_opens, middle_command}
-use Rattle.proof_messages.proofs.SessionMessages.{awake_after, openly_by}
-use Rattle.proof_in_time.specs.Answering.{FallsAsleep, StaysAwake, TellsWaking}
+use Rattle.proof_messages.proofs.SessionMessages.{openly_by}
+use Rattle.proof_in_time.specs.Answering.{IsAwakeNow}
 use Rattle.proof_in_time.proofs.Answered.{heard_replies, opened_whole}
 
 -- the only kind that does not listen
@@ -54,14 +54,22 @@ notification_told =
     told_one (form WakeUpNotification) refl (bare_opens (form WakeUpNotification) (middle_command 0x84 (7 ∷ []) (omega arith) (omega arith)))
     (again (form WakeUpNotification) WakeUpNotification (form_spells WakeUpNotification tt))
 
-pub wakes_telling : (device : State) → listens device.kind ≡ false → TellsWaking device (device_after device Wakes) (device_replies device Wakes)
+-- it is awake by now and tells that, and nothing else
+pub record TellsWaking (new : State) (replies : List (List ℕ)) : Type 0 where
+  pub up : IsAwakeNow new
+  pub payload : List ℕ
+  pub says : replies ≡ payload ∷ []
+  pub tells : heard_at payload ≡ Messages (Notification ∷ [])
+  pub short : length payload ≡ 2
+
+pub wakes_telling : (device : State) → listens device.kind ≡ false → TellsWaking (device_after device Wakes) (device_replies device Wakes)
 unfolding device_after device_replies outcome_of woken
 wakes_telling device sleeps =
     subst (λ (b : Bool). Tells (if b then silent device else record { device = record device { awake = true; active_at = device.clock }; replies = form WakeUpNotification ∷ [] })) (sym sleeps)
-    (record { up = record { awake = refl; now = refl }; payload = form WakeUpNotification; says = refl; tells = notification_told; short = refl; sessions = refl; work_left = refl })
+    (record { up = record { awake = refl; now = refl }; payload = form WakeUpNotification; says = refl; tells = notification_told; short = refl })
   where
     Tells : Outcome → Type 0
-    Tells o = TellsWaking device o.device o.replies
+    Tells o = TellsWaking o.device o.replies
 
 -- ---- it ticks
 
@@ -74,17 +82,17 @@ aged_awake device awake soon =
     or_true true = refl
     or_true false = refl
 
-pub tick_awake : (device : State) (drawn : List ℕ) → device.awake ≡ true → device.clock + 1 < device.active_at + awake_ticks → StaysAwake device (device_after device (Ticks drawn))
+pub tick_awake : (device : State) (drawn : List ℕ) → device.awake ≡ true → device.clock + 1 < device.active_at + awake_ticks → (device_after device (Ticks drawn)).awake ≡ true
 unfolding device_after outcome_of ticked
 tick_awake device drawn awake soon = by (device.work_left == 0) (device.work_left == 1)
   where
     old : (aged device).awake ≡ true
     old = aged_awake device awake soon
 
-    by : (none last : Bool) → StaysAwake device (if none then silent (aged device) else if last then works_out (aged device) else silent (record (aged device) { work_left = device.work_left - 1 })).device
-    by true last = record { awake = old; clock = refl; active = refl }
-    by false true = record { awake = old; clock = refl; active = refl }
-    by false false = record { awake = old; clock = refl; active = refl }
+    by : (none last : Bool) → (if none then silent (aged device) else if last then works_out (aged device) else silent (record (aged device) { work_left = device.work_left - 1 })).device.awake ≡ true
+    by true last = old
+    by false true = old
+    by false false = old
 
 -- ---- it is told that there is no more
 
@@ -94,23 +102,20 @@ no_more_message = record { plan = bare; commands = no_more_information ∷ [] }
 no_more_read : info_at no_more_information ≡ Ok WakeUpNoMoreInformation
 no_more_read = again no_more_information WakeUpNoMoreInformation (form_spells WakeUpNoMoreInformation tt)
 
-abbrev Sleeps_by : State → Outcome → Type 0
-Sleeps_by device o = FallsAsleep device o.device o.replies
+abbrev IsSilent : Outcome → Type 0
+IsSilent o = o.replies ≡ []
 
-no_more_answered : (device : State) → device.kind ≡ Sensor → info_at no_more_information ≡ Ok WakeUpNoMoreInformation → Sleeps_by device (sent_openly (answers (active device) no_more_message))
+no_more_answered : (device : State) → device.kind ≡ Sensor → info_at no_more_information ≡ Ok WakeUpNoMoreInformation → IsSilent (sent_openly (answers (active device) no_more_message))
 unfolding answers effect_of told
-no_more_answered device kind read = rw (kind, read) (record { asleep = refl; silent = refl; sessions = refl; work_left = refl })
+no_more_answered device kind read = rw (kind, read) refl
 
-pub no_more_sleeps : (device : State) (drawn : List ℕ) → device.awake ≡ true → listens device.kind ≡ false
-    → FallsAsleep device (device_after device (Hears no_more_information drawn)) (device_replies device (Hears no_more_information drawn))
-no_more_sleeps device drawn awake sleeps =
+pub no_more_silent : (device : State) (drawn : List ℕ) → device.awake ≡ true → listens device.kind ≡ false → device_replies device (Hears no_more_information drawn) ≡ []
+no_more_silent device drawn awake sleeps =
     let kind : device.kind ≡ Sensor = is_sensor device.kind sleeps in
     let outcome : hears_by device.kind (active device) no_more_information drawn ≡ sent_openly (answers (active device) no_more_message) =
     ap (λ (k : Kind). hears_by k (active device) no_more_information drawn) kind ∙ openly_by Sensor (active device) no_more_information drawn refl refl
     ∙ opened_whole (active device) no_more_information no_more_message (bare_opens no_more_information (middle_command 0x84 (8 ∷ []) (omega arith) (omega arith))) in
-    let at : Sleeps_by device (hears_by device.kind (active device) no_more_information drawn) = subst (Sleeps_by device) (sym outcome) (no_more_answered device kind no_more_read) in
-    subst (λ (new : State). FallsAsleep device new (device_replies device (Hears no_more_information drawn))) (sym (awake_after device no_more_information drawn awake))
-    (subst (λ (replies : List (List ℕ)). FallsAsleep device (hears_by device.kind (active device) no_more_information drawn).device replies) (sym (heard_replies device no_more_information drawn awake)) at)
+    heard_replies device no_more_information drawn awake ∙ subst IsSilent (sym outcome) (no_more_answered device kind no_more_read)
 
 -- ---- how old it is
 

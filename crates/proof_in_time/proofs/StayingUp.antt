@@ -1,6 +1,6 @@
 -- What is so of the device of a node that sleeps, after each event of the machine: it stays awake where it is woken, ticks not long after it heard something, or hears
 -- something that leaves it so.
-use Rattle.std.proofs.Common.{◌≡◌, ◌≢◌, ◌<◌, ℕ, ◌+◌, ◌-◌, ◌==◌, Bool, true, false, if◌then◌else◌, Option, Some, None, List, [], ◌∷◌, refl, sym, ap, ◌∙◌, subst, arith}
+use Rattle.std.proofs.Common.{◌≡◌, ◌≢◌, ◌<◌, ℕ, ◌+◌, ◌==◌, Bool, true, false, if◌then◌else◌, Option, Some, None, List, [], ◌∷◌, refl, sym, ap, ◌∙◌, subst, arith}
 use Rattle.std.proofs.lemmas.Bool.{eq-eqb, eqb-true}
 use Rattle.std.specs.Prelude.{slice_get, slice_set}
 use Rattle.std.specs.List.{AllByRecursion}
@@ -143,7 +143,7 @@ pub ticks_up : (these : List Bool) (m : Machine) (place : ℕ) (drawn : List ℕ
     → ((n : ℕ) → is_marked these n ≡ true → (is : HasSleeper n m.outside.devices) → IsWanted n m (Outside_does (Device_ticks place drawn route)) → is.place ≡ place → is.device.clock + 1 < is.device.active_at + awake_ticks)
     → StaysUp these m (Outside_does (Device_ticks place drawn route))
 ticks_up these m place drawn route soon n marked is awake wanted =
-    ticks_then IsAwake n m place drawn route is (λ apart. awake) (λ same. (tick_awake is.device drawn awake (soon n marked is wanted same)).awake)
+    ticks_then IsAwake n m place drawn route is (λ apart. awake) (λ same. tick_awake is.device drawn awake (soon n marked is wanted same))
 
 woken_up : (device : State) → device.awake ≡ true → (device_after device Wakes).awake ≡ true
 unfolding device_after outcome_of woken

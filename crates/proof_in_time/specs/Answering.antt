@@ -1,11 +1,8 @@
 -- What a device answers to the message of a session, and what it comes to (this project's own kinds; Supervision Report is that of the Z-Wave
 -- Transport-Encapsulation Command Class Specification).
-use Rattle.std.specs.Prelude.{◌≡◌, ◌≢◌, ◌⊎◌, ℕ, ◌+◌, ◌≤◌, true, false, List, [], ◌∷◌, length, Some}
+use Rattle.std.specs.Prelude.{◌≡◌, ◌≢◌, ◌⊎◌, ℕ, ◌+◌, ◌≤◌, true, List, [], ◌∷◌, length, Some}
 use Rattle.supervision.specs.declared.session.TheConstants.{WORKING}
 use Rattle.encap.specs.declared.plan.Plan.{Plan}
-use Rattle.host_heard.specs.Telling.{heard_at}
-use Rattle.host_heard.specs.declared.payload.Heard.TheVariants.{Messages}
-use Rattle.host_heard.specs.declared.told.Told.TheVariants.{Notification}
 use Rattle.device_stack.specs.Effects.{work_ticks}
 use Rattle.device_sim.specs.State.{State}
 use Rattle.proof_messages.specs.Reporting.{TellsOwn}
@@ -70,28 +67,3 @@ pub record StaysDone (old new : State) (replies : List (List ℕ)) : Type 0 wher
   pub silent : replies ≡ []
   pub sessions : new.sessions ≡ old.sessions
   pub is_done : IsDone new
-
--- ---- awake and asleep
-
--- a tick leaves it awake, and makes it one tick longer that it heard nothing
-pub record StaysAwake (old new : State) : Type 0 where
-  pub awake : new.awake ≡ true
-  pub clock : new.clock ≡ old.clock + 1
-  pub active : new.active_at ≡ old.active_at
-
--- it is awake by now and tells that, and nothing else; its sessions and its work are as they were
-pub record TellsWaking (old new : State) (replies : List (List ℕ)) : Type 0 where
-  pub up : IsAwakeNow new
-  pub payload : List ℕ
-  pub says : replies ≡ payload ∷ []
-  pub tells : heard_at payload ≡ Messages (Notification ∷ [])
-  pub short : length payload ≡ 2
-  pub sessions : new.sessions ≡ old.sessions
-  pub work_left : new.work_left ≡ old.work_left
-
--- it sleeps by now, and says nothing; its sessions and its work are as they were
-pub record FallsAsleep (old new : State) (replies : List (List ℕ)) : Type 0 where
-  pub asleep : new.awake ≡ false
-  pub silent : replies ≡ []
-  pub sessions : new.sessions ≡ old.sessions
-  pub work_left : new.work_left ≡ old.work_left

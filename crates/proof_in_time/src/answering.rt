@@ -1,30 +1,26 @@
 //! Devices that are asked.
 
-ghost use Rattle.std.specs.Prelude.{◌≡◌, ◌≤◌, ◌+◌, ◌<◌, List, true, false, ℕ};
+ghost use Rattle.std.specs.Prelude.{◌≡◌, ◌≤◌, ◌+◌, List, true, ℕ};
 ghost use Rattle.zw_base.specs.declared.order.Order.{Order};
 ghost use Rattle.device_kinds.specs.declared.kind.Kind.TheVariants.{Configurable};
 ghost use Rattle.host_orders.specs.Refusals.{IsFit};
 ghost use Rattle.host_orders.specs.Wrapping.{message_of};
 ghost use Rattle.host_orders.specs.declared.carriage.Carriage.{Carriage};
 ghost use Rattle.supervision.specs.declared.session.TheConstants.{WORKING};
-ghost use Rattle.host_requests.specs.Frames.{no_more_information};
-ghost use Rattle.device_kinds.specs.Kind.{listens};
-ghost use Rattle.device_stack.specs.Ticking.{awake_ticks};
-ghost use Rattle.device_sim.specs.Event.{Hears, Ticks, Wakes, device_after, device_replies};
+ghost use Rattle.device_sim.specs.Event.{Hears, Ticks, device_after, device_replies};
 ghost use Rattle.device_sim.specs.State.{State};
 ghost use Rattle.proof_messages.specs.Asking.{takes_openly};
 ghost use Rattle.proof_messages.specs.Reporting.{CanSay};
 ghost use Rattle.proof_course_plain.specs.Making.{KeepsNext};
 ghost use Rattle.proof_course_plain.specs.Meaning.{Asked, IsSegmentOf};
-ghost use Rattle.proof_in_time.specs.Answering.{AnswersPart, AnswersSession, FallsAsleep, IsAtWork, IsDone, IsInStep, IsStill, StaysAwake, StaysDone, TellsWaking, WorksOn};
+ghost use Rattle.proof_in_time.specs.Answering.{AnswersPart, AnswersSession, IsAtWork, IsDone, IsInStep, IsStill, StaysDone, WorksOn};
 
 use device_sim::when_changes_come;
 use proof_messages::{messages_do_what_is_asked, messages_open, segments_tell};
 
 /// A device that is awake and takes what is not sealed answers the message of the next session, or of the last that it took, with one payload, which tells the
 /// status of that session: a final one, or that it is at work, for at most five ticks. Whatever it hears then leaves it at that. Each tick brings it nearer to
-/// the end of its work, which it tells then. Then it is awake, and stays so in each tick up to the 199th after it heard something last. One that does not
-/// listen says that it is awake as it is woken, and sleeps once it is told that there is no more for it.
+/// the end of its work, which it tells then.
 pub fn messages_are_answered()
     ensures heard { (device : State) (drawn : List ℕ) (carriage : Carriage) (order : Order) (session : ℕ) → IsFit carriage.actuator order →
         order.end ≤ 127 → device.awake ≡ true → takes_openly device.kind ≡ true → IsInStep session device →
@@ -35,11 +31,6 @@ pub fn messages_are_answered()
         WorksOn device (device_after device (Ticks drawn)) (device_replies device (Ticks drawn)) }
     ensures rests { (device : State) (drawn : List ℕ) → IsDone device →
         StaysDone device (device_after device (Ticks drawn)) (device_replies device (Ticks drawn)) }
-    ensures awake { (device : State) (drawn : List ℕ) → device.awake ≡ true → device.clock + 1 < device.active_at + awake_ticks →
-        StaysAwake device (device_after device (Ticks drawn)) }
-    ensures woken { (device : State) → listens device.kind ≡ false → TellsWaking device (device_after device Wakes) (device_replies device Wakes) }
-    ensures asleep { (device : State) (drawn : List ℕ) → device.awake ≡ true → listens device.kind ≡ false →
-        FallsAsleep device (device_after device (Hears no_more_information drawn)) (device_replies device (Hears no_more_information drawn)) }
 {
     messages_do_what_is_asked();
     messages_open();

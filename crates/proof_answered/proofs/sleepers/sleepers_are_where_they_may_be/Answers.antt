@@ -1,7 +1,6 @@
 -- By the text, by the host, and by what is on the air.
 use Rattle.proof_calm.proofs.proof_traffic_Parts.{Airs}
-use Rattle.proof_answered.proofs.SleeperSteps.{left_free, sleeper_event, sleeper_said, sleeper_turn}
-use Rattle.proof_answered.proofs.SleeperTexts.{before_or_after, unroused}
+use Rattle.proof_answered.proofs.SleeperSteps.{sleeper_event, sleeper_said, sleeper_turn}
 use Rattle.proof_answered.proofs.sleepers.sleepers_are_where_they_may_be.Goals as goal
 
 pub returns-clause-said : goal.returns-clause-said
@@ -21,12 +20,3 @@ returns-clause-event c = λ these n alone many. sleeper_event airs c.devices_sta
       count = c.frames_fly_in_order.ensures.count;
       begins = c.frames_fly_in_order.ensures.begins;
     }
-
-pub returns-clause-unroused : goal.returns-clause-unroused
-returns-clause-unroused c = unroused
-
-pub returns-clause-apart : goal.returns-clause-apart
-returns-clause-apart c = before_or_after
-
-pub returns-clause-left : goal.returns-clause-left
-returns-clause-left c = left_free

@@ -1,7 +1,6 @@
 -- Each clause is a lemma on a device that hears, or works.
 use Rattle.device_sim.specs.Event.{Hears, device_after}
 use Rattle.proof_in_time.proofs.Answered.{done_ticks_on, message_answered, still_at_work, work_ticks_on}
-use Rattle.proof_in_time.proofs.Sleepers.{no_more_sleeps, tick_awake, wakes_telling}
 use Rattle.proof_in_time.proofs.answering.messages_are_answered.Goals as goal
 
 pub returns-clause-heard : goal.returns-clause-heard
@@ -17,12 +16,3 @@ returns-clause-works c = λ device drawn can work. work_ticks_on device drawn ca
 
 pub returns-clause-rests : goal.returns-clause-rests
 returns-clause-rests c = done_ticks_on
-
-pub returns-clause-awake : goal.returns-clause-awake
-returns-clause-awake c = tick_awake
-
-pub returns-clause-woken : goal.returns-clause-woken
-returns-clause-woken c = wakes_telling
-
-pub returns-clause-asleep : goal.returns-clause-asleep
-returns-clause-asleep c = no_more_sleeps

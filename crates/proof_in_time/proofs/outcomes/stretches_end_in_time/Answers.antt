@@ -1,6 +1,6 @@
 -- For a command that was accepted in the stretch, the lines after the one that asked for it ask for ticks enough; for one that waited before, all lines do. Where
 -- the node sleeps, the lines after its `wake` line do, for each.
-use Rattle.std.proofs.Common.{◌≡◌, ◌≢◌, ℕ, ◌+◌, inl, inr, true, false, List, [], ◌∷◌, ◌++◌, Some, append_assoc, sym, ap, ◌∙◌, subst, arith}
+use Rattle.std.proofs.Common.{◌≡◌, ◌≢◌, ℕ, inl, inr, true, false, List, [], ◌∷◌, ◌++◌, Some, append_assoc, sym, ap, ◌∙◌, subst, arith}
 use Rattle.std.proofs.lemmas.List.Concat.{flat_map-append}
 use Rattle.std.specs.Prelude.{◌⊎◌}
 use Rattle.zw_text.specs.declared.entry.Entry.{Entry}
