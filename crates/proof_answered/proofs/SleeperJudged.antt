@@ -67,7 +67,7 @@ use Rattle.proof_answered.proofs.Unheard.{all_piled, unheard_idle, unheard_judge
 
 -- ---- which events follow a payload that is heard quietly
 
-abbrev IsNews : HostEvent → Type 0
+abbrev pub IsNews : HostEvent → Type 0
 IsNews (Unreads n payload) = Unit {0}
 IsNews (Is_unkept n) = Unit {0}
 IsNews (Reports_old n id) = Unit {0}
@@ -78,7 +78,7 @@ IsNews (Hears_value n setting) = Unit {0}
 IsNews (Has_no_room n property) = Unit {0}
 IsNews event = ⊥
 
-abbrev AreNews : List HostEvent → Type 0
+abbrev pub AreNews : List HostEvent → Type 0
 AreNews events = AllByRecursion IsNews events
 
 no_event : (events : List HostEvent) → events ≡ [] → AreNews events
@@ -121,7 +121,7 @@ module _ (n : ℕ) where
   values_news h [] = tt
   values_news h (s ∷ more) = (value_news _ s, values_news (after h (value_event h n s)) more)
 
-  told_news : (h : HostState) (payload : List ℕ) (message : Told) (events : List HostEvent) → IsQuietTold message → IsTaken h n payload false message events → AreNews events
+  pub told_news : (h : HostState) (payload : List ℕ) (message : Told) (events : List HostEvent) → IsQuietTold message → IsTaken h n payload false message events → AreNews events
   told_news h payload (Report id status wake) events quiet is = plain_news h payload id status wake events is
   told_news h payload NonceGet events quiet is = absurd quiet
   told_news h payload (NonceReport nonce) events quiet is = nonce_news h nonce _ events is

@@ -46,6 +46,7 @@ use Rattle.law_time.specs.Errands.{SaysHowDone}
 use Rattle.law_time.specs.Interviews.{EndsInterviews}
 use Rattle.law_time.specs.Questions.{AnswersQuestions}
 use Rattle.law_time.specs.Stretches.{AnswersAsleep, AnswersTogether}
+use Rattle.proof_ready.specs.Stretch.{EndsAsJudged}
 use Rattle.law_time.specs.Holds.{HoldsAsAsked}
 use Rattle.law_time.specs.Waking.{FallsAsleep, WakesAsTold}
 use Rattle.law_host.specs.Heard.{heard_by_host}
@@ -496,14 +497,22 @@ abbrev pub HasHeadline : List ℕ → Around → Around → Type 0
 HasHeadline key old new = InFairRuns key old new
     (λ story. (node : ℕ) (device : State) → device_of node new.devices ≡ Some device → is_supervised device ≡ true → HeadlineOf (always (listing_of old.devices)) node (transcript key old story) device)
 
+-- a law of the devices as they are somewhere between its lines, of what stands before, and of the lines from there on, or as many of these as were run whole
+abbrev pub InStretches : List ℕ → Around → Around → (List State → List Entry → List Entry → Type 0) → Type 0
+InStretches key old new Law =
+    InFairRuns key old new
+    (λ story. (before stretch more : List Ran) → story ≡ before ++ (stretch ++ more) → AreSchedules (first key old) (before ++ stretch)
+    → Law (last key old before).outside.devices (transcript key old before) (transcript_from (last key old before) stretch))
+
 -- Wherever its lines go on from a calm moment as a stretch in which at most 16 nodes are at work, plain listeners all, or one plain node that sleeps, each command of these has
 -- the final outcome that its device's kind says once 500 ticks have passed since the last order or `wake` line.
 abbrev pub AnswersCommands : List ℕ → Around → Around → Type 0
-AnswersCommands key old new =
-    InFairRuns key old new
-    (λ story. (before stretch more : List Ran) → story ≡ before ++ (stretch ++ more) → AreSchedules (first key old) (before ++ stretch)
-    → AnswersTogether key (last key old before).outside.devices (transcript key old before) (transcript_from (last key old before) stretch)
-    × AnswersAsleep key (last key old before).outside.devices (transcript key old before) (transcript_from (last key old before) stretch))
+AnswersCommands key old new = InStretches key old new (λ devices before stretch. AnswersTogether key devices before stretch × AnswersAsleep key devices before stretch)
+
+-- Wherever its lines are quiet for a while, each command that waited then or was accepted since, of a node whose device lists Supervision, and that has a final outcome, has the one
+-- that its device's kind says: however late it comes, and whatever was lost, repeated or changed.
+abbrev pub EndsAsDevicesJudge : List ℕ → Around → Around → Type 0
+EndsAsDevicesJudge key old new = InStretches key old new EndsAsJudged
 
 -- success of a command of such a node is reported after its change
 abbrev pub ReportsAfterChange : List ℕ → Around → Around → Type 0
@@ -588,6 +597,7 @@ pub record StoriesKeepLaws (key : List ℕ) (old new : Around) : Type 0 where
   pub whole_headline : HasWholeHeadline key old new
   pub legal : IsLegalRun key old new
   pub answers_in_time : AnswersCommands key old new
+  pub ends_as_judged : EndsAsDevicesJudge key old new
   pub of_host : KeepsHostLaws key old new
   pub of_devices : KeepsDeviceLaws key old new
   pub of_air : KeepsAirLaws key old new

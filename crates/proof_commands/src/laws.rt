@@ -5,6 +5,7 @@ ghost use Rattle.run_all.specs.Around.{Around};
 ghost use Rattle.proof_commands.specs.Laws.{
   AnswersAsDue,
   AnswersCommands,
+  EndsAsDevicesJudge,
   AirsAsTaken,
   AppliesOnce,
   AsksOneByOne,
@@ -84,7 +85,7 @@ use proof_audit::{
     values_are_stored_as_asked,
 };
 use proof_host::{asides_keep_facts, laws_follow};
-use proof_ready::stretches_are_answered_in_time;
+use proof_ready::{stretches_are_answered_in_time, stretches_end_by_kind};
 use proof_replay::{
     lines_answer_questions, lines_ask_one_by_one, lines_clear_at_restarts,
     lines_clear_nowhere_else, lines_clear_the_line, lines_collide_when_asked, lines_count_nonces,
@@ -119,6 +120,7 @@ pub fn every_story_keeps_laws()
     stories_do_as_shown();
     stories_are_legal();
     stories_answer_in_time();
+    stories_end_as_judged();
 }
 
 /// A story has the records that these laws assume, if the keeper tells them and had none at first, or no line is `restart`.
@@ -372,4 +374,13 @@ fn stories_answer_in_time()
 {
     lines_are_read_as_said();
     stretches_are_answered_in_time();
+}
+
+/// Wherever the lines of a story are quiet for a while, each command of a node whose device lists Supervision has, where it has a final outcome, the one that its
+/// device's kind says.
+fn stories_end_as_judged()
+    ensures { (key : List ℕ) (old new : Around) → EndsAsDevicesJudge key old new }
+{
+    lines_are_read_as_said();
+    stretches_end_by_kind();
 }

@@ -23,17 +23,16 @@ use Rattle.proof_answered.specs.Sleepers.{AllHear, All_listen, Back_asleep, Befo
 use Rattle.proof_answered.specs.Workers.{KnowsWorkers}
 use Rattle.proof_in_time.specs.Asked.{AreAskedSo, IsAskedNow, IsMessageOf, IsPlainPurpose, IsPlainTask, Sends}
 use Rattle.proof_in_time.specs.Coming.{IsMessage}
+use Rattle.proof_in_time.specs.InHand.{SleepsAlone}
 use Rattle.proof_in_time.proofs.AskedSo.{asked_on, asked_said, asked_turn, says_so}
 use Rattle.proof_in_time.proofs.Keeping.{kept_before}
-use Rattle.proof_in_time.proofs.Lively.{A_message, KindsStay, No_more, SaysTo, not_both}
+use Rattle.proof_in_time.proofs.Lively.{A_message, KindsStay, No_more, SaysTo}
+use Rattle.proof_in_time.proofs.Rising.{not_both}
 use Rattle.proof_in_time.proofs.Until.{Asking}
 
--- these are one node alone, which sleeps
-abbrev pub IsSleeperAlone : List Bool → Machine → Type 0
-IsSleeperAlone these m = (n : ℕ) × (IsAlone these n × HasSleeper n m.outside.devices)
-
+-- these are one node alone, which sleeps, and so it is of what the host asks to send
 abbrev pub AsksAlone : List Bool → Phase → Machine → Type 0
-AsksAlone these here m = IsSleeperAlone these m × AreAskedSo these here m
+AsksAlone these here m = SleepsAlone these m × AreAskedSo these here m
 
 -- ---- the tasks of the host
 
@@ -53,7 +52,7 @@ module _ (these : List Bool) where
   sleeper_tasks n here past m alone sleeper (Was_told after up telling idle none quiet) = asked_tasks n m.host.state alone up.no_more
   sleeper_tasks n here past m alone sleeper (Back_asleep after down left none quiet) = no_tasks m.host.state.requests.queue down.no_task
 
-  plain_tasks : (here : Phase) (past : List Entry) (m : Machine) → IsSleeperAlone these m → AllHear these here past m → AllByRecursion (IsPlainTask these) m.host.state.requests.queue
+  plain_tasks : (here : Phase) (past : List Entry) (m : Machine) → SleepsAlone these m → AllHear these here past m → AllByRecursion (IsPlainTask these) m.host.state.requests.queue
   plain_tasks here past m (n, (alone, sleeper)) (All_listen all) = absurd (not_both n m.outside.devices (all.nodes n alone.marked) sleeper)
   plain_tasks here past m is (One_sleeps n alone frames sleeper at) = sleeper_tasks n here past m alone sleeper at
 

@@ -1,7 +1,7 @@
--- The commands of these nodes go whole and unsealed, as they did; so an attempt gives the message of its session.
+-- The commands of these nodes go whole and unsealed, or unsealed, as they did; so an attempt gives the message of its session where they go whole.
 use Rattle.std.proofs.Common.{◌≡◌, ◌⊎◌, ◌≤◌, ◌+◌, ◌&&◌, ℕ, zero, suc, inl, inr, Bool, true, false, if◌then◌else◌, nat_lt, nat_le, not, List, [], ◌∷◌, ◌++◌, length, refl, sym, ap, ◌∙◌, subst}
 use Rattle.std.proofs.lemmas.Bool.{or_parts}
-use Rattle.std.specs.Prelude.{Option, Some, None, slice_get}
+use Rattle.std.specs.Prelude.{◌≢◌, Option, Some, None, slice_get}
 use Rattle.std.specs.List.{AllByRecursion}
 use Rattle.zw_base.specs.declared.order.Order.{Order}
 use Rattle.encap.specs.declared.plan.Outer.TheVariants.{None as no_outer, Crc16, Security, Transport}
@@ -17,7 +17,7 @@ use Rattle.host_orders.specs.declared.refused.Refused.{Refused}
 use Rattle.host_orders.specs.declared.refused.Refused.TheVariants.{BadValue, NotInterviewed, NotJoined, TooLong, Unsupervised}
 use Rattle.host_orders.specs.declared.carriage.Carriage.{Carriage}
 use Rattle.host_orders.specs.declared.carriage.Form.{Form}
-use Rattle.host_orders.specs.declared.carriage.Form.TheVariants.{Plain}
+use Rattle.host_orders.specs.declared.carriage.Form.TheVariants.{Cut, Plain, Sealed}
 use Rattle.host_node.specs.declared.attempt.Plan.{Plan}
 use Rattle.chip_sim.specs.Nodes.{is_marked}
 use Rattle.host_model.specs.After.{after}
@@ -26,6 +26,7 @@ use Rattle.host_model.specs.Events.{HostEvent, Accepts, Starts}
 use Rattle.host_model.specs.Facts.{HostFacts, IsCommandOf, IsSound}
 use Rattle.host_model.specs.May.{IsAccepted, IsStart, known_of, May as MayHost}
 use Rattle.host_model.specs.Sessions.{message_for, start_by}
+use Rattle.host_model.specs.Taking.{is_secure}
 use Rattle.host_model.specs.State.{Command, HostState, command_at, node_of}
 use Rattle.host_model.proofs.Accepted.{holds, none_later}
 use Rattle.host_model.proofs.Silence.{judged_silent}
@@ -37,30 +38,17 @@ use Rattle.proof_spoken.specs.Restarts.{StartsWell}
 use Rattle.proof_spoken.proofs.Orders.{IsNoOrder, SameOrders, event_kept, restart_kept}
 use Rattle.proof_spoken.proofs.Plain.{silent_none}
 use Rattle.proof_answered.specs.proof_calm.Resting.{LineAt}
-use Rattle.proof_answered.specs.proof_calm.proof_work.proof_walk.Phases.{Phase, Goes}
-use Rattle.proof_in_time.specs.InStep.{IsNear, IsNearAt, IsPlainly}
+use Rattle.proof_answered.specs.proof_calm.proof_work.proof_walk.Phases.{Phase, Goes as Goes_phase}
+use Rattle.proof_in_time.specs.InStep.{AreInStep, IsNear, IsNearAt, IsPlainly}
 use Rattle.proof_in_time.specs.Coming.{GoWhole, GoesWhole, IsMessage, IsPlainStart, is_layered}
+use Rattle.proof_in_time.specs.Openly.{GoOpenly, GoesOpenly}
 use Rattle.proof_in_time.proofs.QuietPhases.{IsNoStart, no_start_of, quiet_at}
 
 -- ---- they are kept
 
-goes_as : (order with_order : Order) (carriage with_carriage : Carriage) → order ≡ with_order → carriage ≡ with_carriage → GoesWhole order carriage → GoesWhole with_order with_carriage
-goes_as order with_order carriage with_carriage is same goes = record { plain = ap (λ (c : Carriage). form_of c.outer) (sym same) ∙ goes.plain; end = subst (λ (o : Order). o.end ≤ 127) is goes.end }
-
-same_whole : (these : List Bool) (old new : List Command) → SameOrders old new → GoWhole these old → GoWhole these new
-same_whole these old new same go number command found marked = by (command_at old number) refl
-  where
-    taken : taken_at new number ≡ Some (record { order = command.order; carriage = command.carriage })
-    taken = ap taken_by found
-
-    by : (was : Option Command) → command_at old number ≡ was → GoesWhole command.order command.carriage
-    by None is = absurd (let wrong : taken_by None ≡ Some (record { order = command.order; carriage = command.carriage }) = sym (same.taken number ∙ ap taken_by is) ∙ taken in cc)
-    by (Some before) is =
-        let both : taken_by (Some before) ≡ Some (record { order = command.order; carriage = command.carriage }) = sym (same.taken number ∙ ap taken_by is) ∙ taken in
-        let one : ◌≡◌ {A = Taken} (record { order = before.order; carriage = before.carriage }) (record { order = command.order; carriage = command.carriage }) = cc in
-        let order : before.order ≡ command.order = ap (λ (t : Taken). t.order) one in
-        let carriage : before.carriage ≡ command.carriage = ap (λ (t : Taken). t.carriage) one in
-        goes_as before.order command.order before.carriage command.carriage order carriage (go number before is (ap (λ (o : Order). is_marked these o.node) order ∙ marked))
+-- a property of an order and how it goes, of each command of these nodes
+abbrev pub AllGo : (Order → Carriage → Type 0) → List Bool → List Command → Type 0
+AllGo Goes these commands = (number : ℕ) (command : Command) → command_at commands number ≡ Some command → is_marked these command.order.node ≡ true → Goes command.order command.carriage
 
 pushed : (commands : List Command) (one : Command) (place : ℕ) (command : Command) → slice_get (commands ++ one ∷ []) place ≡ Some command → (slice_get commands place ≡ Some command) ⊎ (one ≡ command)
 pushed [] one zero command found = inr cc
@@ -68,16 +56,39 @@ pushed [] one (suc place) command found = absurd cc
 pushed (first ∷ commands) one zero command found = inl found
 pushed (first ∷ commands) one (suc place) command found = pushed commands one place command found
 
-more_whole : (these : List Bool) (commands : List Command) (one : Command) → (is_marked these one.order.node ≡ true → GoesWhole one.order one.carriage) → GoWhole these commands → GoWhole these (commands ++ one ∷ [])
-more_whole these commands one new go zero command found marked = absurd cc
-more_whole these commands one new go (suc place) command found marked = by (pushed commands one place command found)
-  where
-    by : (slice_get commands place ≡ Some command) ⊎ (one ≡ command) → GoesWhole command.order command.carriage
-    by (inl was) = go (suc place) command was marked
-    by (inr is) =
-        let order : one.order ≡ command.order = ap (λ (c : Command). c.order) is in
-        let carriage : one.carriage ≡ command.carriage = ap (λ (c : Command). c.carriage) is in
-        goes_as one.order command.order one.carriage command.carriage order carriage (new (ap (λ (o : Order). is_marked these o.node) order ∙ marked))
+module _ (Goes : Order → Carriage → Type 0) where
+  goes_as : (order with_order : Order) (carriage with_carriage : Carriage) → order ≡ with_order → carriage ≡ with_carriage → Goes order carriage → Goes with_order with_carriage
+  goes_as order with_order carriage with_carriage is same goes = subst (λ (o : Order). Goes o with_carriage) is (subst (Goes order) same goes)
+
+  same_go : (these : List Bool) (old new : List Command) → SameOrders old new → AllGo Goes these old → AllGo Goes these new
+  same_go these old new same go number command found marked = by (command_at old number) refl
+    where
+      taken : taken_at new number ≡ Some (record { order = command.order; carriage = command.carriage })
+      taken = ap taken_by found
+
+      by : (was : Option Command) → command_at old number ≡ was → Goes command.order command.carriage
+      by None is = absurd (let wrong : taken_by None ≡ Some (record { order = command.order; carriage = command.carriage }) = sym (same.taken number ∙ ap taken_by is) ∙ taken in cc)
+      by (Some before) is =
+          let both : taken_by (Some before) ≡ Some (record { order = command.order; carriage = command.carriage }) = sym (same.taken number ∙ ap taken_by is) ∙ taken in
+          let one : ◌≡◌ {A = Taken} (record { order = before.order; carriage = before.carriage }) (record { order = command.order; carriage = command.carriage }) = cc in
+          let order : before.order ≡ command.order = ap (λ (t : Taken). t.order) one in
+          let carriage : before.carriage ≡ command.carriage = ap (λ (t : Taken). t.carriage) one in
+          goes_as before.order command.order before.carriage command.carriage order carriage (go number before is (ap (λ (o : Order). is_marked these o.node) order ∙ marked))
+
+  more_go : (these : List Bool) (commands : List Command) (one : Command) → (is_marked these one.order.node ≡ true → Goes one.order one.carriage) → AllGo Goes these commands → AllGo Goes these (commands ++ one ∷ [])
+  more_go these commands one new go zero command found marked = absurd cc
+  more_go these commands one new go (suc place) command found marked = by (pushed commands one place command found)
+    where
+      by : (slice_get commands place ≡ Some command) ⊎ (one ≡ command) → Goes command.order command.carriage
+      by (inl was) = go (suc place) command was marked
+      by (inr is) =
+          let order : one.order ≡ command.order = ap (λ (c : Command). c.order) is in
+          let carriage : one.carriage ≡ command.carriage = ap (λ (c : Command). c.carriage) is in
+          goes_as one.order command.order one.carriage command.carriage order carriage (new (ap (λ (o : Order). is_marked these o.node) order ∙ marked))
+
+  events_go : (these : List Bool) (h : HostState) (events : List HostEvent) → AllByRecursion IsNoOrder events → AllGo Goes these h.commands → AllGo Goes these (after_all h events).commands
+  events_go these h [] no_order go = go
+  events_go these h (event ∷ events) no_order go = events_go these (after h event) events no_order.1 (same_go these h.commands (after h event).commands (event_kept h event no_order.0) go)
 
 -- where neither is listed, an order that is accepted fits in one payload
 none_first : (o : Option Refused) (more : List (Option Refused)) → first_some (o ∷ more) ≡ None → o ≡ None
@@ -145,9 +156,21 @@ accepted_whole h order carriage accepted openly few = record {
   end = few;
 }
 
--- none of these nodes lists one of the two
-abbrev pub AreOpen : List Bool → HostState → Type 0
-AreOpen these h = (n : ℕ) → is_marked these n ≡ true → is_layered (node_of h n).classes ≡ false
+-- where Security 0 is not listed, none goes sealed
+form_unsealed : (secure long crc : Bool) → secure ≡ false → form_of (if secure then Security else (if long then Transport else (if crc then Crc16 else no_outer))) ≢ Sealed
+form_unsealed true long crc bare = absurd cc
+form_unsealed false true crc bare = λ sealed. absurd (let wrong : ◌≡◌ {A = Form} Cut Sealed = sealed in cc)
+form_unsealed false false true bare = λ sealed. absurd (let wrong : ◌≡◌ {A = Form} Plain Sealed = sealed in cc)
+form_unsealed false false false bare = λ sealed. absurd (let wrong : ◌≡◌ {A = Form} Plain Sealed = sealed in cc)
+
+pub accepted_openly : (h : HostState) (order : Order) (carriage : Carriage) → IsAccepted h order carriage → is_secure (node_of h order.node).classes ≡ false → order.end ≤ 127 → GoesOpenly order carriage
+accepted_openly h order carriage accepted openly few =
+    let wrapped = wrapped_len (actuator_of accepted.classes) order in
+    let bare : lists accepted.classes 0x98 ≡ false = ap is_secure (sym accepted.listed) ∙ openly in
+    record {
+      unsealed = λ sealed. form_unsealed (lists accepted.classes 0x98) (nat_lt 46 wrapped) (lists accepted.classes 0x56 && nat_le (wrapped + 4) 46) bare (ap (λ (c : Carriage). form_of c.outer) (sym accepted.carried) ∙ sealed);
+      end = few;
+    }
 
 -- an order for one of these nodes is for an end point that has a number on the wire
 abbrev AreNear : List Bool → HostEvent → Type 0
@@ -156,35 +179,45 @@ AreNear these event = (n : ℕ) → is_marked these n ≡ true → IsNear n even
 abbrev pub AreNearAt : List Bool → Event → Type 0
 AreNearAt these event = (n : ℕ) → is_marked these n ≡ true → IsNearAt n event
 
-event_whole : (these : List Bool) (h : HostState) (event : HostEvent) → MayHost h event → AreOpen these h → AreNear these event → GoWhole these h.commands → GoWhole these (after h event).commands
-event_whole these h (Accepts order carriage) may bare plain go = more_whole these h.commands _ (λ marked. accepted_whole h order carriage may (bare order.node marked) (plain order.node marked refl)) go
-event_whole these h event may bare plain go = same_whole these h.commands (after h event).commands (event_kept h event tt) go
-
-events_whole : (these : List Bool) (h : HostState) (events : List HostEvent) → AllByRecursion IsNoOrder events → GoWhole these h.commands → GoWhole these (after_all h events).commands
-events_whole these h [] no_order go = go
-events_whole these h (event ∷ events) no_order go = events_whole these (after h event) events no_order.1 (same_whole these h.commands (after h event).commands (event_kept h event no_order.0) go)
-
--- ---- events of the machine
-
 -- what is not the begin of a host starts none
 starts_well : (m : Machine) (event : Event) → IsNoStart event → StartsWell m event
 starts_well m (Restarts state) none = absurd none
 starts_well m event none = tt
 
-pub machine_whole : (these : List Bool) (m : Machine) (event : Event) → StartsWell m event → May m event → AreOpen these m.host.state → AreNearAt these event → GoWhole these m.host.state.commands
-    → GoWhole these (happens m event).host.state.commands
-unfolding happens May
-machine_whole these m (Outside_does event) starts may bare near go = go
-machine_whole these m (Host_does event) starts may bare near go = event_whole these m.host.state event may.0 bare near go
-machine_whole these m (Host_takes count rest items events) starts may bare near go = events_whole these m.host.state events (silent_none m.host.state events (judged_silent m.host.state items events may.judged)) go
-machine_whole these m Decoder_ticks starts may bare near go = go
-machine_whole these m (Refuses line refusal) starts may bare near go = go
-machine_whole these m (Shows_values node) starts may bare near go = go
-machine_whole these m (Restarts state) starts may bare near go = same_whole these m.host.state.commands state.commands (restart_kept m.host.state state starts) go
+-- ---- events
 
-pub on_whole : (these : List Bool) (here next : Phase) (m : Machine) (event : Event) → Goes here m event next → LineAt here m → May m event → AreOpen these m.host.state → IsPlainly these m event → GoWhole these m.host.state.commands
-    → GoWhole these (happens m event).host.state.commands
-on_whole these here next m event goes at may bare plainly go = machine_whole these m event (starts_well m event (no_start_of here next m event goes (quiet_at here m at))) may bare (λ n marked. (plainly n marked).near) go
+-- none of these nodes lists a class of some
+abbrev pub AreFree : (Option (List ℕ) → Bool) → List Bool → HostState → Type 0
+AreFree listed these h = (n : ℕ) → is_marked these n ≡ true → listed (node_of h n).classes ≡ false
+
+module _ (Goes : Order → Carriage → Type 0) (listed : Option (List ℕ) → Bool)
+    (accepted : (h : HostState) (order : Order) (carriage : Carriage) → IsAccepted h order carriage → listed (node_of h order.node).classes ≡ false → order.end ≤ 127 → Goes order carriage) where
+  event_goes : (these : List Bool) (h : HostState) (event : HostEvent) → MayHost h event → AreFree listed these h → AreNear these event → AllGo Goes these h.commands → AllGo Goes these (after h event).commands
+  event_goes these h (Accepts order carriage) may bare near go = more_go Goes these h.commands _ (λ marked. accepted h order carriage may (bare order.node marked) (near order.node marked refl)) go
+  event_goes these h event may bare near go = same_go Goes these h.commands (after h event).commands (event_kept h event tt) go
+
+  pub machine_goes : (these : List Bool) (m : Machine) (event : Event) → StartsWell m event → May m event → AreFree listed these m.host.state → AreNearAt these event → AllGo Goes these m.host.state.commands
+      → AllGo Goes these (happens m event).host.state.commands
+  unfolding happens May
+  machine_goes these m (Outside_does event) starts may bare near go = go
+  machine_goes these m (Host_does event) starts may bare near go = event_goes these m.host.state event may.0 bare near go
+  machine_goes these m (Host_takes count rest items events) starts may bare near go = events_go Goes these m.host.state events (silent_none m.host.state events (judged_silent m.host.state items events may.judged)) go
+  machine_goes these m Decoder_ticks starts may bare near go = go
+  machine_goes these m (Refuses line refusal) starts may bare near go = go
+  machine_goes these m (Shows_values node) starts may bare near go = go
+  machine_goes these m (Restarts state) starts may bare near go = same_go Goes these m.host.state.commands state.commands (restart_kept m.host.state state starts) go
+
+  pub goes_on : (these : List Bool) (here next : Phase) (m : Machine) (event : Event) → Goes_phase here m event next → LineAt here m → May m event → AreFree listed these m.host.state → AreNearAt these event → AllGo Goes these m.host.state.commands
+      → AllGo Goes these (happens m event).host.state.commands
+  goes_on these here next m event goes at may bare near go = machine_goes these m event (starts_well m event (no_start_of here next m event goes (quiet_at here m at))) may bare near go
+
+pub on_whole : (these : List Bool) (here next : Phase) (m : Machine) (event : Event) → Goes_phase here m event next → LineAt here m → May m event → AreFree is_layered these m.host.state → IsPlainly these m event
+    → GoWhole these m.host.state.commands → GoWhole these (happens m event).host.state.commands
+on_whole these here next m event goes at may bare plainly go = goes_on GoesWhole is_layered accepted_whole these here next m event goes at may bare (λ n marked. (plainly n marked).near) go
+
+pub on_openly : (these : List Bool) (here next : Phase) (m : Machine) (event : Event) → Goes_phase here m event next → LineAt here m → May m event → AreFree is_secure these m.host.state → AreInStep these m event
+    → GoOpenly these m.host.state.commands → GoOpenly these (happens m event).host.state.commands
+on_openly these here next m event goes at may bare steps go = goes_on GoesOpenly is_secure accepted_openly these here next m event goes at may bare (λ n marked. (steps n marked).near) go
 
 -- ---- what an attempt gives
 

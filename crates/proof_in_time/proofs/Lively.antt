@@ -51,7 +51,7 @@ use Rattle.proof_in_time.specs.InStep.{HasInStep, IsPlainly}
 use Rattle.proof_in_time.specs.Sleeping.{IsLately, IsPlainlyUp, LeavesUp, is_to_tick, quiet_for}
 use Rattle.proof_in_time.proofs.Bounded.{Devices, counted_devices, cuts_devices, decoder_devices, line_devices, refuses_devices, session_of, shows_devices, tick_devices, values_devices}
 use Rattle.proof_in_time.proofs.Plainly.{Tells, ticks_so}
-use Rattle.proof_in_time.proofs.Rising.{not_both_wake}
+use Rattle.proof_in_time.proofs.Rising.{not_both, not_both_wake}
 use Rattle.proof_in_time.proofs.Served.{event_clock, tick_clock}
 use Rattle.proof_in_time.proofs.Settled.{chip_devices}
 use Rattle.proof_answered.proofs.Walking.{takes_still}
@@ -59,14 +59,6 @@ use Rattle.proof_in_time.proofs.Sleepers.{HeardNow, heard_now, no_more_silent, t
 use Rattle.proof_in_time.proofs.StayingUp.{Then, answer_quiet, arrives_then, arrives_up, lately_up, same_then, still_up, ticks_then, wakes_own, wakes_then, wakes_up}
 
 -- ---- nodes that listen
-
--- no device does both
-pub not_both : (n : ℕ) (devices : List State) → HasListener n devices → HasSleeper n devices → ⊥
-not_both n devices listener sleeper =
-    let place : sleeper.place ≡ listener.place = one_place n devices sleeper.place listener.place sleeper.first listener.first in
-    let same : sleeper.device ≡ listener.device = one_stands devices sleeper.place listener.place sleeper.device listener.device sleeper.stands listener.stands place in
-    let wrong : true ≡ false = sym listener.is_up.is_listening ∙ (sym (ap (λ (d : State). listens d.kind) same) ∙ sleeper.sleeps) in
-    absurd cc
 
 -- so nothing is assumed of these
 pub all_up : (these : List Bool) → ((n : ℕ) (m : Machine) (event : Event) → HasListener n m.outside.devices → HasListener n (happens m event).outside.devices) → (m : Machine) (events : List Event)

@@ -1,17 +1,11 @@
 -- What is on its way to the host of these nodes asks it for nothing: so it comes to no task of its own as it judges that.
-use Rattle.std.proofs.Common.{◌≡◌, ◌≤◌, ℕ, ◌==◌, nat_lt, inl, inr, Bool, true, false, if◌then◌else◌, List, [], ◌∷◌, length, refl, sym, ◌∙◌, subst, arith}
-use Rattle.std.proofs.lemmas.Bool.{cases_Bool, eq-eqb, eqb-true}
-use Rattle.std.specs.Prelude.{◌⊎◌, Option, Some, None, slice_get}
+use Rattle.std.proofs.Common.{◌≡◌, ◌≤◌, ℕ, ◌==◌, inl, inr, Bool, true, false, if◌then◌else◌, List, [], ◌∷◌, length, refl, sym, ◌∙◌, subst, arith}
+use Rattle.std.proofs.lemmas.Bool.{eq-eqb, eqb-true}
+use Rattle.std.specs.Prelude.{◌⊎◌, Some, slice_get}
 use Rattle.std.specs.List.{AllByRecursion}
 use Rattle.zw_base.proofs.Each.{all-append, all-weaker}
-use Rattle.zw_base.specs.declared.property.Setting.{Setting}
 use Rattle.class_info.specs.InfoSpelling.{form}
-use Rattle.class_info.specs.Values.{status_byte}
 use Rattle.class_info.specs.declared.message.InfoMessage.TheVariants.{WakeUpNotification}
-use Rattle.class_info.specs.declared.report_status.ReportStatus.{ReportStatus}
-use Rattle.supervision.specs.Host.{told_of}
-use Rattle.supervision.specs.declared.host_node.Told.{Told as TheTold}
-use Rattle.supervision.specs.declared.host_node.Told.TheVariants as told
 use Rattle.chip_sim.specs.Nodes.{is_marked}
 use Rattle.supervision.specs.Session.{wire_id}
 use Rattle.device_kinds.specs.Answers.{report_status}
@@ -25,14 +19,11 @@ use Rattle.host_heard.specs.declared.payload.Heard.{Heard}
 use Rattle.host_heard.specs.declared.payload.Heard.TheVariants.{Messages}
 use Rattle.host_heard.specs.declared.told.Told.{Told}
 use Rattle.host_heard.specs.declared.told.Told.TheVariants.{Report, NonceGet, NonceReport, Notification, SegmentRequest, Values}
-use Rattle.host_keep.specs.declared.final_status.FinalStatus.{FinalStatus}
 use Rattle.host_requests.specs.Events.{RequestsEvent}
 use Rattle.host_requests.specs.Events.RequestsEvent.{Pushes, PushesInterview, PushesProbe}
-use Rattle.host_model.specs.After.{after}
 use Rattle.host_model.specs.Events.{HostEvent, Finishes, Gives, Has_no_room, Hears_value, Is_unkept, Notifies, Offers, Queues, Queues_interview, Queues_no_more, Queues_probe, Reports_old, Requests_do, Resends, Takes_nonce, Unreads, Works}
-use Rattle.host_model.specs.State.{HostState, node_of}
-use Rattle.host_model.specs.Taking.{FinalEvents, IsKeptOr, IsTaken, NonceReportEvents, PayloadEvents, ReportEvents, is_secure, value_event, value_events}
-use Rattle.value_store.specs.Values.{count_with}
+use Rattle.host_model.specs.State.{HostState}
+use Rattle.host_model.specs.Taking.{IsTaken, PayloadEvents}
 use Rattle.world_model.specs.State.{Machine}
 use Rattle.proof_messages.specs.Asking.{takes_openly}
 use Rattle.proof_messages.specs.Reporting.{CanSay, IsPlainTold, TellsPlainly, asks_now}
@@ -41,6 +32,7 @@ use Rattle.proof_answered.specs.proof_calm.proof_work.Doing.{IsTold}
 use Rattle.proof_answered.specs.Sleepers.{IsQuietTold, TellsQuietly}
 use Rattle.proof_answered.specs.Workers.{IsFromSaying}
 use Rattle.proof_answered.proofs.Judging.{EachFollows}
+use Rattle.proof_answered.proofs.SleeperJudged.{IsNews, told_news}
 use Rattle.proof_answered.proofs.Speaking.{SpeakSo}
 use Rattle.proof_answered.proofs.Works.{ticks_say}
 use Rattle.proof_in_time.specs.Answering.{Ends, Goes_on, IsAtWork, IsDoneOrAtWork, WorksOn}
@@ -75,49 +67,30 @@ no_event events are = subst QueueNone (sym are) tt
 one_event : (event : HostEvent) (events : List HostEvent) → QueuesNone event → events ≡ event ∷ [] → QueueNone events
 one_event event events none are = subst QueueNone (sym are) (none, tt)
 
-kept_event : (kept unkept : HostEvent) (events : List HostEvent) → QueuesNone kept → QueuesNone unkept → IsKeptOr kept unkept events → QueueNone events
-kept_event kept unkept events first other (inl are) = one_event kept events first are
-kept_event kept unkept events first other (inr are) = one_event unkept events other are
-
 -- ---- a payload that tells plainly
 
+news_none : (event : HostEvent) → IsNews event → QueuesNone event
+news_none (Unreads n payload) news = tt
+news_none (Is_unkept n) news = tt
+news_none (Reports_old n id) news = tt
+news_none (Works n id) news = tt
+news_none (Finishes n session id command status wake) news = tt
+news_none (Takes_nonce n seen text) news = tt
+news_none (Hears_value n setting) news = tt
+news_none (Has_no_room n property) news = tt
+news_none event news = absurd news
+
 module _ (n : ℕ) where
-  final_none : (session id : ℕ) (command : Option ℕ) (status : Option FinalStatus) (wake : Bool) (events : List HostEvent) → FinalEvents n session id command status wake events → QueueNone events
-  final_none session id (Some command) (Some status) wake events is = kept_event (Finishes n session id command status wake) (Is_unkept n) events tt tt is
-  final_none session id (Some command) None wake events is = no_event events is
-  final_none session id None (Some status) wake events is = no_event events is
-  final_none session id None None wake events is = no_event events is
-
-  report_none : (h : HostState) (id : ℕ) (status : ReportStatus) (wake : Bool) (it : TheTold) (events : List HostEvent) → ReportEvents h n id status wake it events → QueueNone events
-  report_none h id status wake told.Old events is = one_event (Reports_old n id) events tt is
-  report_none h id status wake told.Working events is = one_event (Works n id) events tt is
-  report_none h id status wake (told.Final session) events is = final_none session id _ _ wake events is
-
-  plain_none : (h : HostState) (payload : List ℕ) (id : ℕ) (status : ReportStatus) (wake : Bool) (events : List HostEvent) → IsTaken h n payload false (Report id status wake) events → QueueNone events
-  plain_none h payload id status wake events is = elim (cases_Bool (is_secure (node_of h n).classes)) [
-    | inl secure ↦ one_event (Unreads n payload) events tt (rw secure at is)
-    | inr not_secure ↦ report_none h id status wake (told_of (node_of h n).book id (status_byte status)) events (rw not_secure at is)
-  ]
-
-  nonce_none : (h : HostState) (nonce : List ℕ) (count : Option ℕ) (events : List HostEvent) → NonceReportEvents h n nonce count events → QueueNone events
-  nonce_none h nonce None events is = no_event events is
-  nonce_none h nonce (Some seen) events is = kept_event (Takes_nonce n seen is.1) (Is_unkept n) events tt tt is.3
-
-  value_none : (b : Bool) (s : Setting) → QueuesNone (if b then Has_no_room n s.property else Hears_value n s)
-  value_none true s = tt
-  value_none false s = tt
-
-  values_none : (h : HostState) (settings : List Setting) → QueueNone (value_events h n settings)
-  values_none h [] = tt
-  values_none h (s ∷ more) = (value_none (nat_lt 512 (count_with h.store n (s.property ∷ []))) s, values_none (after h (value_event h n s)) more)
+  quiet_none : (h : HostState) (payload : List ℕ) (message : Told) (events : List HostEvent) → IsQuietTold message → IsTaken h n payload false message events → QueueNone events
+  quiet_none h payload message events quiet is = all-weaker IsNews QueuesNone news_none events (told_news n h payload message events quiet is)
 
   told_none : (h : HostState) (payload : List ℕ) (message : Told) (events : List HostEvent) → IsPlainTold message → IsTaken h n payload false message events → QueueNone events
-  told_none h payload (Report id status wake) events plain is = plain_none h payload id status wake events is
+  told_none h payload (Report id status wake) events plain is = quiet_none h payload (Report id status wake) events tt is
   told_none h payload NonceGet events plain is = absurd plain
-  told_none h payload (NonceReport nonce) events plain is = nonce_none h nonce _ events is
+  told_none h payload (NonceReport nonce) events plain is = quiet_none h payload (NonceReport nonce) events tt is
   told_none h payload Notification events plain is = one_event (Notifies n) events tt is
   told_none h payload (SegmentRequest id offset) events plain is = absurd plain
-  told_none h payload (Values settings) events plain is = subst QueueNone (sym is) (values_none h settings)
+  told_none h payload (Values settings) events plain is = quiet_none h payload (Values settings) events tt is
 
   payload_none : (h : HostState) (payload : List ℕ) (events : List HostEvent) → TellsPlainly payload → PayloadEvents h n payload (heard_at payload) events → QueueNone events
   payload_none h payload events tells is = by (subst (λ (x : Heard). PayloadEvents h n payload x events) tells.heard is)
@@ -201,12 +174,12 @@ module _ (these : List Bool) (m : Machine) (steps : (n : ℕ) → is_marked thes
           let idle = is.others place device there refl (λ e. let wrong : true ≡ false = sym (eq-eqb place is.place e) ∙ other in cc) in
           none_said TellsQuietly device (Ticks drawn) (ticks_silent device drawn idle.no_work)
 
-  pub speak_so : Tells → SpeakSo these TellsPlainly m.outside.devices
-  speak_so tells = record {
+  pub speak_so : ((n : ℕ) (marked : is_marked these n ≡ true) → lists (steps n marked).device.kind 0x55 ≡ false) → Tells → SpeakSo these TellsPlainly m.outside.devices
+  speak_so wholly tells = record {
     heard = λ node place device payload drawn marked first there.
         let is = steps node marked in
         let same : is.device ≡ device = one_stands m.outside.devices is.place place is.device device is.stands there (one_place node m.outside.devices is.place place is.first first) in
-        subst (λ (d : State). AllByRecursion TellsPlainly (device_replies d (Hears payload drawn))) same (tells.heard is.device payload drawn is.plain.openly is.plain.whole);
+        subst (λ (d : State). AllByRecursion TellsPlainly (device_replies d (Hears payload drawn))) same (tells.heard is.device payload drawn is.plain.openly (wholly node marked));
     woken = λ node place device marked first there. wakes_plainly device;
     ticked = λ place device drawn marked there. all-weaker TellsQuietly TellsPlainly quiet_tells (device_replies device (Ticks drawn)) (ticks_so tells place device drawn marked there);
   }

@@ -120,8 +120,9 @@ risen_or n device here past m (Back_asleep later down nothing none quiet) woken 
 
 -- ---- the one of these that sleeps
 
-both_ways : (n : ℕ) (devices : List State) → HasListener n devices → HasSleeper n devices → ⊥
-both_ways n devices hears sleeps =
+-- no device both listens and sleeps
+pub not_both : (n : ℕ) (devices : List State) → HasListener n devices → HasSleeper n devices → ⊥
+not_both n devices hears sleeps =
     let place : hears.place ≡ sleeps.place = one_place n devices hears.place sleeps.place hears.first sleeps.first in
     let device : hears.device ≡ sleeps.device = one_stands devices hears.place sleeps.place hears.device sleeps.device hears.stands sleeps.stands place in
     absurd (let wrong : true ≡ false = sym hears.is_up.is_listening ∙ (ap (λ (d : State). listens d.kind) device ∙ sleeps.sleeps) in cc)
@@ -130,7 +131,7 @@ abbrev pub RestsAt : ℕ → Phase → List Entry → Machine → Type 0
 RestsAt n here past m = (is : HasSleeper n m.outside.devices) × SleeperAt n is.device here past m
 
 pub rests_at : (these : List Bool) (n : ℕ) (here : Phase) (past : List Entry) (m : Machine) → is_marked these n ≡ true → SleepsAlone these m → AllHear these here past m → RestsAt n here past m
-rests_at these n here past m marked (k, (alone, sleeps)) (All_listen listen) = absurd (both_ways k m.outside.devices (listen.nodes k alone.marked) sleeps)
+rests_at these n here past m marked (k, (alone, sleeps)) (All_listen listen) = absurd (not_both k m.outside.devices (listen.nodes k alone.marked) sleeps)
 rests_at these n here past m marked sleeps (One_sleeps k alone fly is at) = subst (λ (j : ℕ). RestsAt j here past m) (sym (alone.only n marked)) (is, at)
 
 -- the host does not listen to it, and takes it to be asleep as long as it was not woken

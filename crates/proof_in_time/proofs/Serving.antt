@@ -121,7 +121,7 @@ module _ (airs : Airs) (these : List Bool) (many : length these ≡ 233) (none :
       let sent = sent_on these here next m event goes may tied.0 tied.6 (staff.0.1 stretched).request in
       let awaits = awaits_of here m tied.1 in
       let was = (known.1 before).speak in
-      let devices = speak_so these m (λ n marked. (plain.0 n marked).step) tells in
+      let devices = speak_so these m (λ n marked. (plain.0 n marked).step) (λ n marked. (plain.0 n marked).whole) tells in
       record {
         frames = event_of airs these TellsPlainly many m awaits was.frames same event (covers_of here next m event goes tied.0) may sent (line_on these here next m event goes staff.1.lines) staff.1.speak.devices devices;
         pending = pending_from these TellsPlainly airs here next m event goes may (tied.0, tied.2, tied.3, tied.6) tied.1 next_tied.0 (next_is_so airs these TellsPlainly many m awaits was.frames) was.pending;

@@ -8,8 +8,6 @@ use Rattle.supervision.specs.Host.{begun_of, open_session}
 use Rattle.supervision.specs.Device.{Taken}
 use Rattle.supervision.specs.declared.session.TheConstants.{WORKING}
 use Rattle.serial_frame.specs.declared.item.Item.{Item}
-use Rattle.device_kinds.specs.Kind.{lists}
-use Rattle.device_kinds.specs.declared.kind.Kind.{Kind}
 use Rattle.device_sim.specs.State.{State}
 use Rattle.host_model.specs.Events.{HostEvent, Accepts}
 use Rattle.host_model.specs.Facts.{HostFacts}
@@ -34,7 +32,7 @@ use Rattle.proof_course_plain.proofs.ChangesOutside.{place_is}
 use Rattle.proof_course_plain.proofs.Replies.{one_place, one_stands}
 use Rattle.proof_answered.proofs.Listeners.{same_place, stands_now}
 use Rattle.proof_in_time.specs.Answering.{IsDone, IsDoneOrAtWork, IsInStep, Last, Next}
-use Rattle.proof_in_time.specs.InStep.{GoesInStep, HasInStep, IsNear, IsNearAt, IsPlainDevice}
+use Rattle.proof_in_time.specs.InStep.{HasInStep, IsNear, IsNearAt, IsPlainDevice}
 
 -- ---- the number of sessions
 
@@ -97,52 +95,57 @@ pub record Laws : Type 0 where
   pub go : (m : Machine) (event : Event) → GoOn m.outside.devices (happens m event).outside.devices
   pub same : (olds news : List State) → GoOn olds news → AreSame olds news
 
-module _ (laws : Laws) (n : ℕ) (within : n < 233) (devices : List State) (has : HasDevice n first_course devices) (whole : lists has.device.kind 0x55 ≡ false) where
+module _ (laws : Laws) (n : ℕ) (within : n < 233) (devices : List State) (has : HasDevice n first_course devices) where
   -- the device of the course, where devices went on to here
-  now_is : (orders : List Asked) (c : Course) (m : Machine) (now : HasDevice n c m.outside.devices) → AllMake n orders c.host.commands m.outside.devices → GoOn devices m.outside.devices → IsPlainDevice now.device
-  now_is orders c m now made go =
+  now_is : (orders : List Asked) (c : Course) (m : Machine) (now : HasDevice n c m.outside.devices) → AllMake n orders c.host.commands m.outside.devices → IsPlainDevice now.device
+  now_is orders c m now made = record {
+    openly = now.at.is_open;
+    can = now.at.can;
+    at = work_of_course orders c.host.commands c.ends now.device now.at.ended (made now.place now.device now.stands (place_is n m.outside.devices now.place now.device now.first now.stands));
+  }
+
+  -- is of the kind that it was of
+  kind_now : (c : Course) (m : Machine) (now : HasDevice n c m.outside.devices) → GoOn devices m.outside.devices → has.device.kind ≡ now.device.kind
+  kind_now c m now go =
       let same : AreSame devices m.outside.devices = laws.same devices m.outside.devices go in
       let place : has.place ≡ now.place = one_place n m.outside.devices has.place now.place (same_place n devices m.outside.devices same ∙ has.first) now.first in
       let kept = stands_now IsSame devices m.outside.devices same has.place has.device has.stands in
       let is_kept : kept.0 ≡ now.device = one_stands m.outside.devices has.place now.place kept.0 now.device kept.1.0 now.stands place in
-      let kind : has.device.kind ≡ now.device.kind = sym (ap (λ (d : State). d.kind) (sym is_kept) ∙ kept.1.1.kind) in
-      record {
-        openly = now.at.is_open;
-        whole = subst (λ (k : Kind). lists k 0x55 ≡ false) kind whole;
-        can = now.at.can;
-        at = work_of_course orders c.host.commands c.ends now.device now.at.ended (made now.place now.device now.stands (place_is n m.outside.devices now.place now.device now.first now.stands));
-      }
+      sym (ap (λ (d : State). d.kind) (sym is_kept) ∙ kept.1.1.kind)
 
-  pub follows_in_step : (orders : List Asked) (c : Course) (up down : List Item) (m : Machine) → WorldFollows n orders c up down m → GoOn devices m.outside.devices → HasInStep n m
+  pub follows_in_step : (orders : List Asked) (c : Course) (up down : List Item) (m : Machine) → WorldFollows n orders c up down m → GoOn devices m.outside.devices → (is : HasInStep n m) × (has.device.kind ≡ is.device.kind)
   follows_in_step orders c up down m follows go =
       let now : HasDevice n c m.outside.devices = follows.outside.mesh.device in
-      let is : IsPlainDevice now.device = now_is orders c m now follows.outside.mesh.made go in
+      let is : IsPlainDevice now.device = now_is orders c m now follows.outside.mesh.made in
       let begun : begun_of (node_of m.host.state n).book ≡ begun_of c.host = ap (λ (l : List ℕ). length l) follows.host.node_as.0 in
       let taken : now.device.sessions.taken ≡ c.device.taken = ap (λ (t : Taken). t.taken) now.at.sessions in
       let ahead = follows.course.agree.not_ahead in
-      let after = follows.course.agree.one_after in
-      record {
-        place = now.place;
-        device = now.device;
-        first = now.first;
-        stands = now.stands;
-        plain = is;
-        others = now.others;
-        keeps = subst (λ (os : List Asked). KeepsNext os (node_of m.host.state n).book.commands (now.device.sessions.taken + 1) now.device.reassembly) follows.host.orders_are
-            (subst (λ (cs : List ℕ). KeepsNext orders cs (now.device.sessions.taken + 1) now.device.reassembly) (sym follows.host.node_as.0)
-            (follows.outside.mesh.made now.place now.device now.stands (place_is n m.outside.devices now.place now.device now.first now.stands)).keeps);
-        step = λ some. steps_in now.device (begun_of (node_of m.host.state n).book) (omega (arith, begun, taken, ahead)) (omega (arith, begun, taken, after))
-            (λ working. begun ∙ (last_at_work c follows.course (ap (λ (t : Taken). t.status) (sym now.at.sessions) ∙ working) ∙ sym taken)) some is.at;
-        unsealed = follows.host.node_as.1.1.0;
-      }
-
-  pub along : (orders : List Asked) (c : Course) (up down : List Item) (m : Machine) (events : List Event) → WorldFollows n orders c up down m → IsHeld m.host.state m.records → MayAll m events → AllAtRest m events → AllWriteWell m events
-      → AlwaysFew m events → AllKeepWell m events → AllByRecursion (IsAskedPlainly n) events → AllByRecursion (EndsByHearing n) events → GoOn devices m.outside.devices → AllAlong (GoesInStep n) m events
-  along orders c up down m [] follows held may rests well few keeps plain ends go = tt
-  along orders c up down m (event ∷ events) follows held may rests well few keeps plain ends go =
-      let one : WorldGoes n c (happens m event) = laws.event n orders c up down m event within follows held may.0 rests.0 well.0 few.1 keeps.0 plain.0 ends.0 in
-      let next : StartsWell m event × IsHeld (happens m event).host.state (happens m event).records = laws.held m event follows.facts held may.0 keeps.0 in (
-        record { step = follows_in_step orders c up down m follows go; near = near_at n event plain.0 },
-        along one.orders one.later one.up one.down (happens m event) events one.follows next.1 may.1 rests.1 well.1 few.2 keeps.1 plain.1 ends.1
-            (go_then devices m.outside.devices (happens m event).outside.devices go (laws.go m event)),
+      let after = follows.course.agree.one_after in (
+        record {
+          place = now.place;
+          device = now.device;
+          first = now.first;
+          stands = now.stands;
+          plain = is;
+          others = now.others;
+          keeps = subst (λ (os : List Asked). KeepsNext os (node_of m.host.state n).book.commands (now.device.sessions.taken + 1) now.device.reassembly) follows.host.orders_are
+              (subst (λ (cs : List ℕ). KeepsNext orders cs (now.device.sessions.taken + 1) now.device.reassembly) (sym follows.host.node_as.0)
+              (follows.outside.mesh.made now.place now.device now.stands (place_is n m.outside.devices now.place now.device now.first now.stands)).keeps);
+          step = λ some. steps_in now.device (begun_of (node_of m.host.state n).book) (omega (arith, begun, taken, ahead)) (omega (arith, begun, taken, after))
+              (λ working. begun ∙ (last_at_work c follows.course (ap (λ (t : Taken). t.status) (sym now.at.sessions) ∙ working) ∙ sym taken)) some is.at;
+          unsealed = follows.host.node_as.1.1.0;
+        },
+        kind_now c m now go,
       )
+
+  module _ (Stays : Machine → Event → Type 0) (stays : (m : Machine) (event : Event) (is : HasInStep n m) → has.device.kind ≡ is.device.kind → IsNearAt n event → Stays m event) where
+    pub along : (orders : List Asked) (c : Course) (up down : List Item) (m : Machine) (events : List Event) → WorldFollows n orders c up down m → IsHeld m.host.state m.records → MayAll m events → AllAtRest m events → AllWriteWell m events
+        → AlwaysFew m events → AllKeepWell m events → AllByRecursion (IsAskedPlainly n) events → AllByRecursion (EndsByHearing n) events → GoOn devices m.outside.devices → AllAlong Stays m events
+    along orders c up down m [] follows held may rests well few keeps plain ends go = tt
+    along orders c up down m (event ∷ events) follows held may rests well few keeps plain ends go =
+        let one : WorldGoes n c (happens m event) = laws.event n orders c up down m event within follows held may.0 rests.0 well.0 few.1 keeps.0 plain.0 ends.0 in
+        let next : StartsWell m event × IsHeld (happens m event).host.state (happens m event).records = laws.held m event follows.facts held may.0 keeps.0 in (
+          (let is = follows_in_step orders c up down m follows go in stays m event is.0 is.1 (near_at n event plain.0)),
+          along one.orders one.later one.up one.down (happens m event) events one.follows next.1 may.1 rests.1 well.1 few.2 keeps.1 plain.1 ends.1
+              (go_then devices m.outside.devices (happens m event).outside.devices go (laws.go m event)),
+        )

@@ -25,8 +25,9 @@ use Rattle.proof_in_time.specs.InStep.{IsPlainly}
 use Rattle.proof_in_time.specs.Sleeping.{IsPlainlyUp, SleepsSo}
 use Rattle.proof_in_time.proofs.Bounded.{Devices}
 use Rattle.proof_in_time.proofs.Keeping.{event_lines, kept_before}
-use Rattle.proof_in_time.proofs.Lively.{AllLively, KindsStay, SaySo, clock_least, clock_most, first_lively, lively_on, lively_said, lively_turn, not_both, up_at}
+use Rattle.proof_in_time.proofs.Lively.{AllLively, KindsStay, SaySo, clock_least, clock_most, first_lively, lively_on, lively_said, lively_turn, up_at}
 use Rattle.proof_in_time.proofs.Plainly.{Tells}
+use Rattle.proof_in_time.proofs.Rising.{not_both}
 use Rattle.proof_in_time.proofs.QuietPhases.{KnowQuiet, QuietAt, quiet_on, quiet_said, quiet_turn}
 
 -- what is so of the request under way, from phase to phase, and what the frame of the host that arrives says by that

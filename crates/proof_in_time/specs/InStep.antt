@@ -23,10 +23,9 @@ use Rattle.proof_in_time.specs.Answering.{IsDoneOrAtWork, IsInStep}
 
 -- ---- a device
 
--- a device that takes what is not sealed, whole, at no work or at that of its last session, and what it says can be said
+-- a device that takes what is not sealed, at no work or at that of its last session, and what it says can be said
 pub record IsPlainDevice (device : State) : Type 0 where
   pub openly : takes_openly device.kind ≡ true
-  pub whole : lists device.kind 0x55 ≡ false
   pub can : CanSay device
   pub at : IsDoneOrAtWork device
 
@@ -59,11 +58,20 @@ abbrev pub IsNearAt : ℕ → Event → Type 0
 IsNearAt n (Host_does event) = IsNear n event
 IsNearAt n event = Unit {0}
 
-pub record GoesInStep (n : ℕ) (m : Machine) (event : Event) : Type 0 where
+pub record StaysInStep (n : ℕ) (m : Machine) (event : Event) : Type 0 where
   pub step : HasInStep n m
   pub near : IsNearAt n event
 
+-- and it takes what it takes whole
+pub record GoesInStep (n : ℕ) (m : Machine) (event : Event) : Type 0 where
+  pub step : HasInStep n m
+  pub whole : lists step.device.kind 0x55 ≡ false
+  pub near : IsNearAt n event
+
 -- so it is of each of these nodes
+abbrev pub AreInStep : List Bool → Machine → Event → Type 0
+AreInStep these m event = (n : ℕ) → is_marked these n ≡ true → StaysInStep n m event
+
 abbrev pub IsPlainly : List Bool → Machine → Event → Type 0
 IsPlainly these m event = (n : ℕ) → is_marked these n ≡ true → GoesInStep n m event
 
@@ -79,6 +87,16 @@ pub record IsPlainByKind (devices : List State) (n : ℕ) : Type 0 where
 
 abbrev pub ArePlainByKind : List Bool → List State → Type 0
 ArePlainByKind these devices = (n : ℕ) → is_marked these n ≡ true → IsPlainByKind devices n
+
+-- or of one that takes them in segments too
+pub record IsOpenByKind (devices : List State) (n : ℕ) : Type 0 where
+  pub device : State
+  pub first : device_of n devices ≡ Some device
+  pub supervised : lists device.kind 0x6C ≡ true
+  pub unsealed : lists device.kind 0x98 ≡ false
+
+abbrev pub AreOpenByKind : List Bool → List State → Type 0
+AreOpenByKind these devices = (n : ℕ) → is_marked these n ≡ true → IsOpenByKind devices n
 
 -- the first device of a node is as its maker left it, takes what is not sealed, whole; and over these events its orders go unsealed
 pub record IsPlainOver (devices : List State) (events : List Event) (n : ℕ) : Type 0 where

@@ -57,7 +57,8 @@ pub fn commands_end_in_time()
         (ticks_blocked (node_of (after_all (first_machine keys (Some []) devices) (before ++ first)).host.state n) + ticks_of_all these 18) ≤
         ticks_begun (after_all (first_machine keys (Some []) devices) (before ++ (first ++ lines))) →
         HasEnded command (node_of (after_all (first_machine keys (Some []) devices) (before ++ (first ++ lines))).host.state n).book }
-    ensures woken { (these : List Bool) (n command : ℕ) (keys : Keys) (devices : List State) (before first : List Spoken) (wake : Spoken) (lines : List Spoken) →
+    ensures woken { (these : List Bool) (n command : ℕ) (keys : Keys) (devices : List State) (before first : List Spoken) (wake : Spoken)
+        (lines : List Spoken) →
         IsStretchFor these keys devices before (first ++ wake ∷ lines) → is_marked these n ≡ true →
         is_up (node_of (after_all (first_machine keys (Some []) devices) before).host.state n) ≡ false → turn_of n wake.line ≡ Wakes ∷ [] →
         IsGiven n command (after_all (first_machine keys (Some []) devices) before).host.state

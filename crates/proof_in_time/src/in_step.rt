@@ -7,7 +7,8 @@ ghost use Rattle.world_model.specs.Did.{AllAlong};
 ghost use Rattle.world_model.specs.State.{first_machine};
 ghost use Rattle.world_lines.specs.Spoken.{Spoken};
 ghost use Rattle.world_lines.specs.Done.{AreDone, events_of};
-ghost use Rattle.proof_in_time.specs.InStep.{GoesInStep, IsPlainOver};
+ghost use Rattle.proof_in_time.specs.InStep.{GoesInStep, IsPlainOver, StaysInStep};
+ghost use Rattle.proof_in_time.specs.Openly.{IsOpenOver};
 
 use proof_course_plain::{
     at_most_two_are_on_the_air, devices_go_on, devices_stay_the_same, hosts_write_well,
@@ -18,10 +19,12 @@ use proof_course_plain::{
 /// Over any lines from the first machine on, whatever is lost, repeated or changed and however often the host starts again: where the first device of a node
 /// takes what is not sealed, and the orders for the node go unsealed, at each event it is in step with the host: the host's last session of it is the last
 /// that it took, or the next one, and then it is at no work. Where it is at work it is to tell the end of that within five ticks. And each order for the node
-/// is for an end point up to 127.
+/// is for an end point up to 127. A device that takes what it takes whole still does.
 pub fn nodes_stay_in_step()
     ensures along { (n : ℕ) (keys : Keys) (devices : List State) (lines : List Spoken) → n < 233 → IsPlainOver devices (events_of lines) n →
         AreDone (first_machine keys (Some []) devices) lines → AllAlong (GoesInStep n) (first_machine keys (Some []) devices) (events_of lines) }
+    ensures openly { (n : ℕ) (keys : Keys) (devices : List State) (lines : List Spoken) → IsOpenOver devices (events_of lines) n →
+        AreDone (first_machine keys (Some []) devices) lines → AllAlong (StaysInStep n) (first_machine keys (Some []) devices) (events_of lines) }
 {
     at_most_two_are_on_the_air();
     devices_go_on();

@@ -1,6 +1,6 @@
 //! How the orders for plain nodes go, and which nodes are plain.
 
-ghost use Rattle.std.specs.Prelude.{◌≡◌, Bool, List, Some, [], true, ℕ};
+ghost use Rattle.std.specs.Prelude.{◌≡◌, ◌<◌, Bool, List, Some, [], true, ℕ};
 ghost use Rattle.std.specs.List.{AllByRecursion};
 ghost use Rattle.s0_crypto.specs.declared.key_pair.Keys.{Keys};
 ghost use Rattle.chip_sim.specs.Nodes.{is_marked};
@@ -12,7 +12,8 @@ ghost use Rattle.world_lines.specs.Done.{AreDone, events_of};
 ghost use Rattle.proof_course_plain.specs.World.{OrdersPlain};
 ghost use Rattle.proof_answered.specs.Few.{AreIdle};
 ghost use Rattle.proof_in_time.specs.Coming.{GoWhole, ListOpenly};
-ghost use Rattle.proof_in_time.specs.InStep.{ArePlainByKind, ArePlainOver};
+ghost use Rattle.proof_in_time.specs.InStep.{AreOpenByKind, ArePlainByKind, ArePlainOver};
+ghost use Rattle.proof_in_time.specs.Openly.{GoOpenly, IsOpenOver, ListUnsealed};
 
 use proof_course_plain::{devices_follow_the_course, idle_devices_stay_idle, lines_ask_plainly};
 use proof_spoken::{
@@ -37,15 +38,36 @@ pub fn orders_go_whole()
     the_machine_keeps_facts();
 }
 
+/// And where the devices of some nodes do not list Security 0, each command that was ever accepted for one of these goes unsealed, whole or in segments, and so
+/// does each order.
+pub fn orders_go_openly()
+    ensures { (these : List Bool) (keys : Keys) (devices : List State) (lines : List Spoken) → ListUnsealed these devices →
+        AreDone (first_machine keys (Some []) devices) lines →
+        GoOpenly these (after_all (first_machine keys (Some []) devices) lines).host.state.commands ×
+        ((n : ℕ) → is_marked these n ≡ true → AllByRecursion (OrdersPlain n) (events_of lines)) }
+{
+    interviews_give_what_is_known();
+    interviews_tell_what_nodes_list();
+    lines_ask_plainly();
+    lines_keep_and_ask_well();
+    restarts_go_on();
+    the_machine_keeps_facts();
+}
+
 /// So nodes whose devices are of kinds that take commands in sessions, not sealed, whole, are what `nodes_stay_in_step` asks of nodes, over any lines, where all
-/// devices are as their makers left them. These are at no work.
+/// devices are as their makers left them. Where they take commands in sessions, not sealed, in segments too, they are what its `openly` asks of nodes. All are at
+/// no work.
 pub fn nodes_are_plain_by_kind()
     ensures plain { (these : List Bool) (key : List ℕ) (keys : Keys) (devices : List State) (lines : List Spoken) →
         AllByRecursion (IsAsMade key) devices → ArePlainByKind these devices → AreDone (first_machine keys (Some []) devices) lines →
         ArePlainOver these devices (events_of lines) }
+    ensures openly { (these : List Bool) (key : List ℕ) (keys : Keys) (devices : List State) (lines : List Spoken) →
+        AllByRecursion (IsAsMade key) devices → AreOpenByKind these devices → AreDone (first_machine keys (Some []) devices) lines →
+        (n : ℕ) → n < 233 → is_marked these n ≡ true → IsOpenOver devices (events_of lines) n }
     ensures idle { (key : List ℕ) (devices : List State) → AllByRecursion (IsAsMade key) devices → AreIdle devices }
 {
     devices_follow_the_course();
     idle_devices_stay_idle();
+    orders_go_openly();
     orders_go_whole();
 }

@@ -31,7 +31,8 @@ use proof_walk::time_goes_on;
 /// once lines have asked for 18 times as many ticks from then on as there are of these nodes, and seven more, and for one more, until whose end the node may be
 /// blocked (`accepted`); and so has each that waits as the stretch begins: after 16 times as many and one more, where the last session of its node has its
 /// final outcome (`waiting`); or, where the wait after a series of that session runs, after 17 times as many and 102 more (`rests`). For one node alone that
-/// sleeps it has so each that waited or was accepted up to the `wake` line of the node, after 18 times as many from the end of that line on, and two more (`woken`).
+/// sleeps it has so each that waited or was accepted up to the `wake` line of the node, after 18 times as many from the end of that line on, and two more
+/// (`woken`).
 pub fn outcomes_come_in_time()
     ensures accepted { (these : List Bool) (n command : ℕ) (keys : Keys) (devices : List State) (before first lines : List Spoken) →
         IsStretchFor these keys devices before (first ++ lines) → is_marked these n ≡ true →
@@ -56,7 +57,8 @@ pub fn outcomes_come_in_time()
         ticks_asked (lines_run (transcript_of (first_machine keys (Some []) devices) before)) + (102 + ticks_of_all these 17) ≤
         ticks_asked (lines_run (transcript_of (first_machine keys (Some []) devices) (before ++ lines))) →
         is_final (outcome command (transcript_of (first_machine keys (Some []) devices) (before ++ lines))) ≡ true }
-    ensures woken { (these : List Bool) (n command : ℕ) (keys : Keys) (devices : List State) (before first : List Spoken) (wake : Spoken) (lines : List Spoken) →
+    ensures woken { (these : List Bool) (n command : ℕ) (keys : Keys) (devices : List State) (before first : List Spoken) (wake : Spoken)
+        (lines : List Spoken) →
         IsStretchFor these keys devices before (first ++ wake ∷ lines) → is_marked these n ≡ true →
         is_up (node_of (after_all (first_machine keys (Some []) devices) before).host.state n) ≡ false → turn_of n wake.line ≡ Wakes ∷ [] →
         Has (commands_in (transcript_of (first_machine keys (Some []) devices) before)

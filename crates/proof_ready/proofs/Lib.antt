@@ -19,3 +19,4 @@ mod Each
 mod Waiting
 mod LetIn
 mod Working
+mod ByKind

@@ -1,12 +1,16 @@
 -- A stretch for nodes at work that begins where all is still (this project's own rule): what is assumed of it by its text.
-use Rattle.std.specs.Prelude.{◌++◌, Bool, ℕ, List, Some, []}
-use Rattle.std.specs.List.{AllByRecursion}
+use Rattle.std.specs.Prelude.{◌≡◌, ◌++◌, Bool, true, ℕ, List, Some, []}
+use Rattle.std.specs.List.{AllByRecursion, list_all}
 use Rattle.s0_crypto.specs.declared.key_pair.Keys.{Keys}
 use Rattle.zw_text.specs.declared.entry.Entry.{Entry}
+use Rattle.zw_text.specs.Transcript.{lines_run, outcome}
 use Rattle.law_wire.specs.law_transcript.Headline.{IsAsMade}
-use Rattle.law_wire.specs.law_transcript.Nodes.{always, listing_of}
+use Rattle.law_wire.specs.law_transcript.Lists.{Has}
+use Rattle.law_wire.specs.law_transcript.Nodes.{always, device_of, is_supervised, listing_of}
 use Rattle.law_time.specs.Calm.{IsStill}
-use Rattle.law_time.specs.Stretches.{IsStretch, workers}
+use Rattle.law_time.specs.Sessions.{is_final}
+use Rattle.law_time.specs.Stretches.{IsStretch, commands_in, is_quiet_line, workers}
+use Rattle.law_time.specs.Verdicts.{is_answered}
 use Rattle.proof_rests.specs.proof_attempts.proof_host.device_sim.State.{State}
 use Rattle.proof_rests.specs.proof_attempts.world_model.State.{Machine, first_machine}
 use Rattle.proof_rests.specs.world_lines.Spoken.{Spoken, after_all, transcript_of}
@@ -41,3 +45,12 @@ pub record IsStretchByText (key : List ℕ) (keys : Keys) (devices : List State)
       (clock_of (told_before keys devices before))
   pub stretch : IsStretch key (moment keys devices before).outside.devices (told_before keys devices before) (told_in keys devices before lines)
   pub plain : ArePlain (moment keys devices before).outside.devices (told_before keys devices before) (told_in keys devices before lines)
+
+-- ---- outcomes
+
+-- In quiet lines each command of a node whose device lists Supervision, that waited before them or was accepted in them and has a final outcome, has the one that its
+-- device's kind says of the message, on the values that the device had as the session began: however late it comes, and whatever was lost, repeated or changed
+abbrev pub EndsAsJudged : List State → List Entry → List Entry → Type 0
+EndsAsJudged devices before stretch =
+    list_all is_quiet_line (lines_run stretch) ≡ true → (node command : ℕ) (device : State) → device_of node devices ≡ Some device → is_supervised device ≡ true
+    → Has (commands_in before stretch node) command → is_final (outcome command (before ++ stretch)) ≡ true → is_answered devices before stretch node command ≡ true

@@ -50,7 +50,10 @@ pub use at_rest::lines_leave_a_host_at_rest;
 pub use calls::lines_await_calls;
 pub use chip::calm_chips_rest;
 pub use due::calm_chips_are_owed_nothing;
-pub use ends::{still_stretches_are_answered, stretches_are_answered_in_time};
+pub use ends::{
+    rejected_ends, still_stretches_are_answered, stretches_are_answered_in_time,
+    stretches_end_by_kind,
+};
 pub use facts::lines_leave_hosts_fit;
 pub use host::calm_hosts_are_done;
 pub use known::{

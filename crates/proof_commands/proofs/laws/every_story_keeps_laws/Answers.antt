@@ -8,6 +8,7 @@ returns c = λ key old new. record {
   whole_headline = c.stories_have_the_headline.ensures.whole key old new;
   legal = c.stories_are_legal.ensures key old new;
   answers_in_time = c.stories_answer_in_time.ensures key old new;
+  ends_as_judged = c.stories_end_as_judged.ensures key old new;
   of_host = record {
     kept = c.stories_keep_records.ensures key old new;
     orders = c.stories_keep_laws.ensures.orders key old new;

@@ -9,9 +9,9 @@ use Rattle.world_lines.specs.Done.{IsRead, events_of}
 use Rattle.proof_course_plain.specs.World.{ComesOfLine, NamesEnd}
 use Rattle.proof_course_plain.proofs.HeardPayloads.{lines_end}
 use Rattle.proof_spoken.proofs.SpokenLines.{all_after, all_lines, all_may, all_read, lines_of}
-use Rattle.proof_in_time.specs.Coming.{GoWhole}
+use Rattle.proof_in_time.specs.Coming.{GoWhole, GoesWhole, is_layered}
 use Rattle.proof_in_time.proofs.Commands.{AreNearAt}
-use Rattle.proof_in_time.proofs.GoingWhole.{IsAnything, comes_near, go_whole, none_whole}
+use Rattle.proof_in_time.proofs.GoingWhole.{IsAnything, all_go, comes_near, none_go, rule_whole}
 use Rattle.proof_in_time.proofs.orders.orders_go_whole.Goals as goal
 
 pub returns : goal.returns
@@ -29,5 +29,5 @@ returns c = λ these keys devices lines openly are.
     let names = all-weaker IsRead NamesEnd (λ line read. c.lines_ask_plainly.ensures.text read.0 line read.1) said (all_read m lines are) in
     let comes = lines_end (Unit {0}) IsAnything (λ classes word. tt) (λ classes end near. tt) 0 said (λ near. names) m events whole in
     let near = all-weaker (ComesOfLine (Unit {0}) IsAnything 0) (AreNearAt these) (comes_near these) events comes in
-    let both = go_whole these listing (c.interviews_give_what_is_known.ensures.each listing) openly [] m events may starts tells near (c.interviews_give_what_is_known.ensures.first listing keys) (none_whole these) in
+    let both = all_go GoesWhole is_layered rule_whole these listing (c.interviews_give_what_is_known.ensures.each listing) openly [] m events may starts tells near (c.interviews_give_what_is_known.ensures.first listing keys) (none_go GoesWhole these) in
     (subst (λ (k : Machine). GoWhole these k.host.state.commands) (sym (all_after m lines)) both.0, both.1)
