@@ -15,24 +15,24 @@ use Rattle.chip_sim.specs.Nodes.{is_marked}
 use Rattle.chip_sim.specs.declared.out.Sending.{Sending}
 use Rattle.host_model.specs.Ticking.{tick_events}
 use Rattle.outside_model.specs.Events.{OuterEvent, Arrives, Chip_takes}
-use Rattle.outside_model.specs.State.{OuterState}
 use Rattle.world_model.specs.Events.{Event, Outside_does, happens, May}
 use Rattle.world_model.specs.State.{Machine}
 use Rattle.proof_calm.specs.proof_traffic.Facts.{one_if}
 use Rattle.proof_calm.specs.proof_traffic.Flights.{Fly}
 use Rattle.proof_calm.specs.proof_traffic.OnAir.{hosts_on_air, on_air}
-use Rattle.proof_calm.specs.proof_traffic.OutsideTraffic.{flags, one_outward, outward}
+use Rattle.proof_calm.specs.proof_traffic.OutsideTraffic.{one_outward, outward}
 use Rattle.proof_calm.specs.proof_work.proof_walk.Phases.{Phase, Between, Said_line, Begun, Doing, To_tick, Ticked, Arriving, Giving, Ticking_devices, Ticking_chip, Ticking_decoder, Ticking_host, Sleeping, Submitting, Moving, Moved, Goes}
 use Rattle.proof_calm.specs.Awaited.{Awaits, AwaitsAt}
-use Rattle.proof_calm.specs.Resting.{First, HasFor, LineAt, Nothing}
+use Rattle.proof_calm.specs.Resting.{LineAt}
 use Rattle.proof_calm.specs.Settling.{Asks, Free, Heard, Heard_asks, Line as TheLine, Sent, Sent_asks}
 use Rattle.proof_calm.specs.Tied.{At_chip, Called, Nowhere, On_way, Tied, TieAt, TieOf, ends_of, unheard}
 use Rattle.proof_calm.proofs.proof_traffic_Parts.{Airs}
 use Rattle.proof_calm.proofs.Peopled.{covers_of}
+use Rattle.proof_calm.proofs.Pending.{has_kept}
 use Rattle.proof_answered.specs.Outward.{IsFor, IsSentTo}
 use Rattle.proof_answered.proofs.Outwards.{awaits_of, home_out, next_flight, outs_on, takes_for}
 use Rattle.proof_answered.proofs.Staffing.{effect_sent, idle_sent}
-use Rattle.proof_answered.proofs.Walking.{flying_most, hosts_less, one_host}
+use Rattle.proof_answered.proofs.Walking.{hosts_less, hosts_sent, one_host}
 
 -- ---- the chip has given up no payload
 
@@ -44,23 +44,19 @@ line_kept m (Heard_asks asked frame ticks frames fits line) = line.at_chip.none_
 line_kept m (Sent frame ticks frames line) = line.at_chip.none_given_up
 line_kept m (Sent_asks asked frame ticks frames fits line) = line.at_chip.none_given_up
 
-given_kept : (ticks : ℕ) (o : OuterState) → HasFor ticks o → o.chip.state.aborted ≡ 0
-given_kept ticks o (Nothing at) = at.none_given_up
-given_kept ticks o (First frame frames few at) = at.none_given_up
-
 pub none_aborted : (here : Phase) (m : Machine) → LineAt here m → m.outside.outer.chip.state.aborted ≡ 0
 none_aborted Between m at = at.at_chip.none_given_up
 none_aborted (Said_line line) m at = at.1.at_chip.none_given_up
 none_aborted (Begun line) m at = at.1.at_chip.none_given_up
 none_aborted (Doing line left) m at = at.1.at_chip.none_given_up
 none_aborted (To_tick ticks) m at = at.at_chip.none_given_up
-none_aborted (Ticked ticks) m at = given_kept 0 m.outside.outer at.has
-none_aborted (Arriving frames ticks) m at = given_kept 0 m.outside.outer at.has
-none_aborted (Giving results ticks) m at = given_kept 0 m.outside.outer at.has
-none_aborted (Ticking_devices place count ticks) m at = given_kept 0 m.outside.outer at.has
-none_aborted (Ticking_chip ticks) m at = given_kept 0 m.outside.outer at.has
-none_aborted (Ticking_decoder ticks) m at = given_kept 1 m.outside.outer at.has
-none_aborted (Ticking_host events ticks) m at = given_kept 1 m.outside.outer at.1.has
+none_aborted (Ticked ticks) m at = has_kept 0 m.outside.outer at.has
+none_aborted (Arriving frames ticks) m at = has_kept 0 m.outside.outer at.has
+none_aborted (Giving results ticks) m at = has_kept 0 m.outside.outer at.has
+none_aborted (Ticking_devices place count ticks) m at = has_kept 0 m.outside.outer at.has
+none_aborted (Ticking_chip ticks) m at = has_kept 0 m.outside.outer at.has
+none_aborted (Ticking_decoder ticks) m at = has_kept 1 m.outside.outer at.has
+none_aborted (Ticking_host events ticks) m at = has_kept 1 m.outside.outer at.1.has
 none_aborted (Sleeping passes ticks) m (inl done) = done.line.at_chip.none_given_up
 none_aborted (Sleeping passes ticks) m (inr stands) = line_kept m stands.live.line
 none_aborted (Submitting passes ticks) m (inl done, none) = done.line.at_chip.none_given_up
@@ -92,13 +88,9 @@ sends_none here m at none = tie_idle false m [] at none
 -- so none of its frames flies
 unsent_none : (m : Machine) → Awaits m → m.outside.outer.chip.state.aborted ≡ 0 → m.outside.outer.chip.state.sending ≡ None → hosts_on_air m.outside.outer ≡ 0
 unsent_none m is kept none =
-    let all = is.follows.await.frames in
-    let most = flying_most (flags m.outside.outer.calls) in
-    let same = ap (λ (l : List Bool). length l) is.follows.knows.calls in
-    let each = is.each_call in
-    let gave_up = is.follows.knows.aborted ∙ kept in
-    let sends : one_if is.course.sending ≡ 0 = ap one_if (is.follows.knows.sending ∙ ap (λ (o : Option Sending). is_some o) none) in
-    omega (arith, all, most, same, each, gave_up, sends)
+    let sent = hosts_sent m is kept in
+    let idle : one_if (is_some m.outside.outer.chip.state.sending) ≡ 0 = ap (λ (o : Option Sending). one_if (is_some o)) none in
+    omega (arith, sent, idle)
 
 pub none_fly : (here : Phase) (m : Machine) → LineAt here m → AwaitsAt here m → TieAt here m → m.host.state.requests.under_way ≡ None → hosts_on_air m.outside.outer ≡ 0
 none_fly here m line_at awaits tie none = unsent_none m (awaits_of here m awaits) (none_aborted here m line_at) (sends_none here m tie none)

@@ -57,7 +57,7 @@ set_place P n nodes y within places is = record {
 
 module _ (P : NodeState → Type 0) (Goes : NodeState → NodeEvent → Type 0) (aside : (x : NodeState) (event : NodeEvent) → IsAside event → Goes x event)
     (goes : (x : NodeState) (event : NodeEvent) → Goes x event → P x → P (after_node x event)) (n : ℕ) (within : n < 233) where
-  each_place : (nodes : List NodeState) (k : ℕ) (event : NodeEvent) → OfNode Goes n k (node_among nodes k) event → PlaceIs P n nodes → PlaceIs P n (with_node_among nodes k (after_node (node_among nodes k) event))
+  pub each_place : (nodes : List NodeState) (k : ℕ) (event : NodeEvent) → OfNode Goes n k (node_among nodes k) event → PlaceIs P n nodes → PlaceIs P n (with_node_among nodes k (after_node (node_among nodes k) event))
   each_place nodes k event allows at = by (k == n) refl
     where
       new : NodeState

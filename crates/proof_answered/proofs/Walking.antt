@@ -65,7 +65,7 @@ use Rattle.proof_answered.proofs.Works.{ticks_say, ticks_work}
 
 -- ---- the calls, and the frames that they are to come for
 
-pub flying_most : (calls : List Bool) → flying_in calls ≤ length calls
+flying_most : (calls : List Bool) → flying_in calls ≤ length calls
 flying_most [] = omega arith
 flying_most (flies ∷ calls) = let one = few_if flies in let rest = flying_most calls in omega (arith, one, rest)
 

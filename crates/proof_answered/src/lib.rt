@@ -11,7 +11,8 @@
 //! from its `wake` line, which is its last (`nodes_are_woken_last`), until it is told that there is no more for it, and counts as awake while something is left
 //! for it (`sleepers_are_where_they_may_be`). There is no code here.
 //! The definitions are in `specs/`: `Few` (for how long devices are at work, and how many frames are on the air, at each phase), `Listening`, `Heard` (what
-//! calls say), `Outward` (for which nodes frames are), `Workers` (which nodes lines, host and air have to do with), `FirstAttempts`, `Sleepers`, and `Turns`.
+//! calls say), `Outward` (for which nodes frames are), `Workers` (which nodes lines, host and air have to do with), `FirstAttempts`, `Sleepers`, `Said`
+//! (what devices say at an event), and `Turns`.
 #![tactic(auto)]
 
 mod attempts;

@@ -2,11 +2,9 @@
 use Rattle.std.proofs.lemmas.List.{length-map}
 use Rattle.std.proofs.Common.{◌≡◌, ◌≤◌, ◌<◌, ℕ, zero, suc, ◌+◌, Bool, true, false, List, [], ◌∷◌, ◌++◌, length, refl, sym, ap, ◌∙◌, subst, inl, inr, arith}
 use Rattle.std.specs.Prelude.{◌⊎◌, IsTrue, Option, Some, None}
-use Rattle.std.specs.Option.{is_some}
 use Rattle.std.specs.List.{AllByRecursion}
 use Rattle.zw_base.proofs.Each.{all-append, all-weaker}
 use Rattle.zw_text.specs.declared.line.Line.{Line as TextLine}
-use Rattle.serial_frame.specs.Frame.{FrameParts}
 use Rattle.serial_frame.specs.Stream.{Rest}
 use Rattle.serial_frame.specs.declared.item.Item.{Item}
 use Rattle.serial_link.specs.declared.turn.Turn.{Turn}
@@ -52,20 +50,18 @@ use Rattle.proof_answered.specs.proof_calm.Awaited.{Awaits, AwaitsAt}
 use Rattle.proof_answered.specs.proof_calm.Known.{AsksToSend}
 use Rattle.proof_answered.specs.proof_calm.Passes.{ChipMayTake, chip_taken}
 use Rattle.proof_answered.specs.proof_calm.Resting.{CanMove, IsEffect, IsGiven, LineAt, Stands as Stands_on}
-use Rattle.proof_answered.specs.proof_calm.Settling.{Line, Asks, Free, HasMoved, Heard, Heard_asks, IsDone, Sent, Sent_asks}
+use Rattle.proof_answered.specs.proof_calm.Settling.{HasMoved, IsDone}
 use Rattle.proof_answered.specs.proof_calm.Tied.{All, At_chip, Called, HasRoom, IsNodeTick, IsPeopled, Nodes, Nowhere, On_way, Request, RoomAt, Tied, TickLeft, TieAt, TieOf, TiedInTick, ends_of, on_line, unheard}
-use Rattle.proof_answered.specs.proof_calm.proof_traffic.Facts.{one_if}
 use Rattle.proof_answered.specs.proof_calm.proof_traffic.OnAir.{fed_chip, on_air}
 use Rattle.proof_answered.specs.proof_calm.proof_traffic.OutsideTraffic.{one_outward, outward}
 use Rattle.proof_answered.specs.proof_calm.proof_work.proof_walk.Phases.{Phase, Arriving, Begun, Between, Doing, Giving, Goes, Moved, Moving, Said_line, Sleeping, Submitting, Ticked, Ticking_chip, Ticking_decoder, Ticking_devices, Ticking_host, To_tick, Turns, after_pump, passes_after}
 use Rattle.proof_answered.proofs.Flights.{flights_are}
 use Rattle.proof_answered.proofs.Outwards.{IsOut, IsSentFor, awaits_of, home_out, judges_add, marked_within, next_flight, outs_on}
 use Rattle.proof_answered.proofs.Peopled.{covers_of}
-use Rattle.proof_answered.proofs.Pending.{has_kept}
-use Rattle.proof_answered.proofs.SleeperAloft.{none_marked, unmarked}
+use Rattle.proof_answered.proofs.SleeperAloft.{none_aborted, none_fly, none_marked, unmarked}
 use Rattle.proof_answered.proofs.Staffing.{idle_sent}
 use Rattle.proof_answered.proofs.Arrivals.{outward-append}
-use Rattle.proof_answered.proofs.Walking.{hosts_sent, one_host}
+use Rattle.proof_answered.proofs.Walking.{one_host}
 use Rattle.proof_answered.proofs.proof_traffic_Parts.{Airs}
 use Rattle.proof_in_time.specs.Asked.{AreAskedSo, IsAskedNow, IsMessageOf, IsPlainPurpose, IsPlainTask, Sends, TaskSends}
 use Rattle.proof_in_time.specs.Coming.{GoesWhole, GoWhole, IsAsking, IsMessage}
@@ -98,91 +94,22 @@ asked_steady these many h g steady v under_way frame was =
       sends = subst (λ (p : Purpose). Sends p frame.node frame.payload) (sym purposes) was.sends;
     }
 
--- ---- while a frame of the host is on the air, a request is under way
+-- ---- the frames on the air
 
-tied_request : (counted : Bool) (m : Machine) (asking : List FrameParts) → TieOf counted m asking → is_some m.outside.outer.chip.state.sending ≡ true → (u : UnderWay) × (m.host.state.requests.under_way ≡ Some u)
-tied_request counted m asking tie sends = by tie.tied
-  where
-    by : Tied counted (ends_of m.host.state m.outside.outer.chip.state) (unheard m.outside.outer) asking → (u : UnderWay) × (m.host.state.requests.under_way ≡ Some u)
-    by (Nowhere is) = absurd (let wrong : true ≡ false = sym sends ∙ ap (λ (o : Option _). is_some o) is.idle in cc)
-    by (On_way u of fresh is) = (u, of.under_way)
-    by (At_chip u of fresh is) = (u, of.under_way)
-    by (Called u of fresh is) = (u, of.under_way)
-
--- the tie of each phase
-pub record SomeTie (m : Machine) : Type 0 where
-  pub counted : Bool
-  pub asking : List FrameParts
-  pub tie : TieOf counted m asking
-
-some_tie : (here : Phase) (m : Machine) → TieAt here m → SomeTie m
-some_tie Between m at = record { counted = false; asking = []; tie = at }
-some_tie (Said_line line) m at = record { counted = false; asking = []; tie = at }
-some_tie (Begun line) m at = record { counted = false; asking = []; tie = at }
-some_tie (Doing line left) m at = record { counted = false; asking = []; tie = at }
-some_tie (To_tick ticks) m at = record { counted = false; asking = []; tie = at }
-some_tie (Ticked ticks) m at = record { counted = false; asking = []; tie = at }
-some_tie (Arriving frames ticks) m at = record { counted = false; asking = []; tie = at }
-some_tie (Giving results ticks) m at = record { counted = false; asking = []; tie = at }
-some_tie (Ticking_devices place count ticks) m at = record { counted = false; asking = []; tie = at }
-some_tie (Ticking_chip ticks) m at = record { counted = false; asking = []; tie = at }
-some_tie (Ticking_decoder ticks) m at = record { counted = false; asking = []; tie = at }
-some_tie (Ticking_host events ticks) m at = record { counted = at.counted; asking = []; tie = at.tie }
-some_tie (Sleeping passes ticks) m at = record { counted = true; asking = []; tie = at }
-some_tie (Submitting passes ticks) m at = record { counted = true; asking = on_line m.host.state.side.turn; tie = at }
-some_tie (Moving passes ticks) m at = record { counted = true; asking = on_line m.host.state.side.turn; tie = at }
-some_tie (Moved b passes ticks) m at = record { counted = true; asking = []; tie = at }
-
--- the chip has given up no payload
-line_kept : (m : Machine) → Line m → m.outside.outer.chip.state.aborted ≡ 0
-line_kept m (Free at) = at.at_chip.none_given_up
-line_kept m (Asks f fits at) = at.at_chip.none_given_up
-line_kept m (Heard first ticks frames at) = at.at_chip.none_given_up
-line_kept m (Heard_asks f first ticks frames fits at) = at.at_chip.none_given_up
-line_kept m (Sent first ticks frames at) = at.at_chip.none_given_up
-line_kept m (Sent_asks f first ticks frames fits at) = at.at_chip.none_given_up
-
-none_given_up : (here : Phase) (m : Machine) → LineAt here m → m.outside.outer.chip.state.aborted ≡ 0
-none_given_up Between m at = at.at_chip.none_given_up
-none_given_up (Said_line line) m at = at.1.at_chip.none_given_up
-none_given_up (Begun line) m at = at.1.at_chip.none_given_up
-none_given_up (Doing line left) m at = at.1.at_chip.none_given_up
-none_given_up (To_tick ticks) m at = at.at_chip.none_given_up
-none_given_up (Ticked ticks) m at = has_kept 0 m.outside.outer at.has
-none_given_up (Arriving frames ticks) m at = has_kept 0 m.outside.outer at.has
-none_given_up (Giving results ticks) m at = has_kept 0 m.outside.outer at.has
-none_given_up (Ticking_devices place count ticks) m at = has_kept 0 m.outside.outer at.has
-none_given_up (Ticking_chip ticks) m at = has_kept 0 m.outside.outer at.has
-none_given_up (Ticking_decoder ticks) m at = has_kept 1 m.outside.outer at.has
-none_given_up (Ticking_host events ticks) m at = has_kept 1 m.outside.outer at.1.has
-none_given_up (Sleeping passes ticks) m (inl done) = done.line.at_chip.none_given_up
-none_given_up (Sleeping passes ticks) m (inr stands) = line_kept m stands.live.line
-none_given_up (Submitting passes ticks) m (inl done, none) = done.line.at_chip.none_given_up
-none_given_up (Submitting passes ticks) m (inr live, none) = line_kept m live.line
-none_given_up (Moving passes ticks) m (inl done) = done.line.at_chip.none_given_up
-none_given_up (Moving passes ticks) m (inr can) = line_kept m can.live.line
-none_given_up (Moved b passes ticks) m (inl done) = done.line.at_chip.none_given_up
-none_given_up (Moved b passes ticks) m (inr has) = has.line.at_chip.none_given_up
-
--- so of those on the air
+-- while one of the host is there, a request is under way
 module _ (these : List Bool) (many : length these ≡ 233) where
   -- each of the host is so
   abbrev AreNow : HostState → OuterState → Type 0
   AreNow h o = AllByRecursion (IsOut (λ (frame : Flown). IsAskedNow these h frame)) (on_air o.air.frames)
 
   steady_flies : (h : HostState) (next : Phase) (n : Machine) → GoesSteady h n.host.state → LineAt next n → AwaitsAt next n → TieAt next n → AreNow h n.outside.outer → AreNow n.host.state n.outside.outer
-  steady_flies h next n steady line awaits tie outs = by (is_some n.outside.outer.chip.state.sending) refl
+  steady_flies h next n steady line awaits tie outs = by n.host.state.requests.under_way refl
     where
-      by : (b : Bool) → is_some n.outside.outer.chip.state.sending ≡ b → AreNow n.host.state n.outside.outer
-      by false idle =
-          let most = hosts_sent n (awaits_of next n awaits) (none_given_up next n line) in
-          let none = ap (λ (b : Bool). one_if b) idle in
-          home_out (λ (frame : Flown). IsAskedNow these n.host.state frame) (on_air n.outside.outer.air.frames) (omega (arith, most, none))
-      by true sends =
-          let at = some_tie next n tie in
-          let request = tied_request at.counted n at.asking at.tie sends in
+      by : (under_way : Option UnderWay) → n.host.state.requests.under_way ≡ under_way → AreNow n.host.state n.outside.outer
+      by None none = home_out (λ (frame : Flown). IsAskedNow these n.host.state frame) (on_air n.outside.outer.air.frames) (none_fly next n line awaits tie none)
+      by (Some request) is =
           all-weaker (IsOut (λ (frame : Flown). IsAskedNow these h frame)) (IsOut (λ (frame : Flown). IsAskedNow these n.host.state frame))
-          (λ frame asked out. asked_steady these many h n.host.state steady request.0 request.1 frame (asked out)) (on_air n.outside.outer.air.frames) outs
+          (λ frame asked out. asked_steady these many h n.host.state steady request is frame (asked out)) (on_air n.outside.outer.air.frames) outs
 
 -- ---- what an event does to the host
 
@@ -486,7 +413,7 @@ module _ (airs : Airs) (these : List Bool) (many : length these ≡ 233) where
           subst (λ (g : HostState). AreNow these many g (chip_taken m rest ways).outside.outer) (sym (taken_host m rest ways))
           (takes_flies passes ticks m rest ways (subst (May m) is may) (subst (λ (q : Phase). LineAt q m) at line_at) (awaits_of here m awaits) (subst (λ (q : Phase). RoomAt q m) at room) (subst (λ (q : Phase). TieAt q m) at tie) peopled
           (subst (λ (q : Phase). AreAskedSo these q m) at so) (subst (λ (e : Event). Awaits (happens m e)) is (awaits_of next (happens m event) awaits_next))
-          (subst (λ (e : Event). (happens m e).outside.outer.chip.state.aborted ≡ 0) is (none_given_up next (happens m event) line_next)) next
+          (subst (λ (e : Event). (happens m e).outside.outer.chip.state.aborted ≡ 0) is (none_aborted next (happens m event) line_next)) next
           (subst (λ (q : Phase). Goes q m (Outside_does (Chip_takes (length m.outside.outer.to_chip.bytes) rest ways)) next) at (subst (λ (e : Event). Goes here m e next) is goes)))
 
       by : Step here m event → AreNow these many (happens m event).host.state (happens m event).outside.outer

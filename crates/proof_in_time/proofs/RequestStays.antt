@@ -1,7 +1,5 @@
 -- The request under way, and the sessions that have begun, at events of the host that submit nothing and begin none.
-use Rattle.std.proofs.Common.{◌≡◌, ◌<◌, ℕ, ◌+◌, ◌-◌, ◌==◌, ◌&&◌, nat_lt, Bool, true, false, if◌then◌else◌, List, [], ◌∷◌, length, refl, sym, ap, ◌∙◌, subst, arith}
-use Rattle.std.proofs.lemmas.Bool.{eq-eqb, eqb-true}
-use Rattle.std.proofs.lemmas.List.{get_or-set_other, get_or-set_same, length-set}
+use Rattle.std.proofs.Common.{◌≡◌, ◌<◌, ℕ, ◌+◌, ◌-◌, ◌==◌, ◌&&◌, nat_lt, Bool, true, false, if◌then◌else◌, List, [], ◌∷◌, length, refl, sym, ap, ◌∙◌, arith}
 use Rattle.std.specs.Prelude.{◌⊎◌, Option, Some, None}
 use Rattle.std.specs.List.{AllByRecursion}
 use Rattle.serial_frame.specs.Stream.{Rest}
@@ -25,11 +23,10 @@ use Rattle.host_requests.specs.declared.next.Next.TheVariants as next
 use Rattle.host_requests.specs.declared.task.Purpose.{Purpose}
 use Rattle.host_requests.specs.declared.task.Purpose.TheVariants.{Attempt}
 use Rattle.host_requests.specs.declared.under_way.UnderWay.{UnderWay}
-use Rattle.host_node.specs.State.{NodeState, has_waiting, is_idle, is_open, is_running, is_up, unknown}
+use Rattle.host_node.specs.State.{NodeState, has_waiting, is_idle, is_open, is_running, is_up}
 use Rattle.host_node.specs.Steps.{after_again, after_again_tick, after_attempt_end, after_attempt_tick, after_attempts, after_hold_tick, after_no_more, after_occasion, after_sign, after_sleep, after_start, after_told, asleep, new_series, next_due, series_over, tried_again, wait_ticks, with_again, with_wait, without_attempt}
 use Rattle.host_node.specs.Events.{NodeEvent, after as after_node}
 use Rattle.host_node.specs.Events.NodeEvent.{Accepts as node_accepts, Begins as node_begins, Ends_attempt, Ends_no_more, Notifies as node_notifies, Reports, Restarts, Sleeps, Starts as node_starts, Succeeds, Ticks as node_ticks}
-use Rattle.host_node.specs.TableState.{node_of as node_among, with_node as with_node_among}
 use Rattle.host_node.specs.declared.attempt.Moment.{Moment}
 use Rattle.host_node.specs.declared.attempt.Moment.TheVariants.{BetweenTicks}
 use Rattle.host_node.specs.declared.attempt.Plan.{Plan}
@@ -51,7 +48,8 @@ use Rattle.proof_answered.proofs.Following.{IsApart, apart_kept, end_if_kept, ke
 use Rattle.proof_answered.proofs.Judging.{AnyFrame, EachFollows, any_frames}
 use Rattle.proof_answered.proofs.Peopled.{takes_are}
 use Rattle.proof_answered.proofs.proof_traffic_Parts.{Airs}
-use Rattle.proof_answered.proofs.NodeSteps.{AllowsAt, AllowsEnd, AllowsEndIf, AllowsPart, IsFree, event_is}
+use Rattle.proof_answered.proofs.NodeSteps.{AllowsAt, AllowsEnd, AllowsEndIf, AllowsPart, IsAside, IsFree, event_is}
+use Rattle.proof_answered.proofs.SleeperHosts.{PlaceIs, each_place}
 
 -- ---- the sessions of a node
 
@@ -128,40 +126,23 @@ free_keeps n x node_begins free = absurd free
 free_keeps n x Restarts free = absurd free
 free_keeps n x event free = tt
 
--- those of one node of a table
-pub record HadAt (sessions : List ℕ) (n : ℕ) (nodes : List NodeState) : Type 0 where
-  pub places : length nodes ≡ 233
-  pub had : Had sessions (node_among nodes n)
+aside_keeps : (x : NodeState) (event : NodeEvent) → IsAside event → KeepsBook event
+aside_keeps x node_begins aside = absurd aside
+aside_keeps x Restarts aside = absurd aside
+aside_keeps x event aside = tt
 
-module _ (sessions : List ℕ) (n : ℕ) (within : n < 233) where
-  each_had : (nodes : List NodeState) (k : ℕ) (event : NodeEvent) → KeepsAny k (node_among nodes k) event → HadAt sessions n nodes → HadAt sessions n (with_node_among nodes k (after_node (node_among nodes k) event))
-  each_had nodes k event keeps at = record { places = length-set nodes k next ∙ at.places; had = by (k == n) refl }
-    where
-      next : NodeState
-      next = after_node (node_among nodes k) event
+part_keeps : (h : HostState) (k : ℕ) (end : PartEnd) (moment : Moment) → AllowsPart KeepsAny k (node_of h k) end moment
+part_keeps h k Good moment = tt
+part_keeps h k Passed_over moment = tt
+part_keeps h k Bad moment = tt
 
-      there : k ≡ n → Had sessions (node_among (with_node_among nodes k next) n)
-      there is =
-          let few : k < length nodes = subst (λ (j : ℕ). j < length nodes) (sym is) (subst (λ (l : ℕ). n < l) (sym at.places) within) in
-          subst (λ (j : ℕ). Had sessions (node_among (with_node_among nodes k next) j)) is
-          (subst (Had sessions) (sym (get_or-set_same nodes k next (unknown 0) few)) (node_had sessions (node_among nodes k) event keeps (subst (λ (j : ℕ). Had sessions (node_among nodes j)) (sym is) at.had)))
+end_keeps : (h : HostState) (purpose : Purpose) (how : How) (moment : Moment) → AllowsEnd KeepsAny h purpose how moment
+end_keeps h (Attempt k more payload) how moment = part_keeps h k (part_end more how) moment
+end_keeps h purpose how moment = tt
 
-      by : (b : Bool) → (k == n) ≡ b → Had sessions (node_among (with_node_among nodes k next) n)
-      by true is = there (eqb-true k n is)
-      by false is = subst (Had sessions) (sym (get_or-set_other nodes k n next (unknown 0) (λ e. let wrong : true ≡ false = sym (eq-eqb k n (sym e)) ∙ is in cc))) at.had
-
-  part_keeps : (h : HostState) (k : ℕ) (end : PartEnd) (moment : Moment) → AllowsPart KeepsAny k (node_of h k) end moment
-  part_keeps h k Good moment = tt
-  part_keeps h k Passed_over moment = tt
-  part_keeps h k Bad moment = tt
-
-  end_keeps : (h : HostState) (purpose : Purpose) (how : How) (moment : Moment) → AllowsEnd KeepsAny h purpose how moment
-  end_keeps h (Attempt k more payload) how moment = part_keeps h k (part_end more how) moment
-  end_keeps h purpose how moment = tt
-
-  end_if_keeps : (h : HostState) (end : Option End) (moment : Moment) → AllowsEndIf KeepsAny h end moment
-  end_if_keeps h None moment = tt
-  end_if_keeps h (Some end) moment = end_keeps h end.purpose end.how moment
+end_if_keeps : (h : HostState) (end : Option End) (moment : Moment) → AllowsEndIf KeepsAny h end moment
+end_if_keeps h None moment = tt
+end_if_keeps h (Some end) moment = end_keeps h end.purpose end.how moment
 
 -- ---- an event of the host
 
@@ -171,18 +152,23 @@ BeginsNone h (Begins n session command) = ⊥
 BeginsNone h Line_ticks = h.side.turn ≡ no_turn
 BeginsNone h event = Unit {0}
 
-module _ (sessions : List ℕ) (n : ℕ) (within : n < 233) where
-  none_begins : (h : HostState) (event : HostEvent) → BeginsNone h event → AllowsAt KeepsAny h event
-  none_begins h (Requests_do event moment) none = end_if_keeps sessions n within h (end_at h.requests event) moment
-  none_begins h (Begins k session command) none = absurd none
-  none_begins h Line_ticks none = none
-  none_begins h event none = tt
+none_begins : (h : HostState) (event : HostEvent) → BeginsNone h event → AllowsAt KeepsAny h event
+none_begins h (Requests_do event moment) none = end_if_keeps h (end_at h.requests event) moment
+none_begins h (Begins k session command) none = absurd none
+none_begins h Line_ticks none = none
+none_begins h event none = tt
 
-  event_had : (h : HostState) (event : HostEvent) → BeginsNone h event → HadAt sessions n h.nodes → HadAt sessions n (after h event).nodes
-  event_had h event none at = event_is KeepsAny (HadAt sessions n) free_keeps (each_had sessions n within) h event (none_begins h event none) at
+-- the table has as many nodes, and one of them its sessions
+had_on : (h : HostState) (event : HostEvent) → length h.nodes ≡ 233 → BeginsNone h event → (n : ℕ) → n < 233 → PlaceIs (Had (node_of h n).book.commands) n (after h event).nodes
+had_on h event places none n within =
+    event_is KeepsAny (PlaceIs (Had sessions) n) free_keeps (λ nodes k one keeps at. each_place (Had sessions) (λ x e. KeepsBook e) aside_keeps (node_had sessions) n within nodes k one (λ same. keeps) at) h event (none_begins h event none)
+    (record { places = places; is = refl })
+  where
+    sessions : List ℕ
+    sessions = (node_of h n).book.commands
 
 pub sessions_on : (h : HostState) (event : HostEvent) → length h.nodes ≡ 233 → BeginsNone h event → (n : ℕ) → n < 233 → (node_of (after h event) n).book.commands ≡ (node_of h n).book.commands
-sessions_on h event places none n within = (event_had (node_of h n).book.commands n within h event none (record { places = places; had = refl })).had
+sessions_on h event places none n within = (had_on h event places none n within).is
 
 -- ---- from one host to another
 
@@ -268,12 +254,9 @@ one_request h event steady v is = kept_request h (after h event) (apart_kept h e
 pub steady_on : (h : HostState) (event : HostEvent) → length h.nodes ≡ 233 → IsSteady h event → GoesSteady h (after h event)
 steady_on h event places steady = record {
   request = one_request h event steady;
-  places = (at 0 (omega arith)).places;
-  sessions = λ n within. (at n within).had;
+  places = (had_on h event places (steady_begins h event steady) 0 (omega arith)).places;
+  sessions = sessions_on h event places (steady_begins h event steady);
 }
-  where
-    at : (n : ℕ) → n < 233 → HadAt (node_of h n).book.commands n (after h event).nodes
-    at n within = event_had (node_of h n).book.commands n within h event (steady_begins h event steady) (record { places = places; had = refl })
 
 -- ---- what the host judges
 
