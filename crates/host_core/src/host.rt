@@ -10,7 +10,7 @@ ghost use Rattle.host_model.specs.State.{first_host, node_of, command_at};
 ghost use Rattle.host_model.specs.Pumping.{Pumps};
 ghost use Rattle.host_model.specs.Taking.{Fed, FedPrefix};
 ghost use Rattle.host_model.specs.Ticking.{tick_events};
-ghost use Rattle.host_step_bytes.specs.Calls.{scene, Are, Does, Stops};
+ghost use Rattle.host_step_bytes.specs.Calls.{seen, Are, Does, Stops};
 ghost use Rattle.host_core.specs.Orders.{outcome_at};
 ghost use Rattle.host_core.specs.Recorded.{TablesAreTold};
 
@@ -49,8 +49,11 @@ impl Model for Host {
 impl Host {
     /// A host at the beginning: node 2 is joined, was interviewed and listens. The keys are made of the network's key.
     pub fn new(alloc: Global, key: [u8; 16]) -> Result<Host, NoMemory>
-        ensures first { IfOk result (λ host. host ≡ record { decoder = no_rest; state = first_host (keys_of key) }) }
-        ensures tables { IfOk result (λ host. (told : Option (Items (Items ℕ))) → TablesAreTold told host.state) }
+        ensures first { IfOk result (λ host.
+            host ≡ record { decoder = no_rest; state = first_host (keys_of key) }) }
+        ensures tables { IfOk result (λ host.
+            (told : Option (Items (Items ℕ))) →
+            TablesAreTold told host.state) }
     {
         tables_stand_in_the_records();
         Ok(Host {
@@ -66,14 +69,17 @@ impl Host {
         keeper: &mut P,
     ) -> Result<(), NoMemory>
         ensures ok { OnOk result (Does (Pumps self.old.state)
-            (scene self.old.state out.old.items (P.shelf keeper.old))
-            (scene self.new.state out.new.items (P.shelf keeper.new))) }
+            (seen P.shelf self.old out.old keeper.old)
+            (seen P.shelf self.new out.new keeper.new)) }
         ensures decoder { self.new.decoder ≡ self.old.decoder }
-        ensures err { OnErr result (Stops (scene self.old.state out.old.items (P.shelf keeper.old))
-            (scene self.new.state out.new.items (P.shelf keeper.new))) }
+        ensures err { OnErr result (Stops
+            (seen P.shelf self.old out.old keeper.old)
+            (seen P.shelf self.new out.new keeper.new)) }
         ensures never_fewer { P.number keeper.old ≤ P.number keeper.new }
         ensures reads { P.reads keeper.new ≡ P.reads keeper.old }
-        ensures tables { TablesAreTold (P.shelf keeper.old).records self.old.state → TablesAreTold (P.shelf keeper.new).records self.new.state }
+        ensures tables { TablesAreTold
+            (P.shelf keeper.old).records self.old.state →
+            TablesAreTold (P.shelf keeper.new).records self.new.state }
     {
         tables_stand_in_the_records();
         pump(&mut self.core, out, keeper)
@@ -87,15 +93,17 @@ impl Host {
         out: &mut List<HostOut>,
         keeper: &mut P,
     ) -> Result<(), NoMemory>
-        ensures ok { OnOk result (Fed self.old piece.now self.new out.old.items out.new.items
-            (scene self.old.state out.old.items (P.shelf keeper.old)).shelf
-            (scene self.new.state out.new.items (P.shelf keeper.new)).shelf) }
-        ensures err { OnErr result (FedPrefix self.old piece.now self.new out.old.items out.new.items
-            (scene self.old.state out.old.items (P.shelf keeper.old)).shelf
-            (scene self.new.state out.new.items (P.shelf keeper.new)).shelf) }
+        ensures ok { OnOk result
+            (Fed self.old piece.now self.new out.old.items out.new.items
+            (P.shelf keeper.old) (P.shelf keeper.new)) }
+        ensures err { OnErr result
+            (FedPrefix self.old piece.now self.new out.old.items out.new.items
+            (P.shelf keeper.old) (P.shelf keeper.new)) }
         ensures never_fewer { P.number keeper.old ≤ P.number keeper.new }
         ensures reads { P.reads keeper.new ≡ P.reads keeper.old }
-        ensures tables { TablesAreTold (P.shelf keeper.old).records self.old.state → TablesAreTold (P.shelf keeper.new).records self.new.state }
+        ensures tables { TablesAreTold
+            (P.shelf keeper.old).records self.old.state →
+            TablesAreTold (P.shelf keeper.new).records self.new.state }
     {
         tables_stand_in_the_records();
         host_step_bytes::feed(&mut self.core, piece, draw, out, keeper)
@@ -109,14 +117,18 @@ impl Host {
         _keeper: &mut P,
     ) -> Result<(), NoMemory>
         ensures ok { OnOk result (Does (Are (tick_events self.old.state))
-            (scene self.old.state out.old.items (P.shelf _keeper.old))
-            (scene self.new.state out.new.items (P.shelf _keeper.new))) }
-        ensures decoder { OnOk result (self.new.decoder ≡ after_tick self.old.decoder) }
-        ensures err { OnErr result (Stops (scene self.old.state out.old.items (P.shelf _keeper.old))
-            (scene self.new.state out.new.items (P.shelf _keeper.new))) }
+            (seen P.shelf self.old out.old _keeper.old)
+            (seen P.shelf self.new out.new _keeper.new)) }
+        ensures decoder { OnOk result (self.new.decoder ≡
+            after_tick self.old.decoder) }
+        ensures err { OnErr result (Stops
+            (seen P.shelf self.old out.old _keeper.old)
+            (seen P.shelf self.new out.new _keeper.new)) }
         ensures never_fewer { P.number _keeper.old ≤ P.number _keeper.new }
         ensures reads { P.reads _keeper.new ≡ P.reads _keeper.old }
-        ensures tables { TablesAreTold (P.shelf _keeper.old).records self.old.state → TablesAreTold (P.shelf _keeper.new).records self.new.state }
+        ensures tables { TablesAreTold
+            (P.shelf _keeper.old).records self.old.state →
+            TablesAreTold (P.shelf _keeper.new).records self.new.state }
     {
         tables_stand_in_the_records();
         tick(&mut self.core, out)?;
@@ -125,7 +137,8 @@ impl Host {
 
     /// What became of a command; `None` outside 1 to the last number given.
     pub fn outcome(&self, command: u32) -> Option<Outcome>
-        ensures { result ≡ outcome_at (command_at self.now.state.commands command) }
+        ensures { result ≡ outcome_at
+            (command_at self.now.state.commands command) }
     {
         match self.core.command_at(command) {
             Some(found) => Some(found.outcome()),
@@ -142,7 +155,8 @@ impl Host {
 
     /// The command of a session, 1 to `sessions`.
     pub fn command_of(&self, node: NodeId, session: u64) -> Option<u32>
-        ensures { result ≡ command_of_session (node_of self.now.state node).book.commands session }
+        ensures { result ≡ command_of_session
+            (node_of self.now.state node).book.commands session }
     {
         self.core.node(node).command_of(session)
     }
@@ -156,14 +170,16 @@ impl Host {
 
     /// The properties of a node that have a value, in their order.
     pub fn values(&self, alloc: Global, node: NodeId) -> Result<List<Held>, NoMemory>
-        ensures { IfOk result (λ held. held.items ≡ held_of self.now.state.store node) }
+        ensures { IfOk result (λ held.
+            held.items ≡ held_of self.now.state.store node) }
     {
         self.core.values(alloc, node)
     }
 
     /// The same as JSON with no space.
     pub fn json(&self, alloc: Global, node: NodeId) -> Result<Bytes, NoMemory>
-        ensures { IfOk result (λ text. text ≡ values_text node (held_of self.now.state.store node)) }
+        ensures { IfOk result (λ text.
+            text ≡ values_text node (held_of self.now.state.store node)) }
     {
         self.core.json(alloc, node)
     }

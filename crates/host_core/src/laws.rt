@@ -23,17 +23,30 @@ use host_node::a_restart_needs_the_records_alone;
 /// Each session that a host counts has its record, and so has each command whose outcome is there: over any records at the
 /// beginning, after a start from records, and after whatever events of whatever call.
 pub fn tables_stand_in_the_records()
-    ensures new { (keys : Keys) (told : Option (Items (Items ℕ))) → TablesAreTold told (first_host keys) }
-    ensures open { (keys : Keys) (number : ℕ) (told : Option (Items (Items ℕ))) (host : HostParts) →
+    ensures new { (keys : Keys) (told : Option (Items (Items ℕ))) →
+        TablesAreTold told (first_host keys) }
+    ensures open { (keys : Keys) (number : ℕ)
+        (told : Option (Items (Items ℕ))) (host : HostParts) →
         Opens keys number told host → TablesAreTold told host.state }
-    ensures event { (h : HostState) (event : HostEvent) (told told' : Option (Items (Items ℕ))) → May h event → KeepsInRange h event →
-        OptAdds told told' (texts_of (records_at h event)) → TablesAreTold told h → TablesAreTold told' (after h event) }
-    ensures events { (events : Items HostEvent) (old new : HostState) (before all : Items HostOut) (shelf shelf' : Shelf) →
-        Did events old new before all shelf shelf' → TablesAreTold shelf.records old → TablesAreTold shelf'.records new }
-    ensures fed { (old new : HostParts) (bytes : Items ℕ) (before all : Items HostOut) (shelf shelf' : Shelf) →
-        Fed old bytes new before all shelf shelf' → TablesAreTold shelf.records old.state → TablesAreTold shelf'.records new.state }
-    ensures fed_prefix { (old new : HostParts) (bytes : Items ℕ) (before all : Items HostOut) (shelf shelf' : Shelf) →
-        FedPrefix old bytes new before all shelf shelf' → TablesAreTold shelf.records old.state → TablesAreTold shelf'.records new.state }
+    ensures event { (h : HostState) (event : HostEvent)
+        (told told' : Option (Items (Items ℕ))) →
+        May h event → KeepsInRange h event →
+        OptAdds told told' (texts_of (records_at h event)) →
+        TablesAreTold told h → TablesAreTold told' (after h event) }
+    ensures events { (events : Items HostEvent) (old new : HostState)
+        (before all : Items HostOut) (shelf shelf' : Shelf) →
+        Did events old new before all shelf shelf' →
+        TablesAreTold shelf.records old → TablesAreTold shelf'.records new }
+    ensures fed { (old new : HostParts) (bytes : Items ℕ)
+        (before all : Items HostOut) (shelf shelf' : Shelf) →
+        Fed old bytes new before all shelf shelf' →
+        TablesAreTold shelf.records old.state →
+        TablesAreTold shelf'.records new.state }
+    ensures fed_prefix { (old new : HostParts) (bytes : Items ℕ)
+        (before all : Items HostOut) (shelf shelf' : Shelf) →
+        FedPrefix old bytes new before all shelf shelf' →
+        TablesAreTold shelf.records old.state →
+        TablesAreTold shelf'.records new.state }
 {
     a_host_begins_with_what_is_kept();
     a_record_restores_what_it_says();

@@ -19,7 +19,8 @@ impl Host {
         node: NodeId,
         out: &mut List<Entry>,
     ) -> Result<(), NoMemory>
-        ensures { OnOk result (out.new.items ≡ out.old.items ++ host_lines self.now.state node) }
+        ensures { OnOk result (out.new.items ≡
+            out.old.items ++ host_lines self.now.state node) }
     {
         let sessions = self.sessions_of(alloc, node)?;
         out.push(Entry::TableNode { node, sessions })?;
@@ -33,7 +34,8 @@ impl Host {
         node: NodeId,
         out: &mut List<Entry>,
     ) -> Result<(), NoMemory>
-        ensures { OnOk result (out.new.items ≡ out.old.items ++ map (value_entry node) (held_of self.now.state.store node)) }
+        ensures { OnOk result (out.new.items ≡ out.old.items ++
+            map (value_entry node) (held_of self.now.state.store node)) }
     {
         let held = self.values(alloc, node)?;
         list_all(node, &held, out)
@@ -41,7 +43,8 @@ impl Host {
 
     // The commands of a node's sessions, in order.
     fn sessions_of(&self, alloc: Global, node: NodeId) -> Result<Sequence<u32>, NoMemory>
-        ensures { IfOk result (λ sessions. sessions ≡ (node_of self.now.state node).book.commands) }
+        ensures { IfOk result (λ sessions.
+            sessions ≡ (node_of self.now.state node).book.commands) }
     {
         let mut sessions = Sequence::new(alloc);
         for session in 0..self.sessions(node) {
@@ -56,7 +59,8 @@ impl Host {
 
 /// Values of a node.
 fn list_all(node: NodeId, held: &List<Held>, out: &mut List<Entry>) -> Result<(), NoMemory>
-    ensures { OnOk result (out.new.items ≡ out.old.items ++ map (value_entry node) held.now.items) }
+    ensures { OnOk result (out.new.items ≡ out.old.items ++
+        map (value_entry node) held.now.items) }
 {
     for one in held.as_slice() {
         out.push(Entry::TableValue {

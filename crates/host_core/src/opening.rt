@@ -1,8 +1,8 @@
 //! A host that starts from its records.
 
 ghost use Rattle.std.specs.Prelude.{◌≡◌, ◌⊎◌, ◌<◌, ◌≤◌, ℕ, List as Items, [], Some, Err, IfOk, OnOk};
-ghost use Rattle.zw_base.specs.Faults.{Rose, raised};
-ghost use Rattle.host_keep.specs.Keeping.{OptAdds};
+ghost use Rattle.zw_base.specs.Faults.{raised};
+ghost use Rattle.host_keep.specs.Keeping.{Adds, Fails};
 ghost use Rattle.host_keep.specs.Legal.{IsFirstBad};
 ghost use Rattle.host_model.specs.Did.{RoseBy};
 ghost use Rattle.s0_crypto.specs.Sealing.{keys_of};
@@ -46,16 +46,25 @@ impl Host {
     /// The host that starts from the records of a keeper: each is read, in their order, and taken up. The keys are made of the
     /// network's key.
     pub fn open<P: Keeper>(alloc: Global, key: [u8; 16], keeper: &mut P) -> Result<Host, OpenFault>
-        ensures opens { IfOk result (Opens (keys_of key) (P.number keeper.old) (P.shelf keeper.old).records) }
-        ensures tables { IfOk result (λ host. TablesAreTold (P.shelf keeper.new).records host.state) }
-        ensures bad { (at : ℕ) (texts : Items (Items ℕ)) → result ≡ Err (OpenFault.BadRecord at)
+        ensures opens { IfOk result
+            (Opens (keys_of key) (P.number keeper.old)
+            (P.shelf keeper.old).records) }
+        ensures tables { IfOk result (λ host.
+            TablesAreTold (P.shelf keeper.new).records host.state) }
+        ensures bad { (at : ℕ) (texts : Items (Items ℕ)) →
+            result ≡ Err (OpenFault.BadRecord at)
             → (P.shelf keeper.old).records ≡ Some texts → IsFirstBad texts at }
-        ensures place { (at : ℕ) → result ≡ Err (OpenFault.BadRecord at) → at < P.number keeper.old }
-        ensures failed { result ≡ Err OpenFault.KeeperFault → Rose (P.shelf keeper.old).faults (P.shelf keeper.new).faults }
-        ensures reads { OnOk result (RoseBy (P.number keeper.old) (P.reads keeper.old) (P.reads keeper.new)) }
-        ensures reads_never_fall { RoseBy 0 (P.reads keeper.old) (P.reads keeper.new) }
+        ensures place { (at : ℕ) →
+            result ≡ Err (OpenFault.BadRecord at) → at < P.number keeper.old }
+        ensures failed { result ≡ Err OpenFault.KeeperFault →
+            Fails (P.shelf keeper.old) (P.shelf keeper.new) }
+        ensures reads { OnOk result
+            (RoseBy (P.number keeper.old)
+            (P.reads keeper.old) (P.reads keeper.new)) }
+        ensures reads_never_fall { RoseBy 0
+            (P.reads keeper.old) (P.reads keeper.new) }
         ensures number { P.number keeper.new ≡ P.number keeper.old }
-        ensures records { OptAdds (P.shelf keeper.old).records (P.shelf keeper.new).records [] }
+        ensures records { Adds [] (P.shelf keeper.old) (P.shelf keeper.new) }
         ensures never_falls { (P.shelf keeper.old).faults ≤ (P.shelf keeper.new).faults }
     {
         legal_records_restore_the_host();
@@ -81,13 +90,20 @@ fn take_up<P: Keeper>(
     at: u64,
 ) -> Result<(), OpenFault>
     requires { at < P.number keeper.old }
-    ensures takes { OnOk result (Takes (P.shelf keeper.old).records at core.old core.new) }
-    ensures bad { (place : ℕ) → result ≡ Err (OpenFault.BadRecord place) → (place ≡ at) × MayTakeNone (P.shelf keeper.old).records at core.old.state }
-    ensures failed { result ≡ Err OpenFault.KeeperFault → Rose (P.shelf keeper.old).faults (P.shelf keeper.new).faults }
-    ensures reads { OnOk result (P.reads keeper.new ≡ raised (P.reads keeper.old)) }
-    ensures read { (P.reads keeper.new ≡ P.reads keeper.old) ⊎ (P.reads keeper.new ≡ raised (P.reads keeper.old)) }
+    ensures takes { OnOk result
+        (Takes (P.shelf keeper.old).records at core.old core.new) }
+    ensures bad { (place : ℕ) → result ≡ Err (OpenFault.BadRecord place) →
+        (place ≡ at) × MayTakeNone (P.shelf keeper.old).records
+        at core.old.state }
+    ensures failed { result ≡ Err OpenFault.KeeperFault →
+        Fails (P.shelf keeper.old) (P.shelf keeper.new) }
+    ensures reads { OnOk result (P.reads keeper.new ≡
+        raised (P.reads keeper.old)) }
+    ensures read { (P.reads keeper.new ≡ P.reads keeper.old)
+        ⊎ (P.reads keeper.new ≡ raised (P.reads keeper.old)) }
     ensures number { P.number keeper.new ≡ P.number keeper.old }
-    ensures records { (P.shelf keeper.new).records ≡ (P.shelf keeper.old).records }
+    ensures records { (P.shelf keeper.new).records ≡
+        (P.shelf keeper.old).records }
     ensures never_falls { (P.shelf keeper.old).faults ≤ (P.shelf keeper.new).faults }
 {
     a_text_is_of_one_record();
@@ -105,13 +121,19 @@ fn take_up<P: Keeper>(
 // The record of a place is read.
 fn record_at<P: Keeper>(alloc: Global, keeper: &mut P, at: u64) -> Result<Record, OpenFault>
     requires { at < P.number keeper.old }
-    ensures found { IfOk result (IsRecordAt (P.shelf keeper.old).records at) }
-    ensures bad { (place : ℕ) → result ≡ Err (OpenFault.BadRecord place) → (place ≡ at) × IsNoneAt (P.shelf keeper.old).records at }
-    ensures failed { result ≡ Err OpenFault.KeeperFault → Rose (P.shelf keeper.old).faults (P.shelf keeper.new).faults }
-    ensures reads { OnOk result (P.reads keeper.new ≡ raised (P.reads keeper.old)) }
-    ensures read { (P.reads keeper.new ≡ P.reads keeper.old) ⊎ (P.reads keeper.new ≡ raised (P.reads keeper.old)) }
+    ensures found { IfOk result
+        (IsRecordAt (P.shelf keeper.old).records at) }
+    ensures bad { (place : ℕ) → result ≡ Err (OpenFault.BadRecord place) →
+        (place ≡ at) × IsNoneAt (P.shelf keeper.old).records at }
+    ensures failed { result ≡ Err OpenFault.KeeperFault →
+        Fails (P.shelf keeper.old) (P.shelf keeper.new) }
+    ensures reads { OnOk result (P.reads keeper.new ≡
+        raised (P.reads keeper.old)) }
+    ensures read { (P.reads keeper.new ≡ P.reads keeper.old)
+        ⊎ (P.reads keeper.new ≡ raised (P.reads keeper.old)) }
     ensures number { P.number keeper.new ≡ P.number keeper.old }
-    ensures records { (P.shelf keeper.new).records ≡ (P.shelf keeper.old).records }
+    ensures records { (P.shelf keeper.new).records ≡
+        (P.shelf keeper.old).records }
     ensures never_falls { (P.shelf keeper.old).faults ≤ (P.shelf keeper.new).faults }
 {
     let text = match keeper.read(alloc, at) {

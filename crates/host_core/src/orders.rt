@@ -1,8 +1,7 @@
 //! What a user asks of the host.
 
 ghost use Rattle.std.specs.Prelude.{◌≡◌, ◌+◌, ◌<◌, ◌≤◌, ◌∷◌, [], length, Some, None, Err, IfOk, OnOk, OnErr};
-ghost use Rattle.zw_base.specs.Faults.{Rose};
-ghost use Rattle.host_keep.specs.Keeping.{OptAdds};
+ghost use Rattle.host_keep.specs.Keeping.{Adds, Fails};
 ghost use Rattle.host_orders.specs.Errands.{RefusesOrNone, send_refusal, send_text, get_refusal, get_text};
 ghost use Rattle.host_orders.specs.Refusals.{Refuses, classes_of};
 ghost use Rattle.host_requests.specs.Frames.{StandsAlone};
@@ -69,17 +68,24 @@ impl From<NoMemory> for CancelFault {
 impl Host {
     /// A node joins, once that is kept.
     pub fn join<P: Keeper>(&mut self, node: NodeId, keeper: &mut P) -> Result<(), Refused>
-        ensures judged { KeptOrRefused result (join_refusal self.old.state node) }
-        ensures ok { OnOk result (Does (Are (Joins node ∷ [])) (scene self.old.state [] (P.shelf keeper.old))
+        ensures judged { KeptOrRefused result
+            (join_refusal self.old.state node) }
+        ensures ok { OnOk result
+            (Does (Are (Joins node ∷ []))
+            (scene self.old.state [] (P.shelf keeper.old))
             (scene self.new.state [] (P.shelf keeper.new))) }
         ensures decoder { self.new.decoder ≡ self.old.decoder }
         ensures err { OnErr result (self.new ≡ self.old) }
-        ensures no_record { OnErr result (OptAdds (P.shelf keeper.old).records (P.shelf keeper.new).records []) }
-        ensures failed { result ≡ Err Refused.KeeperFault → Rose (P.shelf keeper.old).faults (P.shelf keeper.new).faults }
+        ensures no_record { OnErr result
+            (Adds [] (P.shelf keeper.old) (P.shelf keeper.new)) }
+        ensures failed { result ≡ Err Refused.KeeperFault →
+            Fails (P.shelf keeper.old) (P.shelf keeper.new) }
         ensures never_falls { (P.shelf keeper.old).faults ≤ (P.shelf keeper.new).faults }
         ensures never_fewer { P.number keeper.old ≤ P.number keeper.new }
         ensures reads { P.reads keeper.new ≡ P.reads keeper.old }
-        ensures tables { TablesAreTold (P.shelf keeper.old).records self.old.state → TablesAreTold (P.shelf keeper.new).records self.new.state }
+        ensures tables { TablesAreTold
+            (P.shelf keeper.old).records self.old.state →
+            TablesAreTold (P.shelf keeper.new).records self.new.state }
     {
         if self.core.node(node).is_joined() || node.number() == CONTROLLER {
             return Err(Refused::AlreadyJoined);
@@ -95,18 +101,26 @@ impl Host {
     /// first of the rules that applies.
     pub fn command<P: Keeper>(&mut self, order: &Order, keeper: &mut P) -> Result<u32, Refused>
         ensures judged { Judges result (refusal_for self.old.state order.now) }
-        ensures number { IfOk result (λ number. number ≡ length self.old.state.commands + 1) }
-        ensures ok { OnOk result (Does (Are (Accepts order.now (carriage_for self.old.state order.now) ∷ []))
-            (scene self.old.state [] (P.shelf keeper.old)) (scene self.new.state [] (P.shelf keeper.new))) }
+        ensures number { IfOk result (λ number.
+            number ≡ length self.old.state.commands + 1) }
+        ensures ok { OnOk result
+            (Does (Are (Accepts order.now
+            (carriage_for self.old.state order.now) ∷ []))
+            (scene self.old.state [] (P.shelf keeper.old))
+            (scene self.new.state [] (P.shelf keeper.new))) }
         ensures decoder { self.new.decoder ≡ self.old.decoder }
         ensures err { OnErr result (self.new ≡ self.old) }
-        ensures no_record { OnErr result (OptAdds (P.shelf keeper.old).records (P.shelf keeper.new).records []) }
-        ensures failed { result ≡ Err Refused.KeeperFault → Rose (P.shelf keeper.old).faults (P.shelf keeper.new).faults }
+        ensures no_record { OnErr result
+            (Adds [] (P.shelf keeper.old) (P.shelf keeper.new)) }
+        ensures failed { result ≡ Err Refused.KeeperFault →
+            Fails (P.shelf keeper.old) (P.shelf keeper.new) }
         ensures never_falls { (P.shelf keeper.old).faults ≤ (P.shelf keeper.new).faults }
         ensures more { OnOk result (P.number keeper.old < P.number keeper.new) }
         ensures never_fewer { P.number keeper.old ≤ P.number keeper.new }
         ensures reads { P.reads keeper.new ≡ P.reads keeper.old }
-        ensures tables { TablesAreTold (P.shelf keeper.old).records self.old.state → TablesAreTold (P.shelf keeper.new).records self.new.state }
+        ensures tables { TablesAreTold
+            (P.shelf keeper.old).records self.old.state →
+            TablesAreTold (P.shelf keeper.new).records self.new.state }
     {
         tables_stand_in_the_records();
         self.core.accept(order, keeper)
@@ -115,16 +129,22 @@ impl Host {
     /// A command that waits is taken out of its mailbox, once that is kept.
     pub fn cancel<P: Keeper>(&mut self, command: u32, keeper: &mut P) -> Result<(), CancelFault>
         ensures judged { CancelsOrNot result (Waits self.old.state command) }
-        ensures ok { OnOk result (Does (Are (Cancels command ∷ [])) (scene self.old.state [] (P.shelf keeper.old))
+        ensures ok { OnOk result
+            (Does (Are (Cancels command ∷ []))
+            (scene self.old.state [] (P.shelf keeper.old))
             (scene self.new.state [] (P.shelf keeper.new))) }
         ensures decoder { self.new.decoder ≡ self.old.decoder }
         ensures err { OnErr result (self.new ≡ self.old) }
-        ensures no_record { OnErr result (OptAdds (P.shelf keeper.old).records (P.shelf keeper.new).records []) }
-        ensures failed { result ≡ Err CancelFault.KeeperFault → Rose (P.shelf keeper.old).faults (P.shelf keeper.new).faults }
+        ensures no_record { OnErr result
+            (Adds [] (P.shelf keeper.old) (P.shelf keeper.new)) }
+        ensures failed { result ≡ Err CancelFault.KeeperFault →
+            Fails (P.shelf keeper.old) (P.shelf keeper.new) }
         ensures never_falls { (P.shelf keeper.old).faults ≤ (P.shelf keeper.new).faults }
         ensures never_fewer { P.number keeper.old ≤ P.number keeper.new }
         ensures reads { P.reads keeper.new ≡ P.reads keeper.old }
-        ensures tables { TablesAreTold (P.shelf keeper.old).records self.old.state → TablesAreTold (P.shelf keeper.new).records self.new.state }
+        ensures tables { TablesAreTold
+            (P.shelf keeper.old).records self.old.state →
+            TablesAreTold (P.shelf keeper.new).records self.new.state }
     {
         let node = match self.core.command_at(command) {
             Some(found) => found.order().node,
@@ -142,9 +162,14 @@ impl Host {
 
     /// A Set that is not reported waits to be sent.
     pub fn send(&mut self, node: NodeId, word: Word) -> Result<(), Refused>
-        ensures judged { RefusesOrNone result (send_refusal (known_of (node_of self.old.state node)) (length self.old.state.requests.queue) word) }
+        ensures judged { RefusesOrNone result
+            (send_refusal (known_of (node_of self.old.state node))
+            (length self.old.state.requests.queue) word) }
         ensures ok { OnOk result (DoesAlone
-            (Are (Queues (Plain node (send_text (classes_of (known_of (node_of self.old.state node))) word)) ∷ [])) self.old.state [] self.new.state []) }
+            (Are (Queues (Plain node
+            (send_text (classes_of (known_of (node_of self.old.state node)))
+            word)) ∷ []))
+            self.old.state [] self.new.state []) }
         ensures decoder { self.new.decoder ≡ self.old.decoder }
         ensures err { OnErr result (self.new ≡ self.old) }
         ensures tables { SameTables self.old.state self.new.state }
@@ -156,9 +181,14 @@ impl Host {
 
     /// A Get waits to be sent.
     pub fn get(&mut self, node: NodeId, end: EndPoint) -> Result<(), Refused>
-        ensures judged { RefusesOrNone result (get_refusal (known_of (node_of self.old.state node)) (length self.old.state.requests.queue) end) }
+        ensures judged { RefusesOrNone result
+            (get_refusal (known_of (node_of self.old.state node))
+            (length self.old.state.requests.queue) end) }
         ensures ok { OnOk result (DoesAlone
-            (Are (Queues (Plain node (get_text (classes_of (known_of (node_of self.old.state node))) end)) ∷ [])) self.old.state [] self.new.state []) }
+            (Are (Queues (Plain node
+            (get_text (classes_of (known_of (node_of self.old.state node)))
+            end)) ∷ []))
+            self.old.state [] self.new.state []) }
         ensures decoder { self.new.decoder ≡ self.old.decoder }
         ensures err { OnErr result (self.new ≡ self.old) }
         ensures tables { SameTables self.old.state self.new.state }
@@ -170,8 +200,11 @@ impl Host {
 
     /// The two requests of an interview wait to be submitted.
     pub fn interview(&mut self, node: NodeId) -> Result<(), Refused>
-        ensures judged { Refuses result (interview_refusal self.old.state node) }
-        ensures ok { OnOk result (DoesAlone (Are (Queues_interview node ∷ [])) self.old.state [] self.new.state []) }
+        ensures judged { Refuses result
+            (interview_refusal self.old.state node) }
+        ensures ok { OnOk result
+            (DoesAlone (Are (Queues_interview node ∷ []))
+            self.old.state [] self.new.state []) }
         ensures decoder { self.new.decoder ≡ self.old.decoder }
         ensures err { OnErr result (self.new ≡ self.old) }
         ensures tables { SameTables self.old.state self.new.state }
@@ -186,8 +219,11 @@ impl Host {
 
     /// A question to the chip waits to be submitted.
     pub fn ask(&mut self, question: Question) -> Result<(), Refused>
-        ensures judged { Refuses result (places_refusal self.old.state (places_of question)) }
-        ensures ok { OnOk result (DoesAlone (Are (question_event question ∷ [])) self.old.state [] self.new.state []) }
+        ensures judged { Refuses result
+            (places_refusal self.old.state (places_of question)) }
+        ensures ok { OnOk result
+            (DoesAlone (Are (question_event question ∷ []))
+            self.old.state [] self.new.state []) }
         ensures decoder { self.new.decoder ≡ self.old.decoder }
         ensures err { OnErr result (self.new ≡ self.old) }
         ensures tables { SameTables self.old.state self.new.state }
@@ -206,8 +242,12 @@ impl Host {
 
     // The payload of a Set that is not reported, where no rule refuses it. Then there is a place for it.
     fn set_text(&self, node: NodeId, word: Word) -> Result<Payload, Refused>
-        ensures judged { RefusesOrNone result (send_refusal (known_of (node_of self.now.state node)) (length self.now.state.requests.queue) word) }
-        ensures text { IfOk result (λ payload. payload ≡ send_text (classes_of (known_of (node_of self.now.state node))) word) }
+        ensures judged { RefusesOrNone result
+            (send_refusal (known_of (node_of self.now.state node))
+            (length self.now.state.requests.queue) word) }
+        ensures text { IfOk result (λ payload.
+            payload ≡ send_text (classes_of
+            (known_of (node_of self.now.state node))) word) }
         ensures some { IfOk result (λ payload. 1 ≤ length payload) }
         ensures room { OnOk result (length self.now.state.requests.queue < 64) }
     {
@@ -224,8 +264,12 @@ impl Host {
 
     // The same of a Get.
     fn get_text(&self, node: NodeId, end: EndPoint) -> Result<Payload, Refused>
-        ensures judged { RefusesOrNone result (get_refusal (known_of (node_of self.now.state node)) (length self.now.state.requests.queue) end) }
-        ensures text { IfOk result (λ payload. payload ≡ get_text (classes_of (known_of (node_of self.now.state node))) end) }
+        ensures judged { RefusesOrNone result
+            (get_refusal (known_of (node_of self.now.state node))
+            (length self.now.state.requests.queue) end) }
+        ensures text { IfOk result (λ payload.
+            payload ≡ get_text (classes_of
+            (known_of (node_of self.now.state node))) end) }
         ensures some { IfOk result (λ payload. 1 ≤ length payload) }
         ensures room { OnOk result (length self.now.state.requests.queue < 64) }
     {
@@ -244,7 +288,9 @@ impl Host {
     fn queue_one(&mut self, task: Task) -> Result<(), Refused>
         requires { StandsAlone task }
         ensures judged { Refuses result (places_refusal self.old.state 1) }
-        ensures ok { OnOk result (DoesAlone (Are (Queues task ∷ [])) self.old.state [] self.new.state []) }
+        ensures ok { OnOk result
+            (DoesAlone (Are (Queues task ∷ []))
+            self.old.state [] self.new.state []) }
         ensures decoder { self.new.decoder ≡ self.old.decoder }
         ensures err { OnErr result (self.new ≡ self.old) }
         ensures tables { SameTables self.old.state self.new.state }

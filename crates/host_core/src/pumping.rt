@@ -5,7 +5,7 @@ ghost use Rattle.host_node.specs.declared.series.Series.TheVariants.{Idle, Due, 
 ghost use Rattle.host_model.specs.State.{node_of};
 ghost use Rattle.host_model.specs.May.{IsServed};
 ghost use Rattle.host_model.specs.Pumping.{Pumps, Submits, IsServedBy, GivesNext, turns_left};
-ghost use Rattle.host_step_bytes.specs.Calls.{scene, Does, Stops, DoesAlone, StopsAlone, One, Turns};
+ghost use Rattle.host_step_bytes.specs.Calls.{seen, Does, Stops, DoesAlone, StopsAlone, One, Turns};
 
 use crate::sleeping::let_sleep;
 use host_keep::Keeper;
@@ -20,11 +20,13 @@ pub(crate) fn pump<P: Keeper>(
     out: &mut List<HostOut>,
     keeper: &mut P,
 ) -> Result<(), NoMemory>
-    ensures ok { OnOk result (Does (Pumps core.old.state) (scene core.old.state out.old.items (P.shelf keeper.old))
-        (scene core.new.state out.new.items (P.shelf keeper.new))) }
+    ensures ok { OnOk result (Does (Pumps core.old.state)
+        (seen P.shelf core.old out.old keeper.old)
+        (seen P.shelf core.new out.new keeper.new)) }
     ensures decoder { core.new.decoder ≡ core.old.decoder }
-    ensures err { OnErr result (Stops (scene core.old.state out.old.items (P.shelf keeper.old))
-        (scene core.new.state out.new.items (P.shelf keeper.new))) }
+    ensures err { OnErr result (Stops
+        (seen P.shelf core.old out.old keeper.old)
+        (seen P.shelf core.new out.new keeper.new)) }
     ensures never_fewer { P.number keeper.old ≤ P.number keeper.new }
     ensures reads { P.reads keeper.new ≡ P.reads keeper.old }
 {
@@ -40,11 +42,12 @@ fn submit<P: Keeper>(
     keeper: &mut P,
 ) -> Result<(), NoMemory>
     ensures ok { OnOk result (Does (Submits core.old.state)
-        (scene core.old.state out.old.items (P.shelf keeper.old))
-        (scene core.new.state out.new.items (P.shelf keeper.new))) }
+        (seen P.shelf core.old out.old keeper.old)
+        (seen P.shelf core.new out.new keeper.new)) }
     ensures decoder { core.new.decoder ≡ core.old.decoder }
-    ensures err { OnErr result (Stops (scene core.old.state out.old.items (P.shelf keeper.old))
-        (scene core.new.state out.new.items (P.shelf keeper.new))) }
+    ensures err { OnErr result (Stops
+        (seen P.shelf core.old out.old keeper.old)
+        (seen P.shelf core.new out.new keeper.new)) }
     ensures never_fewer { P.number keeper.old ≤ P.number keeper.new }
     ensures reads { P.reads keeper.new ≡ P.reads keeper.old }
 {
@@ -60,12 +63,14 @@ fn submit_next<P: Keeper>(
     keeper: &mut P,
 ) -> Result<bool, NoMemory>
     ensures turns { IfOk result (λ submitted. Turns submitted
-        (scene core.old.state out.old.items (P.shelf keeper.old))
-        (scene core.new.state out.new.items (P.shelf keeper.new))) }
-    ensures fewer { IfOk result (λ submitted. submitted ≡ true → turns_left core.new.state < turns_left core.old.state) }
+        (seen P.shelf core.old out.old keeper.old)
+        (seen P.shelf core.new out.new keeper.new)) }
+    ensures fewer { IfOk result (λ submitted. submitted ≡ true →
+        turns_left core.new.state < turns_left core.old.state) }
     ensures decoder { core.new.decoder ≡ core.old.decoder }
-    ensures err { OnErr result (Stops (scene core.old.state out.old.items (P.shelf keeper.old))
-        (scene core.new.state out.new.items (P.shelf keeper.new))) }
+    ensures err { OnErr result (Stops
+        (seen P.shelf core.old out.old keeper.old)
+        (seen P.shelf core.new out.new keeper.new)) }
     ensures never_fewer { P.number keeper.old ≤ P.number keeper.new }
     ensures reads { P.reads keeper.new ≡ P.reads keeper.old }
 {
@@ -99,12 +104,15 @@ fn serve<P: Keeper>(
     keeper: &mut P,
 ) -> Result<(), NoMemory>
     requires { IsServed core.old.state node }
-    ensures ok { OnOk result (Does (One (IsServedBy core.old.state node (node_of core.old.state node).series))
-        (scene core.old.state out.old.items (P.shelf keeper.old))
-        (scene core.new.state out.new.items (P.shelf keeper.new))) }
+    ensures ok { OnOk result
+        (Does (One (IsServedBy core.old.state node
+        (node_of core.old.state node).series))
+        (seen P.shelf core.old out.old keeper.old)
+        (seen P.shelf core.new out.new keeper.new)) }
     ensures decoder { core.new.decoder ≡ core.old.decoder }
-    ensures err { OnErr result (Stops (scene core.old.state out.old.items (P.shelf keeper.old))
-        (scene core.new.state out.new.items (P.shelf keeper.new))) }
+    ensures err { OnErr result (Stops
+        (seen P.shelf core.old out.old keeper.old)
+        (seen P.shelf core.new out.new keeper.new)) }
     ensures never_fewer { P.number keeper.old ≤ P.number keeper.new }
     ensures reads { P.reads keeper.new ≡ P.reads keeper.old }
 {
@@ -129,9 +137,11 @@ fn go_on(core: &mut HostCore, node: NodeId, out: &mut List<HostOut>) -> Result<(
     requires served { IsServed core.old.state node }
     requires running { (node_of core.old.state node).series ≡ Running }
     ensures ok { OnOk result (DoesAlone
-        (One (GivesNext core.old.state node (node_of core.old.state node).text)) core.old.state out.old.items core.new.state out.new.items) }
+        (One (GivesNext core.old.state node (node_of core.old.state node).text))
+        core.old.state out.old.items core.new.state out.new.items) }
     ensures decoder { core.new.decoder ≡ core.old.decoder }
-    ensures err { OnErr result (StopsAlone core.old.state out.old.items core.new.state out.new.items) }
+    ensures err { OnErr result
+        (StopsAlone core.old.state out.old.items core.new.state out.new.items) }
 {
     attempts_have_what_they_give();
     match core.node(node).text() {
@@ -152,9 +162,12 @@ fn give_segment(core: &mut HostCore, node: NodeId, out: &mut List<HostOut>) -> R
     requires served { IsServed core.old.state node }
     requires running { (node_of core.old.state node).series ≡ Running }
     requires text { (node_of core.old.state node).text ≡ None }
-    ensures ok { OnOk result (DoesAlone (One (GivesNext core.old.state node None)) core.old.state out.old.items core.new.state out.new.items) }
+    ensures ok { OnOk result
+        (DoesAlone (One (GivesNext core.old.state node None))
+        core.old.state out.old.items core.new.state out.new.items) }
     ensures decoder { core.new.decoder ≡ core.old.decoder }
-    ensures err { OnErr result (StopsAlone core.old.state out.old.items core.new.state out.new.items) }
+    ensures err { OnErr result
+        (StopsAlone core.old.state out.old.items core.new.state out.new.items) }
 {
     attempts_have_what_they_give();
     a_pump_ends();
@@ -171,9 +184,12 @@ fn give_segment(core: &mut HostCore, node: NodeId, out: &mut List<HostOut>) -> R
 fn start(core: &mut HostCore, node: NodeId, out: &mut List<HostOut>) -> Result<(), NoMemory>
     requires served { IsServed core.old.state node }
     requires due { (node_of core.old.state node).series ≡ Due }
-    ensures ok { OnOk result (DoesAlone (One (IsServedBy core.old.state node Due)) core.old.state out.old.items core.new.state out.new.items) }
+    ensures ok { OnOk result
+        (DoesAlone (One (IsServedBy core.old.state node Due))
+        core.old.state out.old.items core.new.state out.new.items) }
     ensures decoder { core.new.decoder ≡ core.old.decoder }
-    ensures err { OnErr result (StopsAlone core.old.state out.old.items core.new.state out.new.items) }
+    ensures err { OnErr result
+        (StopsAlone core.old.state out.old.items core.new.state out.new.items) }
 {
     attempts_have_what_they_give();
     a_pump_ends();
@@ -192,12 +208,14 @@ fn begin<P: Keeper>(
 ) -> Result<(), NoMemory>
     requires served { IsServed core.old.state node }
     requires idle { (node_of core.old.state node).series ≡ Idle }
-    ensures ok { OnOk result (Does (One (IsServedBy core.old.state node Idle))
-        (scene core.old.state out.old.items (P.shelf keeper.old))
-        (scene core.new.state out.new.items (P.shelf keeper.new))) }
+    ensures ok { OnOk result
+        (Does (One (IsServedBy core.old.state node Idle))
+        (seen P.shelf core.old out.old keeper.old)
+        (seen P.shelf core.new out.new keeper.new)) }
     ensures decoder { core.new.decoder ≡ core.old.decoder }
-    ensures err { OnErr result (Stops (scene core.old.state out.old.items (P.shelf keeper.old))
-        (scene core.new.state out.new.items (P.shelf keeper.new))) }
+    ensures err { OnErr result (Stops
+        (seen P.shelf core.old out.old keeper.old)
+        (seen P.shelf core.new out.new keeper.new)) }
     ensures never_fewer { P.number keeper.old ≤ P.number keeper.new }
     ensures reads { P.reads keeper.new ≡ P.reads keeper.old }
 {

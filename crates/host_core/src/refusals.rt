@@ -33,7 +33,8 @@ pub fn refusal_of(refused: Refused) -> Result<Refusal, NoMemory>
 
 /// What is entered of a command that is not cancelled; an allocation failure is no refusal.
 pub fn uncancelled_as(command: u32, fault: CancelFault) -> Result<Refusal, NoMemory>
-    ensures ok { IfOk result (λ refusal. shown_uncancelled command fault ≡ Some refusal) }
+    ensures ok { IfOk result (λ refusal.
+        shown_uncancelled command fault ≡ Some refusal) }
     ensures err { OnErr result (fault ≡ CancelFault.NoMemory) }
 {
     match fault {

@@ -12,9 +12,13 @@ use zw_base::{List, NoMemory};
 
 /// A tick passes.
 pub(crate) fn tick(core: &mut HostCore, out: &mut List<HostOut>) -> Result<(), NoMemory>
-    ensures ok { OnOk result (DoesAlone (Are (tick_events core.old.state)) core.old.state out.old.items core.new.state out.new.items) }
-    ensures decoder { OnOk result (core.new.decoder ≡ after_tick core.old.decoder) }
-    ensures err { OnErr result (StopsAlone core.old.state out.old.items core.new.state out.new.items) }
+    ensures ok { OnOk result
+        (DoesAlone (Are (tick_events core.old.state))
+        core.old.state out.old.items core.new.state out.new.items) }
+    ensures decoder { OnOk result (core.new.decoder ≡
+        after_tick core.old.decoder) }
+    ensures err { OnErr result
+        (StopsAlone core.old.state out.old.items core.new.state out.new.items) }
 {
     core.tick_line(out)?;
     core.tick_request(out)?;
@@ -24,9 +28,12 @@ pub(crate) fn tick(core: &mut HostCore, out: &mut List<HostOut>) -> Result<(), N
 
 // Each node with a wait counts the tick, in the order of their numbers.
 fn tick_nodes(core: &mut HostCore, out: &mut List<HostOut>) -> Result<(), NoMemory>
-    ensures ok { OnOk result (DoesAlone (Are (map Node_ticks (ticking_nodes core.old.state))) core.old.state out.old.items core.new.state out.new.items) }
+    ensures ok { OnOk result
+        (DoesAlone (Are (map Node_ticks (ticking_nodes core.old.state)))
+        core.old.state out.old.items core.new.state out.new.items) }
     ensures decoder { core.new.decoder ≡ core.old.decoder }
-    ensures err { OnErr result (StopsAlone core.old.state out.old.items core.new.state out.new.items) }
+    ensures err { OnErr result
+        (StopsAlone core.old.state out.old.items core.new.state out.new.items) }
 {
     ticks_of_nodes_go_on();
     let mut last = 0;

@@ -67,7 +67,8 @@ fn source_of(ends: Option<Ends>) -> EndPoint
 
 /// What messages from that end point tell.
 fn read_all(alloc: Global, end: EndPoint, commands: &[Bytes]) -> Result<Heard, NoMemory>
-    ensures { IfOk result (λ heard. heard ≡ heard_by (told_all end commands.now)) }
+    ensures { IfOk result (λ heard.
+        heard ≡ heard_by (told_all end commands.now)) }
 {
     let mut messages: Sequence<Told> = Sequence::new(alloc);
     for command in commands {

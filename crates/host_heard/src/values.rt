@@ -73,7 +73,8 @@ fn core_reported(
 
 /// That value alone.
 fn one(alloc: Global, end: EndPoint, name: Name, value: u32) -> Result<Sequence<Setting>, NoMemory>
-    ensures { IfOk result (λ values. values ≡ value_at end name value ∷ []) }
+    ensures { IfOk result (λ values.
+        values ≡ value_at end name value ∷ []) }
 {
     Sequence::from_slice(alloc, &[setting(end, name, value)])
 }
@@ -85,7 +86,9 @@ fn all_members(
     group: u8,
     nodes: &[NodeId],
 ) -> Result<Sequence<Setting>, NoMemory>
-    ensures { IfOk result (λ values. values ≡ map (λ node. value_at end (Name.Member group node) 1) nodes.now) }
+    ensures { IfOk result (λ values.
+        values ≡ map (λ node. value_at end
+        (Name.Member group node) 1) nodes.now) }
 {
     let mut values = Sequence::new(alloc);
     for node in nodes {

@@ -17,10 +17,18 @@ abbrev pub IsKeptAt : Option (List (List ℕ)) → ℕ → List ℕ → Type 0
 IsKeptAt None at bytes = Unit {0}
 IsKeptAt (Some records) at bytes = slice_get records at ≡ Some bytes
 
+-- these records are added to what a keeper holds
+abbrev pub Adds : List (List ℕ) → Shelf → Shelf → Type 0
+Adds texts before after = OptAdds before.records after.records texts
+
+-- a keeper failed, and counted that
+abbrev pub Fails : Shelf → Shelf → Type 0
+Fails before after = Rose before.faults after.faults
+
 -- a record that was to be kept is added; or it is not, and the keeper failed
 abbrev pub Kept : Bool → List ℕ → Shelf → Shelf → Type 0
-Kept true bytes before after = OptAdds before.records after.records (bytes ∷ [])
-Kept false bytes before after = OptAdds before.records after.records [] × Rose before.faults after.faults
+Kept true bytes before after = Adds (bytes ∷ []) before after
+Kept false bytes before after = Adds [] before after × Fails before after
 
 -- one record more, where it was kept
 abbrev pub added : Bool → ℕ

@@ -31,7 +31,8 @@ impl Model for MemoryKeeper {
 impl MemoryKeeper {
     /// No records.
     pub fn new(alloc: Global, failing: &[u64]) -> Result<MemoryKeeper, NoMemory>
-        ensures { IfOk result (λ k. k ≡ record { records = []; calls = 0; failing = failing.now; faults = 0; reads = 0 }) }
+        ensures { IfOk result (λ k.
+            k ≡ record { records = []; calls = 0; failing = failing.now; faults = 0; reads = 0 }) }
     {
         Ok(MemoryKeeper {
             alloc,
@@ -45,9 +46,12 @@ impl MemoryKeeper {
 
     /// Counts a call, and answers whether it is one that is to fail, which counts as a fault.
     fn fails(&mut self) -> bool
-        ensures chosen { IsTrue result ↔ Contains self.old.failing (raised self.old.calls) }
-        ensures failed { IsTrue result → self.new ≡ record self.old { calls = raised self.old.calls; faults = raised self.old.faults } }
-        ensures called { result ≡ false → self.new ≡ record self.old { calls = raised self.old.calls } }
+        ensures chosen { IsTrue result ↔
+            Contains self.old.failing (raised self.old.calls) }
+        ensures failed { IsTrue result →
+            self.new ≡ record self.old { calls = raised self.old.calls; faults = raised self.old.faults } }
+        ensures called { result ≡ false →
+            self.new ≡ record self.old { calls = raised self.old.calls } }
         ensures never_falls { self.old.faults ≤ self.new.faults }
     {
         self.calls = self.calls.saturating_add(1);
@@ -79,19 +83,27 @@ impl Keeper for MemoryKeeper {
     ghost tells_all = { λ k told e. Rattle.host_keep.specs.Keeping.length-told e };
 
     fn append(&mut self, bytes: &[u8]) -> Result<(), KeepFault>
-        ensures added { OnOk result (length self.new.records ≡ length self.old.records + 1) }
-        ensures records { OnOk result (OptAdds (Some self.old.records) (Some self.new.records) (bytes.now ∷ [])) }
-        ensures not_added { OnErr result (length self.new.records ≡ length self.old.records) }
-        ensures unchanged { OnErr result (OptAdds (Some self.old.records) (Some self.new.records) []) }
+        ensures added { OnOk result (length self.new.records ≡
+            length self.old.records + 1) }
+        ensures records { OnOk result
+            (OptAdds (Some self.old.records)
+            (Some self.new.records) (bytes.now ∷ [])) }
+        ensures not_added { OnErr result
+            (length self.new.records ≡ length self.old.records) }
+        ensures unchanged { OnErr result
+            (OptAdds (Some self.old.records) (Some self.new.records) []) }
         ensures reads { self.new.reads ≡ self.old.reads }
         ensures never_falls { self.old.faults ≤ self.new.faults }
-        ensures failed { result ≡ Err KeepFault.Failed → Rose self.old.faults self.new.faults }
+        ensures failed { result ≡ Err KeepFault.Failed →
+            Rose self.old.faults self.new.faults }
 
         // Exactly the chosen calls fail.
         ensures calls { self.new.calls ≡ raised self.old.calls }
         ensures failing { self.new.failing ≡ self.old.failing }
-        ensures fails { (result ≡ Err KeepFault.Failed) ↔ Contains self.old.failing (raised self.old.calls) }
-        ensures counted { result ≡ Err KeepFault.Failed → self.new.faults ≡ raised self.old.faults }
+        ensures fails { (result ≡ Err KeepFault.Failed) ↔
+            Contains self.old.failing (raised self.old.calls) }
+        ensures counted { result ≡ Err KeepFault.Failed →
+            self.new.faults ≡ raised self.old.faults }
     {
         if self.fails() {
             return Err(KeepFault::Failed);
@@ -107,19 +119,24 @@ impl Keeper for MemoryKeeper {
 
     fn read(&mut self, alloc: Global, at: u64) -> Result<Bytes, KeepFault>
         requires { at < length self.old.records }
-        ensures found { IfOk result (λ bytes. IsKeptAt (Some self.old.records) at bytes) }
+        ensures found { IfOk result (λ bytes.
+            IsKeptAt (Some self.old.records) at bytes) }
         ensures number { length self.new.records ≡ length self.old.records }
-        ensures records { OptAdds (Some self.old.records) (Some self.new.records) [] }
+        ensures records { OptAdds (Some self.old.records)
+            (Some self.new.records) [] }
         ensures reads { OnOk result (self.new.reads ≡ raised self.old.reads) }
         ensures not_read { OnErr result (self.new.reads ≡ self.old.reads) }
         ensures never_falls { self.old.faults ≤ self.new.faults }
-        ensures failed { result ≡ Err KeepFault.Failed → Rose self.old.faults self.new.faults }
+        ensures failed { result ≡ Err KeepFault.Failed →
+            Rose self.old.faults self.new.faults }
 
         // Exactly the chosen calls fail.
         ensures calls { self.new.calls ≡ raised self.old.calls }
         ensures failing { self.new.failing ≡ self.old.failing }
-        ensures fails { (result ≡ Err KeepFault.Failed) ↔ Contains self.old.failing (raised self.old.calls) }
-        ensures counted { result ≡ Err KeepFault.Failed → self.new.faults ≡ raised self.old.faults }
+        ensures fails { (result ≡ Err KeepFault.Failed) ↔
+            Contains self.old.failing (raised self.old.calls) }
+        ensures counted { result ≡ Err KeepFault.Failed →
+            self.new.faults ≡ raised self.old.faults }
     {
         if self.fails() {
             return Err(KeepFault::Failed);

@@ -49,10 +49,15 @@ impl Keeper for PlainKeeper {
     ghost tells_all = { λ k told e. Rattle.host_keep.specs.Keeping.length-told e };
 
     fn append(&mut self, bytes: &[u8]) -> Result<(), KeepFault>
-        ensures added { OnOk result (length self.new.records ≡ length self.old.records + 1) }
-        ensures records { OnOk result (OptAdds (Some self.old.records) (Some self.new.records) (bytes.now ∷ [])) }
-        ensures not_added { OnErr result (length self.new.records ≡ length self.old.records) }
-        ensures unchanged { OnErr result (OptAdds (Some self.old.records) (Some self.new.records) []) }
+        ensures added { OnOk result (length self.new.records ≡
+            length self.old.records + 1) }
+        ensures records { OnOk result
+            (OptAdds (Some self.old.records)
+            (Some self.new.records) (bytes.now ∷ [])) }
+        ensures not_added { OnErr result
+            (length self.new.records ≡ length self.old.records) }
+        ensures unchanged { OnErr result
+            (OptAdds (Some self.old.records) (Some self.new.records) []) }
         ensures reads { self.new.reads ≡ self.old.reads }
         ensures never_falls { 0 ≤ 0 }
         ensures failed { result ≡ Err KeepFault.Failed → Rose 0 0 }
@@ -68,9 +73,11 @@ impl Keeper for PlainKeeper {
 
     fn read(&mut self, alloc: Global, at: u64) -> Result<Bytes, KeepFault>
         requires { at < length self.old.records }
-        ensures found { IfOk result (λ bytes. IsKeptAt (Some self.old.records) at bytes) }
+        ensures found { IfOk result (λ bytes.
+            IsKeptAt (Some self.old.records) at bytes) }
         ensures number { length self.new.records ≡ length self.old.records }
-        ensures records { OptAdds (Some self.old.records) (Some self.new.records) [] }
+        ensures records { OptAdds (Some self.old.records)
+            (Some self.new.records) [] }
         ensures reads { OnOk result (self.new.reads ≡ raised self.old.reads) }
         ensures not_read { OnErr result (self.new.reads ≡ self.old.reads) }
         ensures never_falls { 0 ≤ 0 }

@@ -57,8 +57,10 @@ impl<T: Drop> From<AllocFailed<T>> for RecordFault {
 
 /// The JSON value of a text, where it is that of a row of numbers.
 fn parse(alloc: Global, bytes: &[u8]) -> Result<Value, RecordFault>
-    ensures row { (numbers : List ℕ) → bytes.now ≡ row_text numbers → AreLong numbers → IfOk result (λ value. view value ≡ row_data numbers) }
-    ensures bad { (numbers : List ℕ) → bytes.now ≡ row_text numbers → AreLong numbers → result ≢ Err RecordFault.Bad }
+    ensures row { (numbers : List ℕ) → bytes.now ≡ row_text numbers →
+        AreLong numbers → IfOk result (λ value. view value ≡ row_data numbers) }
+    ensures bad { (numbers : List ℕ) → bytes.now ≡ row_text numbers →
+        AreLong numbers → result ≢ Err RecordFault.Bad }
 {
     match Value::from_slice(alloc, bytes) {
         Ok(value) => Ok(value),
@@ -69,8 +71,10 @@ fn parse(alloc: Global, bytes: &[u8]) -> Result<Value, RecordFault>
 
 /// The numbers of a JSON array.
 fn numbers_in(alloc: Global, value: &Value) -> Result<Vec<u64>, RecordFault>
-    ensures row { (numbers : List ℕ) → view value.now ≡ row_data numbers → IfOk result (λ found. found.items ≡ numbers) }
-    ensures bad { (numbers : List ℕ) → view value.now ≡ row_data numbers → result ≢ Err RecordFault.Bad }
+    ensures row { (numbers : List ℕ) → view value.now ≡ row_data numbers →
+        IfOk result (λ found. found.items ≡ numbers) }
+    ensures bad { (numbers : List ℕ) →
+        view value.now ≡ row_data numbers → result ≢ Err RecordFault.Bad }
 {
     let Some(items) = value.as_array() else {
         return Err(RecordFault::Bad);
@@ -89,7 +93,8 @@ fn numbers_in(alloc: Global, value: &Value) -> Result<Vec<u64>, RecordFault>
 /// found is written as, so that no blank, no leading zero and no further number is taken.
 fn find_record(alloc: Global, bytes: &[u8]) -> Result<Record, RecordFault>
     ensures found { IfOk result (λ found. IsTextOf found bytes.now) }
-    ensures only { (kept : TheRecord) → IsTextOf kept bytes.now → Gives result (Ok kept) }
+    ensures only { (kept : TheRecord) →
+        IsTextOf kept bytes.now → Gives result (Ok kept) }
 {
     let value = parse(alloc, bytes)?;
     let numbers = numbers_in(alloc, &value)?;
@@ -107,7 +112,8 @@ pub fn read_record(alloc: Global, bytes: &[u8]) -> Result<Record, RecordFault>
     // What is found has this text.
     ensures found { IfOk result (λ found. IsTextOf found bytes.now) }
     // What has this text is found, unless there was no memory.
-    ensures only { (kept : TheRecord) → IsTextOf kept bytes.now → Gives result (Ok kept) }
+    ensures only { (kept : TheRecord) →
+        IsTextOf kept bytes.now → Gives result (Ok kept) }
     // Bad is exactly what is the text of no record.
     ensures bad { result ≡ Err RecordFault.Bad → IsNoText bytes.now }
 {

@@ -86,7 +86,8 @@ fn bounds_of(bytes: &[u8], ends: &[usize], at: usize) -> (usize, usize)
     requires within { at < length ends.now }
     ensures in_order { result.0 ≤ result.1 }
     ensures to_end { result.1 ≤ length bytes.now }
-    ensures text { slice_get (texts_of bytes.now 0 ends.now) at ≡ Some (slice_range bytes.now result.0 result.1) }
+    ensures text { slice_get (texts_of bytes.now 0 ends.now) at ≡
+        Some (slice_range bytes.now result.0 result.1) }
 {
     (begin_at(ends, at), ends[at])
 }

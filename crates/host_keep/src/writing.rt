@@ -19,7 +19,8 @@ const MOST_BEFORE_BYTES: usize = 8;
 
 /// Adds bytes as numbers.
 fn put_bytes(numbers: &mut Vec<u64>, bytes: &[u8]) -> Result<(), AllocError>
-    ensures numbers { OnOk result (numbers.new.items ≡ numbers.old.items ++ bytes.now) }
+    ensures numbers { OnOk result (numbers.new.items ≡
+        numbers.old.items ++ bytes.now) }
     ensures range { AreBytes bytes.now }
 {
     numbers.reserve(bytes.len())?;
@@ -31,7 +32,8 @@ fn put_bytes(numbers: &mut Vec<u64>, bytes: &[u8]) -> Result<(), AllocError>
 
 /// Adds a value in words.
 fn put_word(numbers: &mut Vec<u64>, word: Word) -> Result<(), AllocError>
-    ensures numbers { OnOk result (numbers.new.items ≡ numbers.old.items ++ what_numbers (What.Value word)) }
+    ensures numbers { OnOk result (numbers.new.items ≡
+        numbers.old.items ++ what_numbers (What.Value word)) }
     ensures range { IsWord word }
 {
     match word {
@@ -44,7 +46,8 @@ fn put_word(numbers: &mut Vec<u64>, word: Word) -> Result<(), AllocError>
 
 /// Adds what is asked.
 fn put_what(numbers: &mut Vec<u64>, what: &What) -> Result<(), AllocError>
-    ensures numbers { OnOk result (numbers.new.items ≡ numbers.old.items ++ what_numbers what.now) }
+    ensures numbers { OnOk result (numbers.new.items ≡
+        numbers.old.items ++ what_numbers what.now) }
     ensures range { OnOk result (IsWhat what.now) }
 {
     match what {
@@ -87,7 +90,8 @@ fn number_of(node: NodeId) -> u64
 
 /// The numbers of a record.
 fn numbers_of(alloc: Global, kept: &Record) -> Result<Vec<u64>, AllocError>
-    ensures numbers { IfOk result (λ numbers. numbers.items ≡ numbers_of kept.now) }
+    ensures numbers { IfOk result (λ numbers.
+        numbers.items ≡ numbers_of kept.now) }
     ensures range { OnOk result (IsRecord kept.now) }
 {
     let mut numbers = Vec::with_capacity(alloc, MOST_BEFORE_BYTES)?;

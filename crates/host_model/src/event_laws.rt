@@ -14,14 +14,16 @@ use host_node::facts_of_all_are_kept;
 /// A host begins with its facts, and each event that may happen keeps them.
 pub fn facts_are_kept()
     ensures first { (keys : Keys) → HostFacts (first_host keys) }
-    ensures each { (h : HostState) (event : HostEvent) → HostFacts h → May h event → HostFacts (after h event) }
+    ensures each { (h : HostState) (event : HostEvent) →
+        HostFacts h → May h event → HostFacts (after h event) }
 {
     facts_of_all_are_kept();
 }
 
 /// Events one after another keep them too.
 pub fn facts_are_kept_by_all()
-    ensures { (h : HostState) (events : List HostEvent) → HostFacts h → MayAll h events → HostFacts (after_all h events) }
+    ensures { (h : HostState) (events : List HostEvent) →
+        HostFacts h → MayAll h events → HostFacts (after_all h events) }
 {
     facts_of_all_are_kept();
 }

@@ -25,10 +25,13 @@ pub fn a_host_begins_with_what_is_kept()
 /// An event of a host does to its tables what its records do: those without a record leave what is held. So do events one after
 /// another.
 pub fn events_do_what_their_records_do()
-    ensures one { (h : HostState) (kept : Kept) (event : HostEvent) → HostFacts h → May h event → Holds h kept →
+    ensures one { (h : HostState) (kept : Kept) (event : HostEvent) →
+        HostFacts h → May h event → Holds h kept →
         Holds (after h event) (kept_after_all kept (records_at h event)) }
-    ensures all { (h : HostState) (kept : Kept) (events : List HostEvent) → HostFacts h → MayAll h events → Holds h kept →
-        Holds (after_all h events) (kept_after_all kept (records_all h events)) }
+    ensures all { (h : HostState) (kept : Kept) (events : List HostEvent) →
+        HostFacts h → MayAll h events → Holds h kept →
+        Holds (after_all h events)
+        (kept_after_all kept (records_all h events)) }
 {
     a_restart_needs_the_records_alone();
     facts_are_kept();
@@ -37,9 +40,11 @@ pub fn events_do_what_their_records_do()
 /// The records of an event may follow those that gave what the host has, and so may those of events one after another, where each
 /// interview that ends well is of a node that is joined.
 pub fn records_of_events_are_legal()
-    ensures one { (h : HostState) (kept : Kept) (event : HostEvent) → May h event → IsOfJoined h event → Holds h kept →
+    ensures one { (h : HostState) (kept : Kept) (event : HostEvent) →
+        May h event → IsOfJoined h event → Holds h kept →
         first_illegal kept (records_at h event) ≡ None }
-    ensures all { (h : HostState) (kept : Kept) (events : List HostEvent) → HostFacts h → MayAll h events → AllOfJoined h events → Holds h kept →
+    ensures all { (h : HostState) (kept : Kept) (events : List HostEvent) →
+        HostFacts h → MayAll h events → AllOfJoined h events → Holds h kept →
         first_illegal kept (records_all h events) ≡ None }
 {
     a_restart_needs_the_records_alone();

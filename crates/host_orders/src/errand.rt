@@ -130,7 +130,8 @@ fn plain(alloc: Global, classes: &[u8], end: EndPoint, command: Bytes) -> Result
     requires short { length command ≤ 4 }
     requires plain { Rattle.host_orders.specs.Errands.IsPlainCommand command }
     requires open { secured classes.now ≡ Rattle.std.specs.Prelude.None }
-    ensures text { IfOk result (λ payload. payload ≡ plain_text classes.now end command) }
+    ensures text { IfOk result (λ payload.
+        payload ≡ plain_text classes.now end command) }
     ensures err { IfErr result (λ refused. refused ≡ Refused.NoMemory) }
 {
     let channel = ends_of(end);
@@ -162,8 +163,10 @@ pub fn send_payload(
     queued: u8,
     word: Word,
 ) -> Result<Payload, Refused>
-    ensures refuses { RefusesOrNone result (send_refusal (record { joined = is_joined; classes = classes.now; waiting = 0 }) queued word) }
-    ensures sent { (listed : List ℕ) → classes.now ≡ Some listed → IfOk result (λ payload. payload ≡ send_text listed word) }
+    ensures refuses { RefusesOrNone result
+        (send_refusal (record { joined = is_joined; classes = classes.now; waiting = 0 }) queued word) }
+    ensures sent { (listed : List ℕ) → classes.now ≡ Some listed →
+        IfOk result (λ payload. payload ≡ send_text listed word) }
 {
     let classes = known(is_joined, classes)?;
     let actuator = judge_send(classes, queued, word)?;
@@ -173,10 +176,14 @@ pub fn send_payload(
 
 #[tactic(auto, unfolding(crate::specs::Errands::sendable_refusal))]
 fn judge_send(classes: &[u8], queued: u8, word: Word) -> Result<Actuator, Refused>
-    ensures refuses { Refuses result (sendable_refusal classes.now queued word) }
-    ensures actuator { IfOk result (λ actuator. actuator ≡ sendable_of classes.now) }
-    ensures good { IfOk result (λ actuator. is_bad_for actuator word ≡ false) }
-    ensures open { IfOk result (λ _. secured classes.now ≡ Rattle.std.specs.Prelude.None) }
+    ensures refuses { Refuses result
+        (sendable_refusal classes.now queued word) }
+    ensures actuator { IfOk result (λ actuator.
+        actuator ≡ sendable_of classes.now) }
+    ensures good { IfOk result (λ actuator.
+        is_bad_for actuator word ≡ false) }
+    ensures open { IfOk result (λ _.
+        secured classes.now ≡ Rattle.std.specs.Prelude.None) }
 {
     not_secured(classes)?;
     let actuator = sendable_of(classes);
@@ -203,9 +210,12 @@ fn get_command(alloc: Global, gettable: Gettable) -> Result<Bytes, NoMemory>
 
 #[tactic(auto, unfolding(crate::specs::Errands::gettable_refusal))]
 fn judge_get(classes: &[u8], queued: u8, end: u8) -> Result<Gettable, Refused>
-    ensures refuses { Refuses result (gettable_refusal classes.now queued end) }
-    ensures gettable { IfOk result (λ gettable. gettable ≡ gettable_of classes.now) }
-    ensures open { IfOk result (λ _. secured classes.now ≡ Rattle.std.specs.Prelude.None) }
+    ensures refuses { Refuses result
+        (gettable_refusal classes.now queued end) }
+    ensures gettable { IfOk result (λ gettable.
+        gettable ≡ gettable_of classes.now) }
+    ensures open { IfOk result (λ _.
+        secured classes.now ≡ Rattle.std.specs.Prelude.None) }
 {
     not_secured(classes)?;
     let gettable = Gettable::of(classes);
@@ -224,8 +234,10 @@ pub fn get_payload(
     queued: u8,
     end: EndPoint,
 ) -> Result<Payload, Refused>
-    ensures refuses { RefusesOrNone result (get_refusal (record { joined = is_joined; classes = classes.now; waiting = 0 }) queued end) }
-    ensures asked { (listed : List ℕ) → classes.now ≡ Some listed → IfOk result (λ payload. payload ≡ get_text listed end) }
+    ensures refuses { RefusesOrNone result
+        (get_refusal (record { joined = is_joined; classes = classes.now; waiting = 0 }) queued end) }
+    ensures asked { (listed : List ℕ) → classes.now ≡ Some listed →
+        IfOk result (λ payload. payload ≡ get_text listed end) }
 {
     let classes = known(is_joined, classes)?;
     let gettable = judge_get(classes, queued, end.number())?;

@@ -85,7 +85,8 @@ pub(crate) fn need_channel(classes: &[u8], end: u8) -> Result<(), Refused>
 
 /// The node has to list the classes of mode, setpoint and batch.
 fn need_comfort(classes: &[u8]) -> Result<(), Refused>
-    ensures { Refuses result (unsupported classes.now (0x40 ∷ 0x43 ∷ 0x8F ∷ [])) }
+    ensures { Refuses result
+        (unsupported classes.now (0x40 ∷ 0x43 ∷ 0x8F ∷ [])) }
 {
     need(classes, THERMOSTAT_MODE)?;
     need(classes, THERMOSTAT_SETPOINT)?;
@@ -94,7 +95,8 @@ fn need_comfort(classes: &[u8]) -> Result<(), Refused>
 
 /// The node has to list the classes of the messages.
 fn need_messages(classes: &[u8], actuator: Actuator, what: &What) -> Result<(), Refused>
-    ensures { Refuses result (unsupported classes.now (classes_in actuator what.now)) }
+    ensures { Refuses result
+        (unsupported classes.now (classes_in actuator what.now)) }
 {
     match what {
         What::Value(_) => need(classes, actuator.class()),
@@ -109,7 +111,9 @@ fn need_messages(classes: &[u8], actuator: Actuator, what: &What) -> Result<(), 
 
 /// The node has to list all classes of the order.
 fn need_all(classes: &[u8], actuator: Actuator, order: &Order) -> Result<(), Refused>
-    ensures { Refuses result (unsupported classes.now (classes_needed actuator order.now.what order.now.end)) }
+    ensures { Refuses result
+        (unsupported classes.now
+        (classes_needed actuator order.now.what order.now.end)) }
 {
     need_messages(classes, actuator, &order.what)?;
     need_channel(classes, order.end.number())
@@ -189,8 +193,13 @@ fn fit(classes: &[u8], supervised: usize, wrapped: usize) -> Result<(), Refused>
 
 /// The classes of a node that is joined and was interviewed.
 pub(crate) fn known(is_joined: bool, classes: &Option<Bytes>) -> Result<&[u8], Refused>
-    ensures joined { IfErr result (λ refused. Rattle.host_orders.specs.Refusals.unknown_by is_joined classes.now ≡ Some refused) }
-    ensures classes { IfOk result (λ listed. (Rattle.host_orders.specs.Refusals.unknown_by is_joined classes.now ≡ None) × (classes.now ≡ Some listed.now)) }
+    ensures joined { IfErr result (λ refused.
+        Rattle.host_orders.specs.Refusals.unknown_by is_joined classes.now ≡
+        Some refused) }
+    ensures classes { IfOk result (λ listed.
+        (Rattle.host_orders.specs.Refusals.unknown_by is_joined
+        classes.now ≡ None)
+        × (classes.now ≡ Some listed.now)) }
 {
     if !is_joined {
         return Err(Refused::NotJoined);
@@ -210,9 +219,13 @@ pub fn judge(
     waiting: u8,
     order: &Order,
 ) -> Result<Carriage, Refused>
-    ensures refuses { Refuses result (first_refusal (record { joined = is_joined; classes = classes.now; waiting = waiting }) order.now) }
-    ensures carried { (listed : List ℕ) → classes.now ≡ Some listed → IfOk result (λ carriage. carriage ≡ carriage_of listed order.now) }
-    ensures fit { IfOk result (λ carriage. IsFit carriage.actuator order.now) }
+    ensures refuses { Refuses result
+        (first_refusal (record { joined = is_joined; classes = classes.now; waiting = waiting })
+        order.now) }
+    ensures carried { (listed : List ℕ) → classes.now ≡ Some listed →
+        IfOk result (λ carriage. carriage ≡ carriage_of listed order.now) }
+    ensures fit { IfOk result (λ carriage.
+        IsFit carriage.actuator order.now) }
 {
     let classes = known(is_joined, classes)?;
     judge_known(classes, waiting, order)
@@ -221,9 +234,13 @@ pub fn judge(
 /// The same, for a node whose classes are known.
 #[tactic(auto, unfolding(crate::specs::Refusals::known_refusal))]
 fn judge_known(classes: &[u8], waiting: u8, order: &Order) -> Result<Carriage, Refused>
-    ensures refuses { Refuses result (Rattle.host_orders.specs.Refusals.known_refusal classes.now waiting order.now) }
-    ensures carried { IfOk result (λ carriage. carriage ≡ carriage_of classes.now order.now) }
-    ensures fit { IfOk result (λ carriage. IsFit carriage.actuator order.now) }
+    ensures refuses { Refuses result
+        (Rattle.host_orders.specs.Refusals.known_refusal classes.now
+        waiting order.now) }
+    ensures carried { IfOk result (λ carriage.
+        carriage ≡ carriage_of classes.now order.now) }
+    ensures fit { IfOk result (λ carriage.
+        IsFit carriage.actuator order.now) }
 {
     let actuator = Actuator::of(classes);
     need_all(classes, actuator, order)?;

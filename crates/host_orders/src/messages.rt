@@ -56,7 +56,8 @@ pub(crate) fn value_command(
     word: Word,
 ) -> Result<Bytes, NoMemory>
     requires { is_bad_word actuator word ≡ false }
-    ensures { IfOk result (λ bytes. bytes ≡ form (value_message actuator word)) }
+    ensures { IfOk result (λ bytes.
+        bytes ≡ form (value_message actuator word)) }
 {
     match actuator {
         Actuator::Binary => write(
@@ -77,7 +78,8 @@ pub(crate) fn value_command(
 
 fn level_command(alloc: Global, level: u8) -> Result<Bytes, NoMemory>
     requires { level ≤ 99 }
-    ensures { IfOk result (λ bytes. bytes ≡ form (messages.SwitchMultilevelSet level)) }
+    ensures { IfOk result (λ bytes.
+        bytes ≡ form (messages.SwitchMultilevelSet level)) }
 {
     let level = Level::of(level).unwrap();
     write(alloc, &CoreMessage::SwitchMultilevelSet { level })
@@ -85,7 +87,8 @@ fn level_command(alloc: Global, level: u8) -> Result<Bytes, NoMemory>
 
 fn mode_command(alloc: Global, mode: u8) -> Result<Bytes, NoMemory>
     requires { is_bad_mode mode ≡ false }
-    ensures { IfOk result (λ bytes. bytes ≡ form (messages.ThermostatModeSet mode)) }
+    ensures { IfOk result (λ bytes.
+        bytes ≡ form (messages.ThermostatModeSet mode)) }
 {
     let mode = Mode::of(mode).unwrap();
     write(alloc, &CoreMessage::ThermostatModeSet { mode })
@@ -93,7 +96,8 @@ fn mode_command(alloc: Global, mode: u8) -> Result<Bytes, NoMemory>
 
 fn setpoint_command(alloc: Global, kind: u8, tenths: u16) -> Result<Bytes, NoMemory>
     requires { is_bad_setpoint kind tenths ≡ false }
-    ensures { IfOk result (λ bytes. bytes ≡ form (setpoint_message kind tenths)) }
+    ensures { IfOk result (λ bytes.
+        bytes ≡ form (setpoint_message kind tenths)) }
 {
     let kind = SetpointKind::of(kind).unwrap();
     let value = Decimal::new(TENTHS, CELSIUS, Number::Two(tenths));
@@ -101,7 +105,9 @@ fn setpoint_command(alloc: Global, kind: u8, tenths: u16) -> Result<Bytes, NoMem
 }
 
 fn config_command(alloc: Global, parameter: u8, value: u32) -> Result<Bytes, NoMemory>
-    ensures { IfOk result (λ bytes. bytes ≡ form (messages.ConfigurationSet parameter false (numbers.Four value))) }
+    ensures { IfOk result (λ bytes.
+        bytes ≡ form (messages.ConfigurationSet parameter false
+        (numbers.Four value))) }
 {
     let message = CoreMessage::ConfigurationSet {
         parameter,
@@ -114,7 +120,8 @@ fn config_command(alloc: Global, parameter: u8, value: u32) -> Result<Bytes, NoM
 /// Numbers of one byte each.
 fn one_byte_each(alloc: Global, values: &[u8]) -> Result<NumberList, NoMemory>
     requires { length values.now ≤ 255 }
-    ensures { IfOk result (λ list. list ≡ record { size = sizes.One; items = values.now }) }
+    ensures { IfOk result (λ list.
+        list ≡ record { size = sizes.One; items = values.now }) }
 {
     let mut list = NumberList::new(alloc, Size::One);
     for value in values {
@@ -125,7 +132,9 @@ fn one_byte_each(alloc: Global, values: &[u8]) -> Result<NumberList, NoMemory>
 
 fn bulk_command(alloc: Global, offset: u8, values: &[u8]) -> Result<Bytes, NoMemory>
     requires { length values.now ≤ 255 }
-    ensures { IfOk result (λ bytes. bytes ≡ form (messages.ConfigurationBulkSet offset false (record { size = sizes.One; items = values.now }))) }
+    ensures { IfOk result (λ bytes.
+        bytes ≡ form (messages.ConfigurationBulkSet offset false
+        (record { size = sizes.One; items = values.now }))) }
 {
     let message = CoreMessage::ConfigurationBulkSet {
         offset: u16::from(offset),
@@ -144,14 +153,16 @@ fn one_member(alloc: Global, member: NodeId) -> Result<NodeList, NoMemory>
 }
 
 fn associate_command(alloc: Global, group: u8, member: NodeId) -> Result<Bytes, NoMemory>
-    ensures { IfOk result (λ bytes. bytes ≡ form (messages.AssociationSet group (member ∷ []))) }
+    ensures { IfOk result (λ bytes.
+        bytes ≡ form (messages.AssociationSet group (member ∷ []))) }
 {
     let members = one_member(alloc, member)?;
     write(alloc, &CoreMessage::AssociationSet { group, members })
 }
 
 fn dissociate_command(alloc: Global, group: u8, member: NodeId) -> Result<Bytes, NoMemory>
-    ensures { IfOk result (λ bytes. bytes ≡ form (messages.AssociationRemove group (member ∷ []))) }
+    ensures { IfOk result (λ bytes.
+        bytes ≡ form (messages.AssociationRemove group (member ∷ []))) }
 {
     let members = one_member(alloc, member)?;
     write(alloc, &CoreMessage::AssociationRemove { group, members })
@@ -159,7 +170,8 @@ fn dissociate_command(alloc: Global, group: u8, member: NodeId) -> Result<Bytes,
 
 fn interval_command(alloc: Global, seconds: u32) -> Result<Bytes, NoMemory>
     requires { is_bad_interval seconds ≡ false }
-    ensures { IfOk result (λ bytes. bytes ≡ form (messages.WakeUpIntervalSet seconds 1)) }
+    ensures { IfOk result (λ bytes.
+        bytes ≡ form (messages.WakeUpIntervalSet seconds 1)) }
 {
     let seconds = Seconds::of(seconds).unwrap();
     let target = read_node(CONTROLLER).unwrap();
@@ -170,7 +182,8 @@ fn interval_command(alloc: Global, seconds: u32) -> Result<Bytes, NoMemory>
 fn first_command(alloc: Global, actuator: Actuator, what: &What) -> Result<Bytes, NoMemory>
     requires good { is_bad actuator what.now ≡ false }
     requires short { BulkHasAtMost 255 what.now }
-    ensures { IfOk result (λ bytes. bytes ≡ first_command_of actuator what.now) }
+    ensures { IfOk result (λ bytes.
+        bytes ≡ first_command_of actuator what.now) }
 {
     match what {
         What::Value(word) => value_command(alloc, actuator, *word),
@@ -192,7 +205,8 @@ pub(crate) fn commands(
 ) -> Result<List<Bytes>, NoMemory>
     requires good { is_bad actuator what.now ≡ false }
     requires short { BulkHasAtMost 255 what.now }
-    ensures { IfOk result (λ commands. commands.items ≡ commands_of actuator what.now) }
+    ensures { IfOk result (λ commands.
+        commands.items ≡ commands_of actuator what.now) }
 {
     let mut commands = List::new(alloc);
     commands.push(first_command(alloc, actuator, what)?)?;

@@ -37,7 +37,8 @@ pub fn full_of(word: Word) -> u32
 
 /// Adds a setting.
 fn put(out: &mut List<Setting>, property: Property, value: u32) -> Result<(), NoMemory>
-    ensures { OnOk result (out.new.items ≡ out.old.items ++ record { property = property; value = value } ∷ []) }
+    ensures { OnOk result (out.new.items ≡ out.old.items ++
+        record { property = property; value = value } ∷ []) }
 {
     out.push(Setting { property, value })
 }
@@ -49,7 +50,8 @@ fn put_value(
     end: EndPoint,
     word: Word,
 ) -> Result<(), NoMemory>
-    ensures { OnOk result (out.new.items ≡ out.old.items ++ value_setting actuator end word ∷ []) }
+    ensures { OnOk result (out.new.items ≡ out.old.items ++
+        value_setting actuator end word ∷ []) }
 {
     let (name, value) = match actuator {
         Actuator::Binary => (Name::Switch, full_of(word)),
@@ -67,7 +69,8 @@ fn put_configs(
     values: &[u8],
 ) -> Result<(), NoMemory>
     requires { offset + length values.now ≤ 256 }
-    ensures { OnOk result (out.new.items ≡ out.old.items ++ config_settings end offset values.now) }
+    ensures { OnOk result (out.new.items ≡ out.old.items ++
+        config_settings end offset values.now) }
 {
     out.reserve(values.len())?;
     let mut parameter = u32::from(offset);
@@ -90,7 +93,8 @@ fn put_all(
     what: &What,
 ) -> Result<(), NoMemory>
     requires { is_bad actuator what.now ≡ false }
-    ensures { OnOk result (out.new.items ≡ out.old.items ++ settings_by actuator end what.now) }
+    ensures { OnOk result (out.new.items ≡
+        out.old.items ++ settings_by actuator end what.now) }
 {
     let of = |name: Name| Property { end, name };
     match what {
@@ -112,7 +116,8 @@ fn put_all(
 /// The settings of an order whose values are in their ranges, in the order of properties.
 pub fn settings(alloc: Global, actuator: Actuator, order: &Order) -> Result<List<Setting>, NoMemory>
     requires { is_bad actuator order.now.what ≡ false }
-    ensures { IfOk result (λ made. made.items ≡ settings actuator order.now) }
+    ensures { IfOk result (λ made.
+        made.items ≡ settings actuator order.now) }
 {
     let mut made = List::new(alloc);
     put_all(&mut made, actuator, order.end, &order.what)?;
@@ -121,7 +126,8 @@ pub fn settings(alloc: Global, actuator: Actuator, order: &Order) -> Result<List
 
 /// The properties of settings, in their order.
 pub fn properties_of(alloc: Global, made: &[Setting]) -> Result<List<Property>, NoMemory>
-    ensures { IfOk result (λ properties. properties.items ≡ properties_in made.now) }
+    ensures { IfOk result (λ properties.
+        properties.items ≡ properties_in made.now) }
 {
     let mut properties = List::new(alloc);
     properties.reserve(made.len())?;

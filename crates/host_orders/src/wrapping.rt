@@ -79,7 +79,8 @@ pub fn write_message(
     session: u64,
 ) -> Result<Bytes, NoMemory>
     requires { IsFit carriage.actuator order.now }
-    ensures { IfOk result (λ bytes. bytes ≡ message_of carriage order.now session) }
+    ensures { IfOk result (λ bytes.
+        bytes ≡ message_of carriage order.now session) }
 {
     let commands = commands(alloc, carriage.actuator, &order.what)?;
     match wrap(alloc, &plan(carriage, order, session), &commands) {
@@ -91,7 +92,8 @@ pub fn write_message(
 /// How many bytes are supervised.
 pub(crate) fn supervised_len(order: &Order) -> usize
     requires { BulkHasAtMost 256 order.now.what }
-    ensures len { (actuator : TheActuator) → result ≡ length (supervised_text actuator order.now) }
+    ensures len { (actuator : TheActuator) →
+        result ≡ length (supervised_text actuator order.now) }
     ensures most { result ≤ 262 }
 {
     match &order.what {
@@ -107,7 +109,8 @@ pub(crate) fn supervised_len(order: &Order) -> usize
 /// How many bytes a session's message has before its outermost wrap.
 pub(crate) fn wrapped_len(order: &Order) -> usize
     requires { BulkHasAtMost 256 order.now.what }
-    ensures len { (actuator : TheActuator) → result ≡ wrapped_len actuator order.now }
+    ensures len { (actuator : TheActuator) →
+        result ≡ wrapped_len actuator order.now }
     ensures most { result ≤ 270 }
 {
     let supervised = supervised_len(order) + SUPERVISION_LEN;

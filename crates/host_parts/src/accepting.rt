@@ -1,9 +1,8 @@
 //! An order that becomes a command, or is refused.
 
 ghost use Rattle.std.specs.Prelude.{◌≡◌, ◌≢◌, ◌⊎◌, ◌+◌, ◌≤◌, ◌<◌, ◌∷◌, [], None, Some, length, vec_len, vec_capacity, IfOk, IfErr, OnOk, OnErr, Ok, Err};
-ghost use Rattle.zw_base.specs.Faults.{Rose};
 ghost use Rattle.value_store.specs.Values.{count_with, missing_of, releasing, reserving};
-ghost use Rattle.host_keep.specs.Keeping.{OptAdds};
+ghost use Rattle.host_keep.specs.Keeping.{Adds, Fails};
 ghost use Rattle.host_keep.specs.Rows.{IsRecord};
 ghost use Rattle.host_keep.specs.RecordText.{record_text};
 ghost use Rattle.host_keep.specs.declared.record.Record.TheVariants.{Accepted as the_accepted};
@@ -47,22 +46,31 @@ pub fn accept<P: Keeper>(
     order: &Order,
     keeper: &mut P,
 ) -> Result<u32, Refused>
-    ensures number { IfOk result (λ number. number ≡ length commands.old.items + 1) }
+    ensures number { IfOk result (λ number.
+        number ≡ length commands.old.items + 1) }
     ensures judges { (h : HostState) →
-        Judges result (refusal_for (with_orders h nodes.old commands.old.items store.old) order.now) }
+        Judges result (refusal_for (with_orders h nodes.old
+        commands.old.items store.old) order.now) }
     ensures may { (h : HostState) →
-        OnOk result (MayAccept (with_orders h nodes.old commands.old.items store.old) order.now) }
-    ensures kept { OnOk result (OptAdds (P.shelf keeper.old).records (P.shelf keeper.new).records
-        (record_text (the_accepted (length commands.old.items + 1) order.now) ∷ [])) }
-    ensures in_range { OnOk result (IsRecord (the_accepted (length commands.old.items + 1) order.now)) }
+        OnOk result (MayAccept (with_orders h nodes.old
+        commands.old.items store.old) order.now) }
+    ensures kept { OnOk result
+        (Adds (record_text (the_accepted (length commands.old.items + 1)
+        order.now) ∷ [])
+        (P.shelf keeper.old) (P.shelf keeper.new)) }
+    ensures in_range { OnOk result
+        (IsRecord (the_accepted (length commands.old.items + 1) order.now)) }
     ensures state { (h : HostState) →
         OnOk result (with_orders h nodes.new commands.new.items store.new ≡
-        accepted (with_orders h nodes.old commands.old.items store.old) order.now) }
-    ensures failed { result ≡ Err Refused.KeeperFault → Rose (P.shelf keeper.old).faults (P.shelf keeper.new).faults }
+        accepted (with_orders h nodes.old commands.old.items store.old)
+        order.now) }
+    ensures failed { result ≡ Err Refused.KeeperFault →
+        Fails (P.shelf keeper.old) (P.shelf keeper.new) }
     ensures err { (h : HostState) →
         OnErr result (with_orders h nodes.new commands.new.items store.new ≡
         with_orders h nodes.old commands.old.items store.old) }
-    ensures no_record { OnErr result (OptAdds (P.shelf keeper.old).records (P.shelf keeper.new).records []) }
+    ensures no_record { OnErr result
+        (Adds [] (P.shelf keeper.old) (P.shelf keeper.new)) }
     ensures never_falls { (P.shelf keeper.old).faults ≤ (P.shelf keeper.new).faults }
     ensures more { OnOk result (P.number keeper.old < P.number keeper.new) }
     ensures never_fewer { P.number keeper.old ≤ P.number keeper.new }
@@ -82,27 +90,41 @@ fn accept_judged<P: Keeper>(
     judged: &Judged,
     keeper: &mut P,
 ) -> Result<u32, Refused>
-    requires unrefused { first_refusal (known_of (node_of nodes.old order.now.node)) order.now ≡ None }
-    requires carried { judged.now.carriage ≡ carriage_of (classes_of (known_of (node_of nodes.old order.now.node))) order.now }
+    requires unrefused { first_refusal
+        (known_of (node_of nodes.old order.now.node)) order.now ≡ None }
+    requires carried { judged.now.carriage ≡
+        carriage_of (classes_of
+        (known_of (node_of nodes.old order.now.node))) order.now }
     requires number { judged.now.number ≡ length commands.old.items + 1 }
-    requires properties { judged.now.properties.items ≡ properties_in (settings_by judged.now.carriage.actuator order.now) }
-    requires missing { judged.now.missing.items ≡ missing_of store.old order.now.node judged.now.properties.items }
-    ensures number { IfOk result (λ number. number ≡ length commands.old.items + 1) }
+    requires properties { judged.now.properties.items ≡
+        properties_in (settings_by judged.now.carriage.actuator order.now) }
+    requires missing { judged.now.missing.items ≡
+        missing_of store.old order.now.node judged.now.properties.items }
+    ensures number { IfOk result (λ number.
+        number ≡ length commands.old.items + 1) }
     ensures judges { (h : HostState) →
-        Judges result (refusal_for (with_orders h nodes.old commands.old.items store.old) order.now) }
+        Judges result (refusal_for (with_orders h nodes.old
+        commands.old.items store.old) order.now) }
     ensures may { (h : HostState) →
-        OnOk result (MayAccept (with_orders h nodes.old commands.old.items store.old) order.now) }
-    ensures kept { OnOk result (OptAdds (P.shelf keeper.old).records (P.shelf keeper.new).records
-        (record_text (the_accepted (length commands.old.items + 1) order.now) ∷ [])) }
-    ensures in_range { OnOk result (IsRecord (the_accepted (length commands.old.items + 1) order.now)) }
+        OnOk result (MayAccept (with_orders h nodes.old
+        commands.old.items store.old) order.now) }
+    ensures kept { OnOk result
+        (Adds (record_text (the_accepted (length commands.old.items + 1)
+        order.now) ∷ [])
+        (P.shelf keeper.old) (P.shelf keeper.new)) }
+    ensures in_range { OnOk result
+        (IsRecord (the_accepted (length commands.old.items + 1) order.now)) }
     ensures state { (h : HostState) →
         OnOk result (with_orders h nodes.new commands.new.items store.new ≡
-        accepted (with_orders h nodes.old commands.old.items store.old) order.now) }
-    ensures failed { result ≡ Err Refused.KeeperFault → Rose (P.shelf keeper.old).faults (P.shelf keeper.new).faults }
+        accepted (with_orders h nodes.old commands.old.items store.old)
+        order.now) }
+    ensures failed { result ≡ Err Refused.KeeperFault →
+        Fails (P.shelf keeper.old) (P.shelf keeper.new) }
     ensures err { (h : HostState) →
         OnErr result (with_orders h nodes.new commands.new.items store.new ≡
         with_orders h nodes.old commands.old.items store.old) }
-    ensures no_record { OnErr result (OptAdds (P.shelf keeper.old).records (P.shelf keeper.new).records []) }
+    ensures no_record { OnErr result
+        (Adds [] (P.shelf keeper.old) (P.shelf keeper.new)) }
     ensures never_falls { (P.shelf keeper.old).faults ≤ (P.shelf keeper.new).faults }
     ensures more { OnOk result (P.number keeper.old < P.number keeper.new) }
     ensures never_fewer { P.number keeper.old ≤ P.number keeper.new }
@@ -128,14 +150,25 @@ fn judge_order(
     count: usize,
     order: &Order,
 ) -> Result<Judged, Refused>
-    ensures unrefused { OnOk result (first_refusal (known_of (node_of nodes.now order.now.node)) order.now ≡ None) }
-    ensures carried { IfOk result (λ judged. judged.carriage ≡ carriage_of (classes_of (known_of (node_of nodes.now order.now.node))) order.now) }
+    ensures unrefused { OnOk result
+        (first_refusal (known_of (node_of nodes.now order.now.node))
+        order.now ≡ None) }
+    ensures carried { IfOk result (λ judged. judged.carriage ≡
+        carriage_of (classes_of (known_of (node_of nodes.now order.now.node)))
+        order.now) }
     ensures number { IfOk result (λ judged. judged.number ≡ count + 1) }
-    ensures properties { IfOk result (λ judged. judged.properties.items ≡ properties_in (settings_by judged.carriage.actuator order.now)) }
-    ensures missing { IfOk result (λ judged. judged.missing.items ≡ missing_of store.now order.now.node judged.properties.items) }
-    ensures refused { IfErr result (λ refused. (first_refusal (known_of (node_of nodes.now order.now.node)) order.now ≡ Some refused) ⊎
+    ensures properties { IfOk result (λ judged.
+        judged.properties.items ≡
+        properties_in (settings_by judged.carriage.actuator order.now)) }
+    ensures missing { IfOk result (λ judged.
+        judged.missing.items ≡
+        missing_of store.now order.now.node judged.properties.items) }
+    ensures refused { IfErr result (λ refused.
+        (first_refusal (known_of (node_of nodes.now order.now.node)) order.now ≡
+        Some refused) ⊎
         (refused ≡ Refused.NoMemory)) }
-    ensures by_a_rule { IfErr result (λ refused. refused ≢ Refused.KeeperFault) }
+    ensures by_a_rule { IfErr result (λ refused.
+        refused ≢ Refused.KeeperFault) }
 {
     let carriage = judge_by_node(nodes, order)?;
     let number = next_number(count)?;
@@ -151,11 +184,19 @@ fn judge_order(
 
 // The rules on its node, its values and its length judge an order: how it is carried, where none of them refuses it.
 fn judge_by_node(nodes: &Nodes, order: &Order) -> Result<Carriage, Refused>
-    ensures unrefused { OnOk result (first_refusal (known_of (node_of nodes.now order.now.node)) order.now ≡ None) }
-    ensures carried { IfOk result (λ carriage. carriage ≡ carriage_of (classes_of (known_of (node_of nodes.now order.now.node))) order.now) }
-    ensures fit { IfOk result (λ carriage. IsFit carriage.actuator order.now) }
-    ensures refused { IfErr result (λ refused. first_refusal (known_of (node_of nodes.now order.now.node)) order.now ≡ Some refused) }
-    ensures by_a_rule { IfErr result (λ refused. refused ≢ Refused.KeeperFault) }
+    ensures unrefused { OnOk result
+        (first_refusal (known_of (node_of nodes.now order.now.node))
+        order.now ≡ None) }
+    ensures carried { IfOk result (λ carriage.
+        carriage ≡ carriage_of
+        (classes_of (known_of (node_of nodes.now order.now.node))) order.now) }
+    ensures fit { IfOk result (λ carriage.
+        IsFit carriage.actuator order.now) }
+    ensures refused { IfErr result (λ refused.
+        first_refusal (known_of (node_of nodes.now order.now.node)) order.now ≡
+        Some refused) }
+    ensures by_a_rule { IfErr result (λ refused.
+        refused ≢ Refused.KeeperFault) }
 {
     let state = nodes.of(order.node);
     judge(
@@ -173,7 +214,8 @@ fn properties_set(
     order: &Order,
 ) -> Result<List<Property>, NoMemory>
     requires { IsFit carriage.actuator order.now }
-    ensures { IfOk result (λ made. made.items ≡ properties_in (settings_by carriage.actuator order.now)) }
+    ensures { IfOk result (λ made.
+        made.items ≡ properties_in (settings_by carriage.actuator order.now)) }
 {
     let made = settings(alloc, carriage.actuator, order)?;
     properties_of(alloc, made.as_slice())
@@ -199,17 +241,27 @@ fn prepare(
     order: &Order,
     judged: &Judged,
 ) -> Result<Order, Refused>
-    requires waiting { length (node_of nodes.old order.now.node).waiting < 16 }
-    requires missing { judged.now.missing.items ≡ missing_of store.old order.now.node judged.now.properties.items }
+    requires waiting { length
+        (node_of nodes.old order.now.node).waiting < 16 }
+    requires missing { judged.now.missing.items ≡
+        missing_of store.old order.now.node judged.now.properties.items }
     ensures copy { IfOk result (λ copy. copy ≡ order.now) }
-    ensures nodes { OnOk result (nodes.new ≡ nodes_after nodes.old order.now.node (Puts judged.now.number)) }
-    ensures store { OnOk result (store.new ≡ reserving store.old order.now.node judged.now.properties.items) }
-    ensures few { OnOk result (count_with store.old order.now.node judged.now.properties.items ≤ 512) }
-    ensures room { OnOk result (vec_len commands.new + 1 ≤ vec_capacity commands.new) }
+    ensures nodes { OnOk result (nodes.new ≡
+        nodes_after nodes.old order.now.node (Puts judged.now.number)) }
+    ensures store { OnOk result (store.new ≡
+        reserving store.old order.now.node judged.now.properties.items) }
+    ensures few { OnOk result
+        (count_with store.old order.now.node
+        judged.now.properties.items ≤ 512) }
+    ensures room { OnOk result
+        (vec_len commands.new + 1 ≤ vec_capacity commands.new) }
     ensures commands { commands.new.items ≡ commands.old.items }
     ensures judges { IfErr result (λ refused. (refused ≡ Refused.NoMemory) ⊎
-        ((refused ≡ Refused.StoreFull 512) × (512 < count_with store.old order.now.node judged.now.properties.items))) }
-    ensures err { OnErr result ((nodes.new ≡ nodes.old) × (store.new ≡ store.old)) }
+        ((refused ≡ Refused.StoreFull 512)
+        × (512 < count_with store.old order.now.node
+        judged.now.properties.items))) }
+    ensures err { OnErr result ((nodes.new ≡ nodes.old)
+        × (store.new ≡ store.old)) }
 {
     let copy = order.copy(alloc)?;
     if commands.reserve(1).is_err() {
@@ -236,13 +288,19 @@ fn place(
     missing: &[Property],
 ) -> Result<(), Refused>
     requires waiting { length (node_of nodes.old node).waiting < 16 }
-    requires missing { missing.now ≡ missing_of store.old node properties.now }
-    ensures nodes { OnOk result (nodes.new ≡ nodes_after nodes.old node (Puts number)) }
-    ensures store { OnOk result (store.new ≡ reserving store.old node properties.now) }
-    ensures few { OnOk result (count_with store.old node properties.now ≤ 512) }
+    requires missing { missing.now ≡
+        missing_of store.old node properties.now }
+    ensures nodes { OnOk result (nodes.new ≡
+        nodes_after nodes.old node (Puts number)) }
+    ensures store { OnOk result (store.new ≡
+        reserving store.old node properties.now) }
+    ensures few { OnOk result
+        (count_with store.old node properties.now ≤ 512) }
     ensures judges { IfErr result (λ refused. (refused ≡ Refused.NoMemory) ⊎
-        ((refused ≡ Refused.StoreFull 512) × (512 < count_with store.old node properties.now))) }
-    ensures err { OnErr result ((nodes.new ≡ nodes.old) × (store.new ≡ store.old)) }
+        ((refused ≡ Refused.StoreFull 512)
+        × (512 < count_with store.old node properties.now))) }
+    ensures err { OnErr result ((nodes.new ≡ nodes.old)
+        × (store.new ≡ store.old)) }
 {
     what_is_released_is_undone();
     match store.reserve(node, properties) {
@@ -273,11 +331,17 @@ fn keep_accepted<P: Keeper>(
     order: &Order,
     keeper: &mut P,
 ) -> Result<(), Refused>
-    ensures kept { OnOk result (OptAdds (P.shelf keeper.old).records (P.shelf keeper.new).records (record_text (the_accepted number order.now) ∷ [])) }
-    ensures in_range { OnOk result (IsRecord (the_accepted number order.now)) }
-    ensures faults { IfErr result (λ refused. (refused ≡ Refused.KeeperFault) ⊎ (refused ≡ Refused.NoMemory)) }
-    ensures failed { result ≡ Err Refused.KeeperFault → Rose (P.shelf keeper.old).faults (P.shelf keeper.new).faults }
-    ensures no_record { OnErr result (OptAdds (P.shelf keeper.old).records (P.shelf keeper.new).records []) }
+    ensures kept { OnOk result
+        (Adds (record_text (the_accepted number order.now) ∷ [])
+        (P.shelf keeper.old) (P.shelf keeper.new)) }
+    ensures in_range { OnOk result
+        (IsRecord (the_accepted number order.now)) }
+    ensures faults { IfErr result (λ refused.
+        (refused ≡ Refused.KeeperFault) ⊎ (refused ≡ Refused.NoMemory)) }
+    ensures failed { result ≡ Err Refused.KeeperFault →
+        Fails (P.shelf keeper.old) (P.shelf keeper.new) }
+    ensures no_record { OnErr result
+        (Adds [] (P.shelf keeper.old) (P.shelf keeper.new)) }
     ensures never_falls { (P.shelf keeper.old).faults ≤ (P.shelf keeper.new).faults }
     ensures more { OnOk result (P.number keeper.old < P.number keeper.new) }
     ensures never_fewer { P.number keeper.old ≤ P.number keeper.new }

@@ -69,7 +69,8 @@ impl Command {
 
 /// The command of a number became this, where there is one.
 pub fn set_outcome(commands: &mut Vec<Command>, number: u32, outcome: Outcome)
-    ensures { commands.new.items ≡ with_outcome commands.old.items number outcome }
+    ensures { commands.new.items ≡
+        with_outcome commands.old.items number outcome }
 {
     if number == 0 {
         return;

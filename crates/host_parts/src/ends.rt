@@ -73,7 +73,9 @@ pub(crate) fn end_request(
         with_commands h nodes.new commands.new.items ≡
         after_end_if (with_commands h nodes.old commands.old.items) end moment }
     ensures outs { (h : HostState) →
-        out.new.items ≡ out.old.items ++ noted (end_entries_if (with_commands h nodes.old commands.old.items) end) }
+        out.new.items ≡ out.old.items ++
+        noted (end_entries_if (with_commands h
+        nodes.old commands.old.items) end) }
 {
     let Some(end) = end else {
         return;
@@ -101,9 +103,12 @@ fn end_part(
     requires { 2 ≤ out.old.room }
     ensures state { (h : HostState) →
         with_commands h nodes.new commands.new.items ≡
-        after_part (with_commands h nodes.old commands.old.items) node (part_end more how.now) moment }
+        after_part (with_commands h nodes.old commands.old.items) node
+        (part_end more how.now) moment }
     ensures outs { (h : HostState) →
-        out.new.items ≡ out.old.items ++ noted (part_entries (with_commands h nodes.old commands.old.items) node (part_end more how.now)) }
+        out.new.items ≡ out.old.items ++
+        noted (part_entries (with_commands h nodes.old commands.old.items) node
+        (part_end more how.now)) }
 {
     match part_end(how, more) {
         Part::Good => nodes.succeeded(node),
@@ -151,9 +156,12 @@ fn end_running(
     requires { 2 ≤ out.old.room }
     ensures state { (h : HostState) →
         with_commands h nodes.new commands.new.items ≡
-        without_report (with_commands h nodes.old commands.old.items) node moment }
+        without_report (with_commands h nodes.old commands.old.items)
+        node moment }
     ensures outs { (h : HostState) →
-        out.new.items ≡ out.old.items ++ noted (without_report_entries (with_commands h nodes.old commands.old.items) node) }
+        out.new.items ≡ out.old.items ++
+        noted (without_report_entries (with_commands h
+        nodes.old commands.old.items) node) }
 {
     let command = open_command(nodes.of(node));
     let end = nodes.end_attempt(node, moment);
@@ -169,8 +177,11 @@ pub(crate) fn end_attempt(
     out: &mut List<HostOut>,
 )
     requires { 2 ≤ out.old.room }
-    ensures state { (h : HostState) → record h { commands = commands.new.items } ≡ attempt_ended (record h { commands = commands.old.items }) end command }
-    ensures outs { out.new.items ≡ out.old.items ++ noted (attempt_entries node end command) }
+    ensures state { (h : HostState) →
+        record h { commands = commands.new.items } ≡
+        attempt_ended (record h { commands = commands.old.items }) end command }
+    ensures outs { out.new.items ≡ out.old.items ++
+        noted (attempt_entries node end command) }
 {
     let AttemptEnd::Unanswered(falls_asleep) = end else {
         return;
@@ -197,8 +208,11 @@ fn end_task(
 )
     requires listed { ListsHow how.now list }
     requires room { 2 ≤ out.old.room }
-    ensures state { (h : HostState) → record h { nodes = nodes.new } ≡ after_task (record h { nodes = nodes.old }) task }
-    ensures outs { (h : HostState) → out.new.items ≡ out.old.items ++ noted (task_entries (record h { nodes = nodes.old }) task how.now) }
+    ensures state { (h : HostState) →
+        record h { nodes = nodes.new } ≡
+        after_task (record h { nodes = nodes.old }) task }
+    ensures outs { (h : HostState) → out.new.items ≡ out.old.items ++
+        noted (task_entries (record h { nodes = nodes.old }) task how.now) }
 {
     match task {
         Task::Plain { node, .. } => out.put(HostOut::Note(Entry::Done {

@@ -21,7 +21,8 @@ impl Command {
     /// The settings that it makes.
     pub fn settings(&self, alloc: Global) -> Result<List<Setting>, NoMemory>
         requires { IsFit self.now.carriage.actuator self.now.order }
-        ensures { IfOk result (λ made. made.items ≡ settings_of self.now.carriage.actuator self.now.order) }
+        ensures { IfOk result (λ made.
+            made.items ≡ settings_of self.now.carriage.actuator self.now.order) }
     {
         settings(alloc, self.carriage.actuator, &self.order)
     }
@@ -29,7 +30,8 @@ impl Command {
 
 /// Values of a node are confirmed.
 pub fn confirm(store: &mut Store, node: NodeId, confirmed: &[Setting])
-    requires { AllByRecursion (λ setting. IsReserved store.old node setting.property) confirmed.now }
+    requires { AllByRecursion (λ setting.
+        IsReserved store.old node setting.property) confirmed.now }
     ensures { store.new ≡ confirming store.old node confirmed.now }
 {
     if let [setting, more @ ..] = confirmed {
@@ -40,7 +42,9 @@ pub fn confirm(store: &mut Store, node: NodeId, confirmed: &[Setting])
 
 /// A node is held awake, where it is to be.
 pub fn hold(nodes: &mut Nodes, node: NodeId, is_held: bool)
-    ensures { (h : HostState) → record h { nodes = nodes.new } ≡ holding (record h { nodes = nodes.old }) node is_held }
+    ensures { (h : HostState) →
+        record h { nodes = nodes.new } ≡
+        holding (record h { nodes = nodes.old }) node is_held }
 {
     if is_held {
         nodes.hold(node);

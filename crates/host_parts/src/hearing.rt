@@ -47,13 +47,17 @@ pub fn request_hears(
 ) -> Result<(), NoMemory>
     ensures state { (h : HostState) →
         OnOk result (with_requests h requests.new nodes.new commands.new.items ≡
-        after (with_requests h requests.old nodes.old commands.old.items) (Requests_do (heard_as heard) moment)) }
+        after (with_requests h requests.old nodes.old commands.old.items)
+        (Requests_do (heard_as heard) moment)) }
     ensures outs { (h : HostState) →
         OnOk result (out.new.items ≡ out.old.items ++
-        outs (with_requests h requests.old nodes.old commands.old.items) (Requests_do (heard_as heard) moment)) }
+        outs (with_requests h requests.old nodes.old commands.old.items)
+        (Requests_do (heard_as heard) moment)) }
     ensures err { (h : HostState) →
-        OnErr result ((with_requests h requests.new nodes.new commands.new.items ≡
-        with_requests h requests.old nodes.old commands.old.items) × (out.new.items ≡ out.old.items)) }
+        OnErr result ((with_requests h
+        requests.new nodes.new commands.new.items ≡
+        with_requests h requests.old nodes.old commands.old.items)
+        × (out.new.items ≡ out.old.items)) }
 {
     out.reserve(MOST_ENTRIES)?;
     let list = nodes_heard(alloc, &heard)?;
@@ -74,7 +78,8 @@ fn nodes_heard(alloc: Global, heard: &Heard) -> Result<Sequence<NodeId>, NoMemor
 
 // The request under way is told, and may end.
 fn tell(requests: &mut Requests, heard: Heard) -> Option<End>
-    ensures state { requests.new ≡ after_request requests.old (heard_as heard) }
+    ensures state { requests.new ≡
+        after_request requests.old (heard_as heard) }
     ensures end { result ≡ end_at requests.old (heard_as heard) }
 {
     match heard {

@@ -1,7 +1,7 @@
 //! Records of events.
 
 ghost use Rattle.std.specs.Prelude.{◌≡◌, ◌+◌, ◌≤◌, [], IfOk, OnOk, OnErr};
-ghost use Rattle.host_keep.specs.Keeping.{OptAdds, Kept, added};
+ghost use Rattle.host_keep.specs.Keeping.{Kept, added, Adds};
 ghost use Rattle.host_keep.specs.Rows.{IsRecord};
 ghost use Rattle.host_keep.specs.RecordText.{record_text};
 
@@ -15,11 +15,15 @@ pub fn keep_record<P: Keeper>(
     kept: &Record,
     keeper: &mut P,
 ) -> Result<bool, NoMemory>
-    ensures kept { IfOk result (λ is_kept. Kept is_kept (record_text kept.now) (P.shelf keeper.old) (P.shelf keeper.new)) }
+    ensures kept { IfOk result (λ is_kept.
+        Kept is_kept (record_text kept.now)
+        (P.shelf keeper.old) (P.shelf keeper.new)) }
     ensures in_range { OnOk result (IsRecord kept.now) }
-    ensures no_record { OnErr result (OptAdds (P.shelf keeper.old).records (P.shelf keeper.new).records []) }
+    ensures no_record { OnErr result
+        (Adds [] (P.shelf keeper.old) (P.shelf keeper.new)) }
     ensures never_falls { (P.shelf keeper.old).faults ≤ (P.shelf keeper.new).faults }
-    ensures added { IfOk result (λ is_kept. P.number keeper.new ≡ P.number keeper.old + added is_kept) }
+    ensures added { IfOk result (λ is_kept.
+        P.number keeper.new ≡ P.number keeper.old + added is_kept) }
     ensures never_fewer { P.number keeper.old ≤ P.number keeper.new }
     ensures reads { P.reads keeper.new ≡ P.reads keeper.old }
 {

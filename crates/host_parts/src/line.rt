@@ -29,7 +29,9 @@ pub fn is_busy(link: &Link) -> bool
 /// The frame of the task that has waited longest.
 pub fn front_frame(requests: &Requests, alloc: Global) -> Result<Frame, NoMemory>
     requires { requests.now.queue ≢ [] }
-    ensures { IfOk result (λ frame. frame ≡ frame_of (task_purpose requests.now.queue) (next_id requests.now.last_id)) }
+    ensures { IfOk result (λ frame.
+        frame ≡ frame_of (task_purpose requests.now.queue)
+        (next_id requests.now.last_id)) }
 {
     let found = requests.front_frame(alloc)?;
     Ok(found.unwrap())
@@ -44,8 +46,10 @@ pub fn put_on_line(
 ) -> Result<(), NoMemory>
     requires { ¬ IsBusy link.old.side.turn }
     ensures link { OnOk result (link.new ≡ submitted_link link.old frame) }
-    ensures outs { OnOk result (out.new.items ≡ out.old.items ++ Write (Framed frame) ∷ []) }
-    ensures err { OnErr result ((link.new ≡ link.old) × (out.new.items ≡ out.old.items)) }
+    ensures outs { OnOk result (out.new.items ≡
+        out.old.items ++ Write (Framed frame) ∷ []) }
+    ensures err { OnErr result ((link.new ≡ link.old)
+        × (out.new.items ≡ out.old.items)) }
 {
     out.reserve(1)?;
     let copy = frame.copy(alloc)?;
@@ -69,10 +73,16 @@ pub fn submit_attempt(
     requires paid { requests.old.owes ≡ false }
     requires none_waits { requests.old.queue ≡ [] }
     requires payload { 1 ≤ length payload }
-    ensures link { OnOk result (link.new ≡ submitted_link link.old (frame_of (Attempt node more payload) (next_id requests.old.last_id))) }
-    ensures requests { OnOk result (requests.new ≡ after requests.old (BeginsAttempt node more payload)) }
-    ensures outs { OnOk result (out.new.items ≡ out.old.items ++ Write (Framed (frame_of (Attempt node more payload) (next_id requests.old.last_id))) ∷ []) }
-    ensures err { OnErr result ((link.new ≡ link.old) × (requests.new ≡ requests.old) × (out.new.items ≡ out.old.items)) }
+    ensures link { OnOk result (link.new ≡
+        submitted_link link.old
+        (frame_of (Attempt node more payload) (next_id requests.old.last_id))) }
+    ensures requests { OnOk result (requests.new ≡
+        after requests.old (BeginsAttempt node more payload)) }
+    ensures outs { OnOk result (out.new.items ≡ out.old.items ++
+        Write (Framed (frame_of (Attempt node more payload)
+        (next_id requests.old.last_id))) ∷ []) }
+    ensures err { OnErr result ((link.new ≡ link.old)
+        × (requests.new ≡ requests.old) × (out.new.items ≡ out.old.items)) }
 {
     let frame = requests.attempt_frame(alloc, node, &payload)?;
     put_on_line(alloc, link, frame, out)?;
@@ -95,7 +105,8 @@ pub fn answer(item: &Item, out: &mut List<HostOut>)
 // A whole frame that is not good is answered NAK.
 fn answer_refusal(refusal: Refusal, out: &mut List<HostOut>)
     requires { 1 ≤ out.old.room }
-    ensures { out.new.items ≡ out.old.items ++ answer_to (Item.Refused refusal) }
+    ensures { out.new.items ≡ out.old.items ++
+        answer_to (Item.Refused refusal) }
 {
     if matches!(refusal, Refusal::BadSum { .. } | Refusal::BadKind(_)) {
         out.put(HostOut::Write(Unit::Nak));

@@ -30,10 +30,14 @@ impl Command {
     /// How an attempt of a session of the command starts.
     pub fn start(&self, alloc: Global, session: u64) -> Result<Start, NoMemory>
         requires fit { IsFit self.now.carriage.actuator self.now.order }
-        requires form { FitsForm (form_of self.now.carriage.outer) (message_for self.now session) }
-        ensures plan { IfOk result (λ start. start.plan ≡ (start_of self.now session).plan) }
-        ensures payload { IfOk result (λ start. start.payload ≡ (start_of self.now session).payload) }
-        ensures more { IfOk result (λ start. start.more ≡ (start_of self.now session).more) }
+        requires form { FitsForm (form_of self.now.carriage.outer)
+            (message_for self.now session) }
+        ensures plan { IfOk result (λ start.
+            start.plan ≡ (start_of self.now session).plan) }
+        ensures payload { IfOk result (λ start.
+            start.payload ≡ (start_of self.now session).payload) }
+        ensures more { IfOk result (λ start.
+            start.more ≡ (start_of self.now session).more) }
         ensures fits { IfOk result (λ start. FitsPlan start.plan) }
         ensures some { IfOk result (λ start. 1 ≤ length start.payload) }
     {
@@ -45,8 +49,10 @@ impl Command {
     /// A segment of the message of a session of the command, counted from 0, where the message is cut and has it.
     pub fn segment(&self, alloc: Global, session: u64, at: u16) -> Result<Option<Payload>, NoMemory>
         requires fit { IsFit self.now.carriage.actuator self.now.order }
-        requires form { FitsForm (form_of self.now.carriage.outer) (message_for self.now session) }
-        ensures { IfOk result (λ found. found ≡ segment_of (Some self.now) session at) }
+        requires form { FitsForm (form_of self.now.carriage.outer)
+            (message_for self.now session) }
+        ensures { IfOk result (λ found.
+            found ≡ segment_of (Some self.now) session at) }
     {
         let Form::Cut = self.carriage.form() else {
             return Ok(None);
@@ -64,7 +70,8 @@ fn segment_in(
     at: u16,
 ) -> Result<Option<Payload>, NoMemory>
     requires { FitsForm Cut message.now }
-    ensures { IfOk result (λ found. found ≡ segment_by Cut session message.now at) }
+    ensures { IfOk result (λ found.
+        found ≡ segment_by Cut session message.now at) }
 {
     let segments = cut(alloc, (session % 16) as u8, message)?;
     match segments.as_slice().get(at as usize) {
@@ -76,9 +83,12 @@ fn segment_in(
 // An attempt of a message starts.
 fn make_start(alloc: Global, form: Form, session: u64, message: Bytes) -> Result<Start, NoMemory>
     requires { FitsForm form message }
-    ensures plan { IfOk result (λ start. start.plan ≡ (start_by form session message).plan) }
-    ensures payload { IfOk result (λ start. start.payload ≡ (start_by form session message).payload) }
-    ensures more { IfOk result (λ start. start.more ≡ (start_by form session message).more) }
+    ensures plan { IfOk result (λ start.
+        start.plan ≡ (start_by form session message).plan) }
+    ensures payload { IfOk result (λ start.
+        start.payload ≡ (start_by form session message).payload) }
+    ensures more { IfOk result (λ start.
+        start.more ≡ (start_by form session message).more) }
     ensures fits { IfOk result (λ start. FitsPlan start.plan) }
     ensures some { IfOk result (λ start. 1 ≤ length start.payload) }
 {
@@ -100,9 +110,12 @@ fn make_start(alloc: Global, form: Form, session: u64, message: Bytes) -> Result
 // An attempt of a message that is cut starts.
 fn start_cut(alloc: Global, session: u64, message: &[u8]) -> Result<Start, NoMemory>
     requires { FitsForm Cut message.now }
-    ensures plan { IfOk result (λ start. start.plan ≡ (start_by Cut session message.now).plan) }
-    ensures payload { IfOk result (λ start. start.payload ≡ (start_by Cut session message.now).payload) }
-    ensures more { IfOk result (λ start. start.more ≡ (start_by Cut session message.now).more) }
+    ensures plan { IfOk result (λ start.
+        start.plan ≡ (start_by Cut session message.now).plan) }
+    ensures payload { IfOk result (λ start.
+        start.payload ≡ (start_by Cut session message.now).payload) }
+    ensures more { IfOk result (λ start.
+        start.more ≡ (start_by Cut session message.now).more) }
     ensures fits { IfOk result (λ start. FitsPlan start.plan) }
     ensures some { IfOk result (λ start. 1 ≤ length start.payload) }
 {

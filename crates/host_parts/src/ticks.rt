@@ -29,17 +29,23 @@ pub fn tick_line(
     commands: &mut Vec<Command>,
     out: &mut List<HostOut>,
 ) -> Result<(), NoMemory>
-    ensures decoder { OnOk result (link.new.decoder ≡ after_tick link.old.decoder) }
+    ensures decoder { OnOk result (link.new.decoder ≡
+        after_tick link.old.decoder) }
     ensures state { (h : HostState) →
-        OnOk result (with_line h link.new.side requests.new nodes.new commands.new.items ≡
-        after (with_line h link.old.side requests.old nodes.old commands.old.items) Line_ticks) }
+        OnOk result (with_line h link.new.side
+        requests.new nodes.new commands.new.items ≡
+        after (with_line h link.old.side requests.old
+        nodes.old commands.old.items) Line_ticks) }
     ensures outs { (h : HostState) →
         OnOk result (out.new.items ≡ out.old.items ++
-        outs (with_line h link.old.side requests.old nodes.old commands.old.items) Line_ticks) }
+        outs (with_line h link.old.side requests.old
+        nodes.old commands.old.items) Line_ticks) }
     ensures stays { OnErr result (link.new.decoder ≡ link.old.decoder) }
     ensures err { (h : HostState) →
-        OnErr result ((with_line h link.new.side requests.new nodes.new commands.new.items ≡
-        with_line h link.old.side requests.old nodes.old commands.old.items) × (out.new.items ≡ out.old.items)) }
+        OnErr result ((with_line h link.new.side
+        requests.new nodes.new commands.new.items ≡
+        with_line h link.old.side requests.old nodes.old commands.old.items)
+        × (out.new.items ≡ out.old.items)) }
 {
     out.reserve(1 + MOST_ENTRIES)?;
     let copy = link.next_copy()?;
@@ -64,12 +70,15 @@ pub fn tick_node(
 ) -> Result<(), NoMemory>
     ensures state { (h : HostState) →
         OnOk result (with_commands h nodes.new commands.new.items ≡
-        after (with_commands h nodes.old commands.old.items) (Node_ticks node)) }
+        after (with_commands h nodes.old commands.old.items)
+        (Node_ticks node)) }
     ensures outs { (h : HostState) →
-        OnOk result (out.new.items ≡ out.old.items ++ outs (with_commands h nodes.old commands.old.items) (Node_ticks node)) }
+        OnOk result (out.new.items ≡ out.old.items ++
+        outs (with_commands h nodes.old commands.old.items) (Node_ticks node)) }
     ensures err { (h : HostState) →
         OnErr result ((with_commands h nodes.new commands.new.items ≡
-        with_commands h nodes.old commands.old.items) × (out.new.items ≡ out.old.items)) }
+        with_commands h nodes.old commands.old.items)
+        × (out.new.items ≡ out.old.items)) }
 {
     out.reserve(MOST_ENTRIES)?;
     let command = open_command(nodes.of(node));

@@ -28,8 +28,10 @@ pub fn send(
     callback_id: u8,
 ) -> Result<Request, NoMemory>
     requires { length payload.now ≤ 46 }
-    ensures request { IfOk result (λ request. request ≡ send node payload.now callback_id) }
-    ensures fits { IfOk result (λ request. length (request_body request) ≤ 252) }
+    ensures request { IfOk result (λ request.
+        request ≡ send node payload.now callback_id) }
+    ensures fits { IfOk result (λ request.
+        length (request_body request) ≤ 252) }
 {
     Ok(Request::SendData {
         node,
@@ -41,8 +43,10 @@ pub fn send(
 
 /// A nonce for a node.
 fn offer(alloc: Global, node: NodeId, nonce: &[u8; 8], callback_id: u8) -> Result<Request, NoMemory>
-    ensures request { IfOk result (λ request. request ≡ send node (nonce_report nonce.now) callback_id) }
-    ensures fits { IfOk result (λ request. length (request_body request) ≤ 252) }
+    ensures request { IfOk result (λ request.
+        request ≡ send node (nonce_report nonce.now) callback_id) }
+    ensures fits { IfOk result (λ request.
+        length (request_body request) ≤ 252) }
 {
     let mut payload = Bytes::from_slice(alloc, &[SECURITY, NONCE_REPORT])?;
     payload.extend(nonce)?;
@@ -56,8 +60,10 @@ fn offer(alloc: Global, node: NodeId, nonce: &[u8; 8], callback_id: u8) -> Resul
 
 /// The request of a task.
 fn task_request(alloc: Global, task: &Task, callback_id: u8) -> Result<Request, NoMemory>
-    ensures request { IfOk result (λ request. request ≡ task_request task.now callback_id) }
-    ensures fits { IfOk result (λ request. length (request_body request) ≤ 252) }
+    ensures request { IfOk result (λ request.
+        request ≡ task_request task.now callback_id) }
+    ensures fits { IfOk result (λ request.
+        length (request_body request) ≤ 252) }
 {
     Ok(match task {
         Task::Plain { node, payload } | Task::Segment { node, payload } => {
@@ -87,7 +93,8 @@ fn task_request(alloc: Global, task: &Task, callback_id: u8) -> Result<Request, 
 pub fn task_frame(alloc: Global, task: &Task, callback_id: u8) -> Result<Frame, NoMemory>
     requires payload { HasPayload task.now }
     requires id { 1 ≤ callback_id }
-    ensures { IfOk result (λ frame. frame ≡ request_frame (task_request task.now callback_id)) }
+    ensures { IfOk result (λ frame.
+        frame ≡ request_frame (task_request task.now callback_id)) }
 {
     let request = task_request(alloc, task, callback_id)?;
     write_request(alloc, &request)

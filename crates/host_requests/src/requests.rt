@@ -164,14 +164,17 @@ impl Requests {
 
     /// The frame of an abort.
     pub fn abort_frame(&self, alloc: Global) -> Result<Frame, NoMemory>
-        ensures { IfOk result (λ frame. frame ≡ frame_of Abort (next_id self.now.last_id)) }
+        ensures { IfOk result (λ frame.
+            frame ≡ frame_of Abort (next_id self.now.last_id)) }
     {
         write_request(alloc, &Request::SendDataAbort)
     }
 
     /// The frame of the task that has waited longest, where one waits.
     pub fn front_frame(&self, alloc: Global) -> Result<Option<Frame>, NoMemory>
-        ensures { IfOk result (λ frame. frame ≡ option_map (λ task. frame_of (Housekeeping task) (next_id self.now.last_id)) (slice_get self.now.queue 0)) }
+        ensures { IfOk result (λ frame. frame ≡ option_map (λ task.
+            frame_of (Housekeeping task) (next_id self.now.last_id))
+            (slice_get self.now.queue 0)) }
     {
         match self.queue.front() {
             Some(task) => Ok(Some(task_frame(alloc, task, self.next_id())?)),
@@ -187,7 +190,9 @@ impl Requests {
         payload: &Payload,
     ) -> Result<Frame, NoMemory>
         requires { 1 ≤ length payload.now }
-        ensures { IfOk result (λ frame. frame ≡ frame_of (Attempt node false payload.now) (next_id self.now.last_id)) }
+        ensures { IfOk result (λ frame.
+            frame ≡ frame_of (Attempt node false payload.now)
+            (next_id self.now.last_id)) }
     {
         let request = send(alloc, node, payload.bytes(), self.next_id())?;
         write_request(alloc, &request)
@@ -264,7 +269,8 @@ impl Requests {
     fn finish(&mut self, under_way: UnderWay, how: How) -> End
         requires { self.old.under_way ≡ None }
         ensures state { self.new ≡ finished self.old under_way how }
-        ensures end { result ≡ record { purpose = under_way.purpose; how = how } }
+        ensures end { result ≡
+            record { purpose = under_way.purpose; how = how } }
     {
         self.owes = under_way.owes_abort(&how);
         self.first = how.capability();

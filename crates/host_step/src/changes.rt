@@ -39,7 +39,8 @@ impl HostCore {
 
     /// An interview tells what a node is.
     pub fn learn(&mut self, node: NodeId, listens: bool, classes: Bytes)
-        requires { HostFacts (node_does self.old.state node (Interviews listens classes)) }
+        requires { HostFacts (node_does self.old.state node
+            (Interviews listens classes)) }
         ensures { self.new ≡ record self.old { state = node_does self.old.state node (Interviews listens classes) } }
     {
         self.nodes.interviewed(node, listens, classes);
@@ -55,7 +56,8 @@ impl HostCore {
     /// A session of a node begins for this command.
     pub fn begin(&mut self, node: NodeId, command: u32)
         requires waits { 0 < length (node_of self.old.state node).waiting }
-        requires closed { open_session (node_of self.old.state node).book ≡ None }
+        requires closed { open_session
+            (node_of self.old.state node).book ≡ None }
         requires facts { HostFacts (beginning self.old.state node command) }
         ensures { self.new ≡ record self.old { state = beginning self.old.state node command } }
     {
@@ -73,7 +75,9 @@ impl HostCore {
 
     /// What a final status of a command confirms.
     pub fn confirmed_by(&self, command: u32, status: FinalStatus) -> Result<List<Setting>, NoMemory>
-        ensures { IfOk result (λ made. made.items ≡ settings_with status (command_at self.now.state.commands command)) }
+        ensures { IfOk result (λ made.
+            made.items ≡ settings_with status
+            (command_at self.now.state.commands command)) }
     {
         match (status, self.command_at(command)) {
             (FinalStatus::Success, Some(found)) => { found.settings(self.alloc) }
@@ -94,9 +98,13 @@ impl HostCore {
         confirmed: &[Setting],
     )
         requires six_bits { id < 64 }
-        requires confirms { confirmed.now ≡ settings_with status (command_at self.old.state.commands command) }
-        requires reserved { AllByRecursion (λ setting. IsReserved self.old.state.store node setting.property) confirmed.now }
-        requires facts { HostFacts (holding (finishing self.old.state node id command status) node is_held) }
+        requires confirms { confirmed.now ≡
+            settings_with status (command_at self.old.state.commands command) }
+        requires reserved { AllByRecursion (λ setting.
+            IsReserved self.old.state.store node setting.property) confirmed.now }
+        requires facts { HostFacts
+            (holding (finishing self.old.state node id command status)
+            node is_held) }
         ensures { self.new ≡ record self.old { state = holding (finishing self.old.state node id command status) node is_held } }
     {
         let _ = self.nodes.report(node, id, status.byte());
@@ -107,7 +115,8 @@ impl HostCore {
 
     /// A command that waits for a node is cancelled.
     pub fn cancel(&mut self, node: NodeId, command: u32)
-        requires waits { Contains (node_of self.old.state node).waiting command }
+        requires waits { Contains
+            (node_of self.old.state node).waiting command }
         requires facts { HostFacts (cancelling self.old.state node command) }
         ensures { self.new ≡ record self.old { state = cancelling self.old.state node command } }
     {
@@ -119,8 +128,10 @@ impl HostCore {
     pub fn give(&mut self, node: NodeId, drawn: [u8; 8]) -> [u8; 8]
         requires few { given_of self.old.state.nonces node + 1 < 2 ^ 64 }
         requires facts { HostFacts (giving self.old.state node drawn) }
-        ensures nonce { result ≡ nonce_given (account_of self.old.state.nonces node) drawn }
-        ensures state { self.new ≡ record self.old { state = giving self.old.state node drawn } }
+        ensures nonce { result ≡
+            nonce_given (account_of self.old.state.nonces node) drawn }
+        ensures state { self.new ≡
+            record self.old { state = giving self.old.state node drawn } }
     {
         self.nonces.give(node, drawn)
     }
@@ -128,7 +139,8 @@ impl HostCore {
     /// So many nonces were given to a node, of which this is live.
     pub fn restore_nonce(&mut self, node: NodeId, given: u64, nonce: [u8; 8])
         requires restorable { IsRestorable given (Some nonce) }
-        requires facts { HostFacts (given_again self.old.state node given nonce) }
+        requires facts { HostFacts
+            (given_again self.old.state node given nonce) }
         ensures { self.new ≡ record self.old { state = given_again self.old.state node given nonce } }
     {
         self.nonces.restore(node, given, Some(nonce));
@@ -146,7 +158,8 @@ impl HostCore {
     /// A nonce of a node is taken, so that this many were seen, and the pending plain text is sealed to this.
     pub fn take_nonce(&mut self, node: NodeId, seen: u64, text: Payload)
         requires pending { IsSome (node_of self.old.state node).pending }
-        requires facts { HostFacts (node_does self.old.state node (Takes_nonce seen text)) }
+        requires facts { HostFacts
+            (node_does self.old.state node (Takes_nonce seen text)) }
         ensures { self.new ≡ record self.old { state = node_does self.old.state node (Takes_nonce seen text) } }
     {
         self.nodes.take_nonce(node, seen, text);
@@ -154,7 +167,8 @@ impl HostCore {
 
     /// So many nonces of a node were seen.
     pub fn restore_seen(&mut self, node: NodeId, seen: u64)
-        requires { HostFacts (node_does self.old.state node (Restores_seen seen)) }
+        requires { HostFacts (node_does self.old.state node
+            (Restores_seen seen)) }
         ensures { self.new ≡ record self.old { state = node_does self.old.state node (Restores_seen seen) } }
     {
         self.nodes.restore_seen(node, seen);

@@ -68,7 +68,8 @@ impl HostCore {
     /// A host at the beginning: node 2 is joined, was interviewed and listens.
     #[tactic(auto, unfolding(host_model::specs::State::first_nodes))]
     pub fn new(alloc: Global, keys: Keys) -> Result<HostCore, NoMemory>
-        ensures { IfOk result (λ core. core ≡ record { decoder = no_rest; state = first_host keys }) }
+        ensures { IfOk result (λ core.
+            core ≡ record { decoder = no_rest; state = first_host keys }) }
     {
         facts_are_kept();
         let first = read_node(FIRST_NODE).unwrap();
@@ -138,7 +139,8 @@ impl HostCore {
 
     /// The command of that number, from 1.
     pub fn command_at(&self, number: u32) -> Option<&Command>
-        ensures { option_copied result ≡ the_command self.now.state.commands number }
+        ensures { option_copied result ≡
+            the_command self.now.state.commands number }
     {
         if number == 0 {
             return None;
@@ -197,14 +199,16 @@ impl HostCore {
 
     /// The properties of a node that have a value, in their order.
     pub fn values(&self, alloc: Global, node: NodeId) -> Result<List<Held>, NoMemory>
-        ensures { IfOk result (λ held. held.items ≡ held_of self.now.state.store node) }
+        ensures { IfOk result (λ held.
+            held.items ≡ held_of self.now.state.store node) }
     {
         self.store.list(alloc, node)
     }
 
     /// The same as JSON with no space.
     pub fn json(&self, alloc: Global, node: NodeId) -> Result<Bytes, NoMemory>
-        ensures { IfOk result (λ text. text ≡ values_text node (held_of self.now.state.store node)) }
+        ensures { IfOk result (λ text.
+            text ≡ values_text node (held_of self.now.state.store node)) }
     {
         self.store.to_json(alloc, node)
     }
@@ -228,8 +232,11 @@ impl HostCore {
     /// Takes the bytes up to the end of the first item, which is to be judged, or all of them. The answer is that item and
     /// the bytes that were not taken.
     pub fn next_item<'a>(&mut self, piece: &'a [u8]) -> Result<(Option<Item>, &'a [u8]), NoMemory>
-        ensures feeds { IfOk result (λ found. FeedsOne self.old.decoder piece.now self.new.decoder found.0 found.1.now) }
-        ensures shorter { IfOk result (λ found. OnSome found.0 (length found.1.now < length piece.now)) }
+        ensures feeds { IfOk result (λ found.
+            FeedsOne self.old.decoder piece.now
+            self.new.decoder found.0 found.1.now) }
+        ensures shorter { IfOk result (λ found.
+            OnSome found.0 (length found.1.now < length piece.now)) }
         ensures state { self.new.state ≡ self.old.state }
         ensures err { OnErr result (self.new ≡ self.old) }
     {

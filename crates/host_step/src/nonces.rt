@@ -4,9 +4,9 @@ ghost use Rattle.std.specs.Prelude.{◌≡◌, ◌++◌, IfOk, OnOk, OnErr, IsSo
 ghost use Rattle.host_node.specs.State.{SealsText};
 ghost use Rattle.host_model.specs.Events.{Offers};
 ghost use Rattle.host_model.specs.State.{node_of};
-ghost use Rattle.host_model.specs.After.{after};
 ghost use Rattle.host_model.specs.Outs.{outs};
 ghost use Rattle.host_model.specs.May.{May};
+ghost use Rattle.host_step.specs.Changes.{parts_after};
 
 use crate::HostCore;
 use host_model::HostOut;
@@ -18,9 +18,12 @@ impl HostCore {
     /// The live nonce of a node waits to be sent to it, or finds 64 tasks waiting.
     pub fn offer(&mut self, node: NodeId, out: &mut List<HostOut>) -> Result<(), NoMemory>
         requires { May self.old.state (Offers node) }
-        ensures state { OnOk result (self.new ≡ record self.old { state = after self.old.state (Offers node) }) }
-        ensures outs { OnOk result (out.new.items ≡ out.old.items ++ outs self.old.state (Offers node)) }
-        ensures err { OnErr result ((self.new ≡ self.old) × (out.new.items ≡ out.old.items)) }
+        ensures state { OnOk result (self.new ≡
+            parts_after self.old (Offers node)) }
+        ensures outs { OnOk result (out.new.items ≡
+            out.old.items ++ outs self.old.state (Offers node)) }
+        ensures err { OnErr result ((self.new ≡ self.old)
+            × (out.new.items ≡ out.old.items)) }
     {
         out.reserve(1)?;
         let nonce = self.nonces.live(node).unwrap();
@@ -40,7 +43,9 @@ impl HostCore {
         drawn: [u8; 8],
     ) -> Result<Payload, NoMemory>
         requires { IsSome (node_of self.now.state node).pending }
-        ensures { IfOk result (λ text. SealsText (node_of self.now.state node) self.now.state.keys drawn nonce text) }
+        ensures { IfOk result (λ text.
+            SealsText (node_of self.now.state node)
+            self.now.state.keys drawn nonce text) }
     {
         self.nodes.of(node).seal_text(&self.keys, nonce, drawn)
     }

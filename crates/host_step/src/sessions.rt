@@ -14,7 +14,8 @@ use zw_base::{NoMemory, NodeId, Payload};
 impl HostCore {
     /// How the next attempt of the open session of a node starts. None where no session is open, or it has no command.
     pub fn start_of(&self, node: NodeId) -> Result<Option<Start>, NoMemory>
-        ensures start { IfOk result (λ found. StartsSo self.now.state node found) }
+        ensures start { IfOk result (λ found.
+            StartsSo self.now.state node found) }
     {
         let Some(session) = self.nodes.of(node).current() else {
             return Ok(None);
@@ -30,7 +31,9 @@ impl HostCore {
 
     /// A segment of the message of a session of a node, counted from 0, where the message is cut and has it.
     pub fn segment(&self, node: NodeId, session: u64, at: u16) -> Result<Option<Payload>, NoMemory>
-        ensures { IfOk result (λ found. found ≡ open_segment self.now.state (node_of self.now.state node) (Some session) at) }
+        ensures { IfOk result (λ found.
+            found ≡ open_segment self.now.state
+            (node_of self.now.state node) (Some session) at) }
     {
         let Some(command) = self.command_of(node, session) else {
             return Ok(None);
@@ -40,7 +43,10 @@ impl HostCore {
 
     // The command of a session of a node.
     fn command_of(&self, node: NodeId, session: u64) -> Option<&Command>
-        ensures { option_copied result ≡ command_in self.now.state (command_of_session (node_of self.now.state node).book.commands session) }
+        ensures { option_copied result ≡
+            command_in self.now.state
+            (command_of_session (node_of self.now.state
+            node).book.commands session) }
     {
         self.command_at(self.nodes.of(node).command_of(session)?)
     }

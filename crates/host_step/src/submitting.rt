@@ -2,9 +2,9 @@
 
 ghost use Rattle.std.specs.Prelude.{◌≡◌, ◌++◌, ◌≤◌, length, OnOk, OnErr};
 ghost use Rattle.host_model.specs.Events.{Queues_no_more, Drops_no_more, Submits_abort, Submits_front, Starts, Gives_text, Gives_segment};
-ghost use Rattle.host_model.specs.After.{after};
 ghost use Rattle.host_model.specs.Outs.{outs};
 ghost use Rattle.host_model.specs.May.{May};
+ghost use Rattle.host_step.specs.Changes.{parts_after};
 
 use crate::HostCore;
 use host_model::{HostOut, facts_are_kept};
@@ -18,7 +18,7 @@ impl HostCore {
     /// No More Information waits to be sent to a node.
     pub fn queue_no_more(&mut self, node: NodeId)
         requires { May self.old.state (Queues_no_more node) }
-        ensures { self.new ≡ record self.old { state = after self.old.state (Queues_no_more node) } }
+        ensures { self.new ≡ parts_after self.old (Queues_no_more node) }
     {
         the_least_is_found();
         facts_are_kept();
@@ -29,9 +29,12 @@ impl HostCore {
     /// No More Information to a node finds 64 tasks waiting.
     pub fn drop_no_more(&mut self, node: NodeId, out: &mut List<HostOut>) -> Result<(), NoMemory>
         requires { May self.old.state (Drops_no_more node) }
-        ensures state { OnOk result (self.new ≡ record self.old { state = after self.old.state (Drops_no_more node) }) }
-        ensures outs { OnOk result (out.new.items ≡ out.old.items ++ outs self.old.state (Drops_no_more node)) }
-        ensures err { OnErr result ((self.new ≡ self.old) × (out.new.items ≡ out.old.items)) }
+        ensures state { OnOk result (self.new ≡
+            parts_after self.old (Drops_no_more node)) }
+        ensures outs { OnOk result (out.new.items ≡
+            out.old.items ++ outs self.old.state (Drops_no_more node)) }
+        ensures err { OnErr result ((self.new ≡ self.old)
+            × (out.new.items ≡ out.old.items)) }
     {
         the_least_is_found();
         facts_are_kept();
@@ -44,9 +47,12 @@ impl HostCore {
     /// The abort that is owed goes to the line.
     pub fn submit_abort(&mut self, out: &mut List<HostOut>) -> Result<(), NoMemory>
         requires { May self.old.state Submits_abort }
-        ensures state { OnOk result (self.new ≡ record self.old { state = after self.old.state Submits_abort }) }
-        ensures outs { OnOk result (out.new.items ≡ out.old.items ++ outs self.old.state Submits_abort) }
-        ensures err { OnErr result ((self.new ≡ self.old) × (out.new.items ≡ out.old.items)) }
+        ensures state { OnOk result (self.new ≡
+            parts_after self.old Submits_abort) }
+        ensures outs { OnOk result (out.new.items ≡
+            out.old.items ++ outs self.old.state Submits_abort) }
+        ensures err { OnErr result ((self.new ≡ self.old)
+            × (out.new.items ≡ out.old.items)) }
     {
         let frame = self.requests.abort_frame(self.alloc)?;
         put_on_line(self.alloc, &mut self.link, frame, out)?;
@@ -57,9 +63,12 @@ impl HostCore {
     /// The task that waited longest goes to the line.
     pub fn submit_front(&mut self, out: &mut List<HostOut>) -> Result<(), NoMemory>
         requires { May self.old.state Submits_front }
-        ensures state { OnOk result (self.new ≡ record self.old { state = after self.old.state Submits_front }) }
-        ensures outs { OnOk result (out.new.items ≡ out.old.items ++ outs self.old.state Submits_front) }
-        ensures err { OnErr result ((self.new ≡ self.old) × (out.new.items ≡ out.old.items)) }
+        ensures state { OnOk result (self.new ≡
+            parts_after self.old Submits_front) }
+        ensures outs { OnOk result (out.new.items ≡
+            out.old.items ++ outs self.old.state Submits_front) }
+        ensures err { OnErr result ((self.new ≡ self.old)
+            × (out.new.items ≡ out.old.items)) }
     {
         let frame = front_frame(&self.requests, self.alloc)?;
         put_on_line(self.alloc, &mut self.link, frame, out)?;
@@ -74,11 +83,16 @@ impl HostCore {
         start: Start,
         out: &mut List<HostOut>,
     ) -> Result<(), NoMemory>
-        requires may { May self.old.state (Starts node start.plan start.more start.payload) }
+        requires may { May self.old.state
+            (Starts node start.plan start.more start.payload) }
         requires payload { 1 ≤ length start.payload }
-        ensures state { OnOk result (self.new ≡ record self.old { state = after self.old.state (Starts node start.plan start.more start.payload) }) }
-        ensures outs { OnOk result (out.new.items ≡ out.old.items ++ outs self.old.state (Starts node start.plan start.more start.payload)) }
-        ensures err { OnErr result ((self.new ≡ self.old) × (out.new.items ≡ out.old.items)) }
+        ensures state { OnOk result (self.new ≡
+            parts_after self.old (Starts node
+            start.plan start.more start.payload)) }
+        ensures outs { OnOk result (out.new.items ≡ out.old.items ++
+            outs self.old.state (Starts node start.plan start.more start.payload)) }
+        ensures err { OnErr result ((self.new ≡ self.old)
+            × (out.new.items ≡ out.old.items)) }
     {
         facts_are_kept();
         let Start {
@@ -109,9 +123,12 @@ impl HostCore {
     ) -> Result<(), NoMemory>
         requires may { May self.old.state (Gives_text node payload) }
         requires payload { 1 ≤ length payload }
-        ensures state { OnOk result (self.new ≡ record self.old { state = after self.old.state (Gives_text node payload) }) }
-        ensures outs { OnOk result (out.new.items ≡ out.old.items ++ outs self.old.state (Gives_text node payload)) }
-        ensures err { OnErr result ((self.new ≡ self.old) × (out.new.items ≡ out.old.items)) }
+        ensures state { OnOk result (self.new ≡
+            parts_after self.old (Gives_text node payload)) }
+        ensures outs { OnOk result (out.new.items ≡ out.old.items ++
+            outs self.old.state (Gives_text node payload)) }
+        ensures err { OnErr result ((self.new ≡ self.old)
+            × (out.new.items ≡ out.old.items)) }
     {
         facts_are_kept();
         submit_attempt(
@@ -138,9 +155,12 @@ impl HostCore {
     ) -> Result<(), NoMemory>
         requires may { May self.old.state (Gives_segment node more payload) }
         requires payload { 1 ≤ length payload }
-        ensures state { OnOk result (self.new ≡ record self.old { state = after self.old.state (Gives_segment node more payload) }) }
-        ensures outs { OnOk result (out.new.items ≡ out.old.items ++ outs self.old.state (Gives_segment node more payload)) }
-        ensures err { OnErr result ((self.new ≡ self.old) × (out.new.items ≡ out.old.items)) }
+        ensures state { OnOk result (self.new ≡
+            parts_after self.old (Gives_segment node more payload)) }
+        ensures outs { OnOk result (out.new.items ≡ out.old.items ++
+            outs self.old.state (Gives_segment node more payload)) }
+        ensures err { OnErr result ((self.new ≡ self.old)
+            × (out.new.items ≡ out.old.items)) }
     {
         facts_are_kept();
         submit_attempt(

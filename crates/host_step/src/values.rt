@@ -6,6 +6,7 @@ ghost use Rattle.host_model.specs.After.{after};
 ghost use Rattle.host_model.specs.Outs.{outs};
 ghost use Rattle.host_model.specs.May.{May};
 ghost use Rattle.host_model.specs.Taking.{value_event};
+ghost use Rattle.host_step.specs.Changes.{parts_after};
 
 use crate::HostCore;
 use host_model::{HostOut, facts_are_kept};
@@ -22,8 +23,10 @@ impl HostCore {
         payload: &[u8],
         out: &mut List<HostOut>,
     ) -> Result<(), NoMemory>
-        ensures state { self.now.state ≡ after self.now.state (Unreads node payload.now) }
-        ensures outs { OnOk result (out.new.items ≡ out.old.items ++ outs self.now.state (Unreads node payload.now)) }
+        ensures state { self.now.state ≡
+            after self.now.state (Unreads node payload.now) }
+        ensures outs { OnOk result (out.new.items ≡ out.old.items ++
+            outs self.now.state (Unreads node payload.now)) }
         ensures err { OnErr result (out.new.items ≡ out.old.items) }
     {
         let copy = Bytes::from_slice(self.alloc, payload)?;
@@ -40,9 +43,12 @@ impl HostCore {
         setting: &Setting,
         out: &mut List<HostOut>,
     ) -> Result<(), NoMemory>
-        ensures state { OnOk result (self.new ≡ record self.old { state = after self.old.state (value_event self.old.state node setting.now) }) }
-        ensures outs { OnOk result (out.new.items ≡ out.old.items ++ outs self.old.state (value_event self.old.state node setting.now)) }
-        ensures err { OnErr result ((self.new ≡ self.old) × (out.new.items ≡ out.old.items)) }
+        ensures state { OnOk result (self.new ≡
+            parts_after self.old (value_event self.old.state node setting.now)) }
+        ensures outs { OnOk result (out.new.items ≡ out.old.items ++
+            outs self.old.state (value_event self.old.state node setting.now)) }
+        ensures err { OnErr result ((self.new ≡ self.old)
+            × (out.new.items ≡ out.old.items)) }
     {
         facts_are_kept();
         out.reserve(1)?;
@@ -70,9 +76,12 @@ impl HostCore {
 
     /// A node says that it is awake.
     pub fn notified(&mut self, node: NodeId, out: &mut List<HostOut>) -> Result<(), NoMemory>
-        ensures state { OnOk result (self.new ≡ record self.old { state = after self.old.state (Notifies node) }) }
-        ensures outs { OnOk result (out.new.items ≡ out.old.items ++ outs self.old.state (Notifies node)) }
-        ensures err { OnErr result ((self.new ≡ self.old) × (out.new.items ≡ out.old.items)) }
+        ensures state { OnOk result (self.new ≡
+            parts_after self.old (Notifies node)) }
+        ensures outs { OnOk result (out.new.items ≡
+            out.old.items ++ outs self.old.state (Notifies node)) }
+        ensures err { OnErr result ((self.new ≡ self.old)
+            × (out.new.items ≡ out.old.items)) }
     {
         facts_are_kept();
         out.reserve(1)?;
@@ -89,9 +98,12 @@ impl HostCore {
         out: &mut List<HostOut>,
     ) -> Result<(), NoMemory>
         requires { May self.old.state (Resends node payload) }
-        ensures state { OnOk result (self.new ≡ record self.old { state = after self.old.state (Resends node payload) }) }
-        ensures outs { OnOk result (out.new.items ≡ out.old.items ++ outs self.old.state (Resends node payload)) }
-        ensures err { OnErr result ((self.new ≡ self.old) × (out.new.items ≡ out.old.items)) }
+        ensures state { OnOk result (self.new ≡
+            parts_after self.old (Resends node payload)) }
+        ensures outs { OnOk result (out.new.items ≡ out.old.items ++
+            outs self.old.state (Resends node payload)) }
+        ensures err { OnErr result ((self.new ≡ self.old)
+            × (out.new.items ≡ out.old.items)) }
     {
         out.reserve(1)?;
         if self.is_full() {

@@ -1,6 +1,7 @@
 -- What a call of the host did (this project's own): which events happened, and what became of the host, of what it puts out and of
 -- what its keeper holds.
 use Rattle.std.specs.Prelude.{◌≡◌, ℕ, ◌<◌, Bool, true, false, List, [], ◌∷◌, ◌++◌, length, Option, Some, None}
+use Rattle.zw_base.specs.Listed.{Listed}
 use Rattle.host_model.specs.State.{HostState, HostParts}
 use Rattle.host_model.specs.Events.{HostEvent}
 use Rattle.host_keep.specs.Keeping.{Shelf}
@@ -21,6 +22,10 @@ pub record Scene : Type 0 where
 
 abbrev pub scene : HostState → List HostOut → Shelf → Scene
 scene host outs shelf = record { host = host; outs = outs; shelf = shelf }
+
+-- the scene of a host, its list of what it puts out, and its keeper, whose shelf is told so
+abbrev pub seen : {K : Type 0} → (K → Shelf) → HostParts → Listed HostOut → K → Scene
+seen shelf core out keeper = scene core.state out.items (shelf keeper)
 
 -- events of this kind happened
 pub record Does (Kind : List HostEvent → Type 0) (old new : Scene) : Type 0 where

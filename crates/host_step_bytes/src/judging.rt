@@ -12,7 +12,7 @@ ghost use Rattle.host_requests.specs.Events.RequestsEvent.{Fails as request_fail
 ghost use Rattle.host_model.specs.After.{is_busy, gives_up};
 ghost use Rattle.host_model.specs.Taking.{Fed, FedPrefix, IsJudged, IsFollowed, FrameEvents, ResponseEvents, NoticeEvents, InterviewEvents, told_if};
 ghost use Rattle.host_step_bytes.specs.Updates.{Lists, HasShortPayload};
-ghost use Rattle.host_step_bytes.specs.Calls.{scene, Are, Does, Stops, DoesAlone, TakesOne};
+ghost use Rattle.host_step_bytes.specs.Calls.{seen, Are, Does, Stops, DoesAlone, TakesOne};
 
 use crate::messages::take_payload;
 use chip_functions::{BodyFault, Notice, Update, read_notice, read_response};
@@ -36,12 +36,12 @@ pub fn feed<D: Draw, P: Keeper>(
     out: &mut List<HostOut>,
     keeper: &mut P,
 ) -> Result<(), NoMemory>
-    ensures ok { OnOk result (Fed core.old piece.now core.new out.old.items out.new.items
-        (scene core.old.state out.old.items (P.shelf keeper.old)).shelf
-        (scene core.new.state out.new.items (P.shelf keeper.new)).shelf) }
-    ensures err { OnErr result (FedPrefix core.old piece.now core.new out.old.items out.new.items
-        (scene core.old.state out.old.items (P.shelf keeper.old)).shelf
-        (scene core.new.state out.new.items (P.shelf keeper.new)).shelf) }
+    ensures ok { OnOk result
+        (Fed core.old piece.now core.new out.old.items out.new.items
+        (P.shelf keeper.old) (P.shelf keeper.new)) }
+    ensures err { OnErr result
+        (FedPrefix core.old piece.now core.new out.old.items out.new.items
+        (P.shelf keeper.old) (P.shelf keeper.new)) }
     ensures never_fewer { P.number keeper.old ≤ P.number keeper.new }
     ensures reads { P.reads keeper.new ≡ P.reads keeper.old }
 {
@@ -60,12 +60,13 @@ fn take_item<'a, D: Draw, P: Keeper>(
     out: &mut List<HostOut>,
     keeper: &mut P,
 ) -> Result<Option<&'a [u8]>, NoMemory>
-    ensures takes { IfOk result (λ left. TakesOne core.old piece.now core.new
-        (scene core.old.state out.old.items (P.shelf keeper.old))
-        (scene core.new.state out.new.items (P.shelf keeper.new)) (option_copied left)) }
-    ensures err { OnErr result (FedPrefix core.old piece.now core.new out.old.items out.new.items
-        (scene core.old.state out.old.items (P.shelf keeper.old)).shelf
-        (scene core.new.state out.new.items (P.shelf keeper.new)).shelf) }
+    ensures takes { IfOk result (λ left.
+        TakesOne core.old piece.now core.new
+        (seen P.shelf core.old out.old keeper.old)
+        (seen P.shelf core.new out.new keeper.new) (option_copied left)) }
+    ensures err { OnErr result
+        (FedPrefix core.old piece.now core.new out.old.items out.new.items
+        (P.shelf keeper.old) (P.shelf keeper.new)) }
     ensures never_fewer { P.number keeper.old ≤ P.number keeper.new }
     ensures reads { P.reads keeper.new ≡ P.reads keeper.old }
 {
@@ -87,11 +88,12 @@ fn judge<D: Draw, P: Keeper>(
     keeper: &mut P,
 ) -> Result<(), NoMemory>
     ensures ok { OnOk result (Does (IsJudged core.old.state item.now)
-        (scene core.old.state out.old.items (P.shelf keeper.old))
-        (scene core.new.state out.new.items (P.shelf keeper.new))) }
+        (seen P.shelf core.old out.old keeper.old)
+        (seen P.shelf core.new out.new keeper.new)) }
     ensures decoder { core.new.decoder ≡ core.old.decoder }
-    ensures err { OnErr result (Stops (scene core.old.state out.old.items (P.shelf keeper.old))
-        (scene core.new.state out.new.items (P.shelf keeper.new))) }
+    ensures err { OnErr result (Stops
+        (seen P.shelf core.old out.old keeper.old)
+        (seen P.shelf core.new out.new keeper.new)) }
     ensures never_fewer { P.number keeper.old ≤ P.number keeper.new }
     ensures reads { P.reads keeper.new ≡ P.reads keeper.old }
 {
@@ -111,11 +113,13 @@ fn follow<D: Draw, P: Keeper>(
     keeper: &mut P,
 ) -> Result<(), NoMemory>
     ensures ok { OnOk result ((turn : Turn) → was_busy ≡ is_busy turn →
-        Does (IsFollowed core.old.state turn item.now) (scene core.old.state out.old.items (P.shelf keeper.old))
-        (scene core.new.state out.new.items (P.shelf keeper.new))) }
+        Does (IsFollowed core.old.state turn item.now)
+        (seen P.shelf core.old out.old keeper.old)
+        (seen P.shelf core.new out.new keeper.new)) }
     ensures decoder { core.new.decoder ≡ core.old.decoder }
-    ensures err { OnErr result (Stops (scene core.old.state out.old.items (P.shelf keeper.old))
-        (scene core.new.state out.new.items (P.shelf keeper.new))) }
+    ensures err { OnErr result (Stops
+        (seen P.shelf core.old out.old keeper.old)
+        (seen P.shelf core.new out.new keeper.new)) }
     ensures never_fewer { P.number keeper.old ≤ P.number keeper.new }
     ensures reads { P.reads keeper.new ≡ P.reads keeper.old }
 {
@@ -139,11 +143,12 @@ fn follow_unit<D: Draw, P: Keeper>(
 ) -> Result<(), NoMemory>
     ensures ok { OnOk result ((turn : Turn) → was_busy ≡ is_busy turn →
         Does (IsFollowed core.old.state turn (Good unit.now))
-        (scene core.old.state out.old.items (P.shelf keeper.old))
-        (scene core.new.state out.new.items (P.shelf keeper.new))) }
+        (seen P.shelf core.old out.old keeper.old)
+        (seen P.shelf core.new out.new keeper.new)) }
     ensures decoder { core.new.decoder ≡ core.old.decoder }
-    ensures err { OnErr result (Stops (scene core.old.state out.old.items (P.shelf keeper.old))
-        (scene core.new.state out.new.items (P.shelf keeper.new))) }
+    ensures err { OnErr result (Stops
+        (seen P.shelf core.old out.old keeper.old)
+        (seen P.shelf core.new out.new keeper.new)) }
     ensures never_fewer { P.number keeper.old ≤ P.number keeper.new }
     ensures reads { P.reads keeper.new ≡ P.reads keeper.old }
 {
@@ -173,9 +178,12 @@ fn acknowledged(
     was_busy: bool,
     out: &mut List<HostOut>,
 ) -> Result<(), NoMemory>
-    ensures ok { OnOk result (DoesAlone (Are (told_if was_busy request_is_sent)) core.old.state out.old.items core.new.state out.new.items) }
+    ensures ok { OnOk result
+        (DoesAlone (Are (told_if was_busy request_is_sent))
+        core.old.state out.old.items core.new.state out.new.items) }
     ensures decoder { core.new.decoder ≡ core.old.decoder }
-    ensures err { OnErr result ((core.new ≡ core.old) × (out.new.items ≡ out.old.items)) }
+    ensures err { OnErr result ((core.new ≡ core.old)
+        × (out.new.items ≡ out.old.items)) }
 {
     if !was_busy {
         return Ok(());
@@ -187,9 +195,12 @@ fn acknowledged(
 // Its last copy may have been refused.
 fn refused(core: &mut HostCore, was_busy: bool, out: &mut List<HostOut>) -> Result<(), NoMemory>
     ensures ok { OnOk result ((turn : Turn) → was_busy ≡ is_busy turn →
-        DoesAlone (Are (told_if (gives_up turn core.old.state.side.turn) request_fails)) core.old.state out.old.items core.new.state out.new.items) }
+        DoesAlone (Are (told_if (gives_up turn core.old.state.side.turn)
+        request_fails))
+        core.old.state out.old.items core.new.state out.new.items) }
     ensures decoder { core.new.decoder ≡ core.old.decoder }
-    ensures err { OnErr result ((core.new ≡ core.old) × (out.new.items ≡ out.old.items)) }
+    ensures err { OnErr result ((core.new ≡ core.old)
+        × (out.new.items ≡ out.old.items)) }
 {
     if !was_busy || core.is_busy() {
         return Ok(());
@@ -206,12 +217,15 @@ fn take_frame<D: Draw, P: Keeper>(
     out: &mut List<HostOut>,
     keeper: &mut P,
 ) -> Result<(), NoMemory>
-    ensures ok { OnOk result (Does (FrameEvents core.old.state frame.now.kind frame.now.func frame.now.body)
-        (scene core.old.state out.old.items (P.shelf keeper.old))
-        (scene core.new.state out.new.items (P.shelf keeper.new))) }
+    ensures ok { OnOk result
+        (Does (FrameEvents core.old.state
+        frame.now.kind frame.now.func frame.now.body)
+        (seen P.shelf core.old out.old keeper.old)
+        (seen P.shelf core.new out.new keeper.new)) }
     ensures decoder { core.new.decoder ≡ core.old.decoder }
-    ensures err { OnErr result (Stops (scene core.old.state out.old.items (P.shelf keeper.old))
-        (scene core.new.state out.new.items (P.shelf keeper.new))) }
+    ensures err { OnErr result (Stops
+        (seen P.shelf core.old out.old keeper.old)
+        (seen P.shelf core.new out.new keeper.new)) }
     ensures never_fewer { P.number keeper.old ≤ P.number keeper.new }
     ensures reads { P.reads keeper.new ≡ P.reads keeper.old }
 {
@@ -231,12 +245,14 @@ fn take_body<D: Draw, P: Keeper>(
     keeper: &mut P,
 ) -> Result<(), NoMemory>
     requires { length body.now ≤ 65534 }
-    ensures ok { OnOk result (Does (FrameEvents core.old.state kind func body.now)
-        (scene core.old.state out.old.items (P.shelf keeper.old))
-        (scene core.new.state out.new.items (P.shelf keeper.new))) }
+    ensures ok { OnOk result
+        (Does (FrameEvents core.old.state kind func body.now)
+        (seen P.shelf core.old out.old keeper.old)
+        (seen P.shelf core.new out.new keeper.new)) }
     ensures decoder { core.new.decoder ≡ core.old.decoder }
-    ensures err { OnErr result (Stops (scene core.old.state out.old.items (P.shelf keeper.old))
-        (scene core.new.state out.new.items (P.shelf keeper.new))) }
+    ensures err { OnErr result (Stops
+        (seen P.shelf core.old out.old keeper.old)
+        (seen P.shelf core.new out.new keeper.new)) }
     ensures never_fewer { P.number keeper.old ≤ P.number keeper.new }
     ensures reads { P.reads keeper.new ≡ P.reads keeper.old }
 {
@@ -259,9 +275,12 @@ fn take_response(
     body: &[u8],
     out: &mut List<HostOut>,
 ) -> Result<(), NoMemory>
-    ensures ok { OnOk result (DoesAlone (ResponseEvents (response_of func body.now)) core.old.state out.old.items core.new.state out.new.items) }
+    ensures ok { OnOk result
+        (DoesAlone (ResponseEvents (response_of func body.now))
+        core.old.state out.old.items core.new.state out.new.items) }
     ensures decoder { core.new.decoder ≡ core.old.decoder }
-    ensures err { OnErr result ((core.new ≡ core.old) × (out.new.items ≡ out.old.items)) }
+    ensures err { OnErr result ((core.new ≡ core.old)
+        × (out.new.items ≡ out.old.items)) }
 {
     match read_response(core.alloc(), func, body) {
         Ok(response) => {
@@ -293,12 +312,14 @@ fn take_notice<D: Draw, P: Keeper>(
     keeper: &mut P,
 ) -> Result<(), NoMemory>
     requires { length body.now ≤ 65534 }
-    ensures ok { OnOk result (Does (NoticeEvents core.old.state (notice_of func body.now))
-        (scene core.old.state out.old.items (P.shelf keeper.old))
-        (scene core.new.state out.new.items (P.shelf keeper.new))) }
+    ensures ok { OnOk result
+        (Does (NoticeEvents core.old.state (notice_of func body.now))
+        (seen P.shelf core.old out.old keeper.old)
+        (seen P.shelf core.new out.new keeper.new)) }
     ensures decoder { core.new.decoder ≡ core.old.decoder }
-    ensures err { OnErr result (Stops (scene core.old.state out.old.items (P.shelf keeper.old))
-        (scene core.new.state out.new.items (P.shelf keeper.new))) }
+    ensures err { OnErr result (Stops
+        (seen P.shelf core.old out.old keeper.old)
+        (seen P.shelf core.new out.new keeper.new)) }
     ensures never_fewer { P.number keeper.old ≤ P.number keeper.new }
     ensures reads { P.reads keeper.new ≡ P.reads keeper.old }
 {
@@ -321,11 +342,12 @@ fn take_read<D: Draw, P: Keeper>(
 ) -> Result<(), NoMemory>
     requires { HasShortPayload notice }
     ensures ok { OnOk result (Does (NoticeEvents core.old.state (Ok notice))
-        (scene core.old.state out.old.items (P.shelf keeper.old))
-        (scene core.new.state out.new.items (P.shelf keeper.new))) }
+        (seen P.shelf core.old out.old keeper.old)
+        (seen P.shelf core.new out.new keeper.new)) }
     ensures decoder { core.new.decoder ≡ core.old.decoder }
-    ensures err { OnErr result (Stops (scene core.old.state out.old.items (P.shelf keeper.old))
-        (scene core.new.state out.new.items (P.shelf keeper.new))) }
+    ensures err { OnErr result (Stops
+        (seen P.shelf core.old out.old keeper.old)
+        (seen P.shelf core.new out.new keeper.new)) }
     ensures never_fewer { P.number keeper.old ≤ P.number keeper.new }
     ensures reads { P.reads keeper.new ≡ P.reads keeper.old }
 {
@@ -360,12 +382,15 @@ fn take_update<P: Keeper>(
     out: &mut List<HostOut>,
     keeper: &mut P,
 ) -> Result<(), NoMemory>
-    ensures ok { OnOk result (Does (InterviewEvents update (interviewed_by core.old.state.requests update))
-        (scene core.old.state out.old.items (P.shelf keeper.old))
-        (scene core.new.state out.new.items (P.shelf keeper.new))) }
+    ensures ok { OnOk result
+        (Does (InterviewEvents update
+        (interviewed_by core.old.state.requests update))
+        (seen P.shelf core.old out.old keeper.old)
+        (seen P.shelf core.new out.new keeper.new)) }
     ensures decoder { core.new.decoder ≡ core.old.decoder }
-    ensures err { OnErr result (Stops (scene core.old.state out.old.items (P.shelf keeper.old))
-        (scene core.new.state out.new.items (P.shelf keeper.new))) }
+    ensures err { OnErr result (Stops
+        (seen P.shelf core.old out.old keeper.old)
+        (seen P.shelf core.new out.new keeper.new)) }
     ensures never_fewer { P.number keeper.old ≤ P.number keeper.new }
     ensures reads { P.reads keeper.new ≡ P.reads keeper.old }
 {

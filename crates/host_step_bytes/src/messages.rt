@@ -5,7 +5,7 @@ ghost use Rattle.encap.specs.Opening.{begins_with};
 ghost use Rattle.s0_session.specs.Nonces.{live_of};
 ghost use Rattle.host_heard.specs.Telling.{heard_at};
 ghost use Rattle.host_model.specs.Taking.{IsTaken, AreTaken, PayloadEvents, SealedEvents, is_secure, named_by};
-ghost use Rattle.host_step_bytes.specs.Calls.{scene, Does, Stops};
+ghost use Rattle.host_step_bytes.specs.Calls.{seen, Does, Stops};
 
 use crate::nonces::{take_nonce, take_nonce_get};
 use crate::reports::take_report;
@@ -35,12 +35,15 @@ pub(crate) fn take_payload<D: Draw, P: Keeper>(
     keeper: &mut P,
 ) -> Result<(), NoMemory>
     requires { length payload.now ≤ 65534 }
-    ensures ok { OnOk result (Does (PayloadEvents core.old.state node payload.now (heard_at payload.now))
-        (scene core.old.state out.old.items (P.shelf keeper.old))
-        (scene core.new.state out.new.items (P.shelf keeper.new))) }
+    ensures ok { OnOk result
+        (Does (PayloadEvents core.old.state node payload.now
+        (heard_at payload.now))
+        (seen P.shelf core.old out.old keeper.old)
+        (seen P.shelf core.new out.new keeper.new)) }
     ensures decoder { core.new.decoder ≡ core.old.decoder }
-    ensures err { OnErr result (Stops (scene core.old.state out.old.items (P.shelf keeper.old))
-        (scene core.new.state out.new.items (P.shelf keeper.new))) }
+    ensures err { OnErr result (Stops
+        (seen P.shelf core.old out.old keeper.old)
+        (seen P.shelf core.new out.new keeper.new)) }
     ensures never_fewer { P.number keeper.old ≤ P.number keeper.new }
     ensures reads { P.reads keeper.new ≡ P.reads keeper.old }
 {
@@ -80,12 +83,14 @@ fn take_all<D: Draw, P: Keeper>(
     out: &mut List<HostOut>,
     keeper: &mut P,
 ) -> Result<(), NoMemory>
-    ensures ok { OnOk result (Does (AreTaken core.old.state node payload.now sealed messages.now)
-        (scene core.old.state out.old.items (P.shelf keeper.old))
-        (scene core.new.state out.new.items (P.shelf keeper.new))) }
+    ensures ok { OnOk result
+        (Does (AreTaken core.old.state node payload.now sealed messages.now)
+        (seen P.shelf core.old out.old keeper.old)
+        (seen P.shelf core.new out.new keeper.new)) }
     ensures decoder { core.new.decoder ≡ core.old.decoder }
-    ensures err { OnErr result (Stops (scene core.old.state out.old.items (P.shelf keeper.old))
-        (scene core.new.state out.new.items (P.shelf keeper.new))) }
+    ensures err { OnErr result (Stops
+        (seen P.shelf core.old out.old keeper.old)
+        (seen P.shelf core.new out.new keeper.new)) }
     ensures never_fewer { P.number keeper.old ≤ P.number keeper.new }
     ensures reads { P.reads keeper.new ≡ P.reads keeper.old }
 {
@@ -107,12 +112,14 @@ fn take<D: Draw, P: Keeper>(
     out: &mut List<HostOut>,
     keeper: &mut P,
 ) -> Result<(), NoMemory>
-    ensures ok { OnOk result (Does (IsTaken core.old.state node payload.now sealed message.now)
-        (scene core.old.state out.old.items (P.shelf keeper.old))
-        (scene core.new.state out.new.items (P.shelf keeper.new))) }
+    ensures ok { OnOk result
+        (Does (IsTaken core.old.state node payload.now sealed message.now)
+        (seen P.shelf core.old out.old keeper.old)
+        (seen P.shelf core.new out.new keeper.new)) }
     ensures decoder { core.new.decoder ≡ core.old.decoder }
-    ensures err { OnErr result (Stops (scene core.old.state out.old.items (P.shelf keeper.old))
-        (scene core.new.state out.new.items (P.shelf keeper.new))) }
+    ensures err { OnErr result (Stops
+        (seen P.shelf core.old out.old keeper.old)
+        (seen P.shelf core.new out.new keeper.new)) }
     ensures never_fewer { P.number keeper.old ≤ P.number keeper.new }
     ensures reads { P.reads keeper.new ≡ P.reads keeper.old }
 {
@@ -174,12 +181,14 @@ fn take_sealed<D: Draw, P: Keeper>(
     requires header { begins_with payload.now 152 129 ≡ true }
     requires short { length payload.now ≤ 65534 }
     ensures ok { OnOk result (Does
-        (SealedEvents core.old.state node payload.now (named_by payload.now (live_of core.old.state.nonces node)))
-        (scene core.old.state out.old.items (P.shelf keeper.old))
-        (scene core.new.state out.new.items (P.shelf keeper.new))) }
+        (SealedEvents core.old.state node payload.now
+        (named_by payload.now (live_of core.old.state.nonces node)))
+        (seen P.shelf core.old out.old keeper.old)
+        (seen P.shelf core.new out.new keeper.new)) }
     ensures decoder { core.new.decoder ≡ core.old.decoder }
-    ensures err { OnErr result (Stops (scene core.old.state out.old.items (P.shelf keeper.old))
-        (scene core.new.state out.new.items (P.shelf keeper.new))) }
+    ensures err { OnErr result (Stops
+        (seen P.shelf core.old out.old keeper.old)
+        (seen P.shelf core.new out.new keeper.new)) }
     ensures never_fewer { P.number keeper.old ≤ P.number keeper.new }
     ensures reads { P.reads keeper.new ≡ P.reads keeper.old }
 {
@@ -208,7 +217,8 @@ fn take_sealed<D: Draw, P: Keeper>(
 
 // The live nonce of a node, where a message names it.
 fn nonce_named(core: &HostCore, node: NodeId, payload: &[u8]) -> Option<[u8; 8]>
-    ensures { result ≡ named_by payload.now (live_of core.now.state.nonces node) }
+    ensures { result ≡ named_by payload.now
+        (live_of core.now.state.nonces node) }
 {
     let nonce = core.live(node)?;
     if payload.len() >= LEAST_SEALED && payload[payload.len() - NAMED_FROM_END] == nonce[0] {

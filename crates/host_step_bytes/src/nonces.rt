@@ -6,7 +6,7 @@ ghost use Rattle.host_keep.specs.Rows.{AreBytes};
 ghost use Rattle.host_node.specs.State.{count_at};
 ghost use Rattle.host_model.specs.State.{node_of};
 ghost use Rattle.host_model.specs.Taking.{NonceGetEvents, NonceReportEvents};
-ghost use Rattle.host_step_bytes.specs.Calls.{scene, Does, Stops};
+ghost use Rattle.host_step_bytes.specs.Calls.{seen, Does, Stops};
 
 use host_keep::Keeper;
 use host_model::HostOut;
@@ -21,12 +21,14 @@ pub(crate) fn take_nonce_get<D: Draw, P: Keeper>(
     out: &mut List<HostOut>,
     keeper: &mut P,
 ) -> Result<(), NoMemory>
-    ensures ok { OnOk result (Does (NonceGetEvents node (live_of core.old.state.nonces node))
-        (scene core.old.state out.old.items (P.shelf keeper.old))
-        (scene core.new.state out.new.items (P.shelf keeper.new))) }
+    ensures ok { OnOk result
+        (Does (NonceGetEvents node (live_of core.old.state.nonces node))
+        (seen P.shelf core.old out.old keeper.old)
+        (seen P.shelf core.new out.new keeper.new)) }
     ensures decoder { core.new.decoder ≡ core.old.decoder }
-    ensures err { OnErr result (Stops (scene core.old.state out.old.items (P.shelf keeper.old))
-        (scene core.new.state out.new.items (P.shelf keeper.new))) }
+    ensures err { OnErr result (Stops
+        (seen P.shelf core.old out.old keeper.old)
+        (seen P.shelf core.new out.new keeper.new)) }
     ensures never_fewer { P.number keeper.old ≤ P.number keeper.new }
     ensures reads { P.reads keeper.new ≡ P.reads keeper.old }
 {
@@ -65,12 +67,14 @@ pub(crate) fn take_nonce<D: Draw, P: Keeper>(
     keeper: &mut P,
 ) -> Result<(), NoMemory>
     ensures ok { OnOk result (Does
-        (NonceReportEvents core.old.state node nonce (count_at (node_of core.old.state node) (slice_index nonce 0)))
-        (scene core.old.state out.old.items (P.shelf keeper.old))
-        (scene core.new.state out.new.items (P.shelf keeper.new))) }
+        (NonceReportEvents core.old.state node nonce
+        (count_at (node_of core.old.state node) (slice_index nonce 0)))
+        (seen P.shelf core.old out.old keeper.old)
+        (seen P.shelf core.new out.new keeper.new)) }
     ensures decoder { core.new.decoder ≡ core.old.decoder }
-    ensures err { OnErr result (Stops (scene core.old.state out.old.items (P.shelf keeper.old))
-        (scene core.new.state out.new.items (P.shelf keeper.new))) }
+    ensures err { OnErr result (Stops
+        (seen P.shelf core.old out.old keeper.old)
+        (seen P.shelf core.new out.new keeper.new)) }
     ensures never_fewer { P.number keeper.old ≤ P.number keeper.new }
     ensures reads { P.reads keeper.new ≡ P.reads keeper.old }
 {

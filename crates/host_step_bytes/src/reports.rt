@@ -7,7 +7,7 @@ ghost use Rattle.host_keep.specs.Status.{status_of};
 ghost use Rattle.host_model.specs.State.{node_of};
 ghost use Rattle.host_model.specs.Taking.{ReportEvents, FinalEvents};
 ghost use Rattle.supervision.specs.declared.host_node.Told.TheVariants.{Final as ends};
-ghost use Rattle.host_step_bytes.specs.Calls.{scene, Does, Stops};
+ghost use Rattle.host_step_bytes.specs.Calls.{seen, Does, Stops};
 
 use class_info::ReportStatus;
 use host_keep::{FinalStatus, Keeper};
@@ -30,12 +30,14 @@ pub(crate) fn take_report<P: Keeper>(
     keeper: &mut P,
 ) -> Result<(), NoMemory>
     ensures ok { OnOk result (Does
-        (ReportEvents core.old.state node id status wake_request (told_of (node_of core.old.state node).book id (status_byte status)))
-        (scene core.old.state out.old.items (P.shelf keeper.old))
-        (scene core.new.state out.new.items (P.shelf keeper.new))) }
+        (ReportEvents core.old.state node id status wake_request
+        (told_of (node_of core.old.state node).book id (status_byte status)))
+        (seen P.shelf core.old out.old keeper.old)
+        (seen P.shelf core.new out.new keeper.new)) }
     ensures decoder { core.new.decoder ≡ core.old.decoder }
-    ensures err { OnErr result (Stops (scene core.old.state out.old.items (P.shelf keeper.old))
-        (scene core.new.state out.new.items (P.shelf keeper.new))) }
+    ensures err { OnErr result (Stops
+        (seen P.shelf core.old out.old keeper.old)
+        (seen P.shelf core.new out.new keeper.new)) }
     ensures never_fewer { P.number keeper.old ≤ P.number keeper.new }
     ensures reads { P.reads keeper.new ≡ P.reads keeper.old }
 {
@@ -57,7 +59,8 @@ pub(crate) fn take_report<P: Keeper>(
 
 // What a report is to the sessions of a node. No session has an id of more than six bits.
 fn told(core: &HostCore, node: NodeId, id: u8, status: ReportStatus) -> Told
-    ensures { result ≡ told_of (node_of core.now.state node).book id (status_byte status) }
+    ensures { result ≡ told_of (node_of core.now.state node).book id
+        (status_byte status) }
 {
     if id < IDS {
         core.node(node).told(id, status.byte())
@@ -77,14 +80,18 @@ fn end_session<P: Keeper>(
     out: &mut List<HostOut>,
     keeper: &mut P,
 ) -> Result<(), NoMemory>
-    requires { told_of (node_of core.old.state node).book id (status_byte status) ≡ ends session }
+    requires { told_of (node_of core.old.state node).book id
+        (status_byte status) ≡ ends session }
     ensures ok { OnOk result (Does
-        (FinalEvents node session id (command_of_session (node_of core.old.state node).book.commands session)
-        (status_of (status_byte status)) wake_request) (scene core.old.state out.old.items (P.shelf keeper.old))
-        (scene core.new.state out.new.items (P.shelf keeper.new))) }
+        (FinalEvents node session id
+        (command_of_session (node_of core.old.state node).book.commands session)
+        (status_of (status_byte status)) wake_request)
+        (seen P.shelf core.old out.old keeper.old)
+        (seen P.shelf core.new out.new keeper.new)) }
     ensures decoder { core.new.decoder ≡ core.old.decoder }
-    ensures err { OnErr result (Stops (scene core.old.state out.old.items (P.shelf keeper.old))
-        (scene core.new.state out.new.items (P.shelf keeper.new))) }
+    ensures err { OnErr result (Stops
+        (seen P.shelf core.old out.old keeper.old)
+        (seen P.shelf core.new out.new keeper.new)) }
     ensures never_fewer { P.number keeper.old ≤ P.number keeper.new }
     ensures reads { P.reads keeper.new ≡ P.reads keeper.old }
 {

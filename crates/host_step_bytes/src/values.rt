@@ -23,9 +23,12 @@ pub(crate) fn hear_values(
     values: &[Setting],
     out: &mut List<HostOut>,
 ) -> Result<(), NoMemory>
-    ensures ok { OnOk result (DoesAlone (Are (value_events core.old.state node values.now)) core.old.state out.old.items core.new.state out.new.items) }
+    ensures ok { OnOk result
+        (DoesAlone (Are (value_events core.old.state node values.now))
+        core.old.state out.old.items core.new.state out.new.items) }
     ensures decoder { core.new.decoder ≡ core.old.decoder }
-    ensures err { OnErr result (StopsAlone core.old.state out.old.items core.new.state out.new.items) }
+    ensures err { OnErr result
+        (StopsAlone core.old.state out.old.items core.new.state out.new.items) }
 {
     messages_go_on();
     for value in values {
@@ -44,9 +47,11 @@ pub(crate) fn resend(
 ) -> Result<(), NoMemory>
     ensures ok { OnOk result (DoesAlone
         (Are (resent node (wanted_segment core.old.state node
-        (open_session (node_of core.old.state node).book) id offset))) core.old.state out.old.items core.new.state out.new.items) }
+        (open_session (node_of core.old.state node).book) id offset)))
+        core.old.state out.old.items core.new.state out.new.items) }
     ensures decoder { core.new.decoder ≡ core.old.decoder }
-    ensures err { OnErr result (StopsAlone core.old.state out.old.items core.new.state out.new.items) }
+    ensures err { OnErr result
+        (StopsAlone core.old.state out.old.items core.new.state out.new.items) }
 {
     let Some(session) = core.node(node).current() else {
         return Ok(());

@@ -1,9 +1,8 @@
 //! Nonces that a node is given, and those of its own (Security 0).
 
 ghost use Rattle.std.specs.Prelude.{◌≡◌, ◌++◌, ◌+◌, ◌^◌, ◌<◌, ◌≤◌, [], false, true, IfOk, OnOk, OnErr};
-ghost use Rattle.zw_base.specs.Faults.{Rose};
 ghost use Rattle.s0_session.specs.Nonces.{given_of, new_nonce};
-ghost use Rattle.host_keep.specs.Keeping.{OptAdds, Kept};
+ghost use Rattle.host_keep.specs.Keeping.{Kept, Adds, Fails};
 ghost use Rattle.host_keep.specs.Rows.{IsRecord};
 ghost use Rattle.host_keep.specs.RecordText.{record_text};
 ghost use Rattle.host_keep.specs.declared.record.Record.TheVariants.{Given as the_given};
@@ -14,6 +13,7 @@ ghost use Rattle.host_model.specs.Outs.{outs};
 ghost use Rattle.host_model.specs.Records.{records_at, KeepsInRange};
 ghost use Rattle.host_model.specs.Did.{texts_of};
 ghost use Rattle.host_model.specs.May.{May};
+ghost use Rattle.host_step.specs.Changes.{parts_after};
 ghost use Rattle.host_step_kept.specs.Choices.{chosen};
 
 use host_keep::{Keeper, Record};
@@ -34,14 +34,22 @@ pub fn give<P: Keeper>(
 ) -> Result<bool, NoMemory>
     requires { May core.old.state (Gives node drawn) }
     ensures kept { IfOk result (λ is_kept. Kept is_kept
-        (record_text (the_given node (given_of core.old.state.nonces node + 1) (new_nonce (given_of core.old.state.nonces node) drawn)))
+        (record_text (the_given node (given_of core.old.state.nonces node + 1)
+        (new_nonce (given_of core.old.state.nonces node) drawn)))
         (P.shelf keeper.old) (P.shelf keeper.new)) }
     ensures in_range { OnOk result
-        (IsRecord (the_given node (given_of core.old.state.nonces node + 1) (new_nonce (given_of core.old.state.nonces node) drawn))) }
-    ensures state { IfOk result (λ is_kept. core.new ≡ record core.old { state = after core.old.state (chosen is_kept (Gives node drawn) (Is_unkept node)) }) }
-    ensures outs { IfOk result (λ is_kept. out.new.items ≡ out.old.items ++ outs core.old.state (chosen is_kept (Gives node drawn) (Is_unkept node))) }
-    ensures err { OnErr result ((core.new ≡ core.old) × (out.new.items ≡ out.old.items)) }
-    ensures no_record { OnErr result (OptAdds (P.shelf keeper.old).records (P.shelf keeper.new).records []) }
+        (IsRecord (the_given node (given_of core.old.state.nonces node + 1)
+        (new_nonce (given_of core.old.state.nonces node) drawn))) }
+    ensures state { IfOk result (λ is_kept.
+        core.new ≡ parts_after core.old
+        (chosen is_kept (Gives node drawn) (Is_unkept node))) }
+    ensures outs { IfOk result (λ is_kept. out.new.items ≡ out.old.items ++
+        outs core.old.state (chosen is_kept
+        (Gives node drawn) (Is_unkept node))) }
+    ensures err { OnErr result ((core.new ≡ core.old)
+        × (out.new.items ≡ out.old.items)) }
+    ensures no_record { OnErr result
+        (Adds [] (P.shelf keeper.old) (P.shelf keeper.new)) }
     ensures never_falls { (P.shelf keeper.old).faults ≤ (P.shelf keeper.new).faults }
     ensures never_fewer { P.number keeper.old ≤ P.number keeper.new }
     ensures reads { P.reads keeper.new ≡ P.reads keeper.old }
@@ -60,8 +68,10 @@ fn given_record(
     out: &mut List<HostOut>,
 ) -> Result<Record, NoMemory>
     ensures fact { IfOk result (λ fact. fact ≡
-        the_given node (given_of core.now.state.nonces node + 1) (new_nonce (given_of core.now.state.nonces node) drawn)) }
-    ensures few { OnOk result (given_of core.now.state.nonces node + 1 < 2 ^ 64) }
+        the_given node (given_of core.now.state.nonces node + 1)
+        (new_nonce (given_of core.now.state.nonces node) drawn)) }
+    ensures few { OnOk result
+        (given_of core.now.state.nonces node + 1 < 2 ^ 64) }
     ensures outs { out.new.items ≡ out.old.items }
     ensures room { OnOk result (1 ≤ out.new.room) }
 {
@@ -88,8 +98,12 @@ fn give_if_kept(
     requires may { May core.old.state (Gives node drawn) }
     requires few { given_of core.old.state.nonces node + 1 < 2 ^ 64 }
     requires room { 1 ≤ out.old.room }
-    ensures state { core.new ≡ record core.old { state = after core.old.state (chosen is_kept (Gives node drawn) (Is_unkept node)) } }
-    ensures outs { out.new.items ≡ out.old.items ++ outs core.old.state (chosen is_kept (Gives node drawn) (Is_unkept node)) }
+    ensures state { core.new ≡
+        parts_after core.old (chosen is_kept
+        (Gives node drawn) (Is_unkept node)) }
+    ensures outs { out.new.items ≡ out.old.items ++
+        outs core.old.state (chosen is_kept
+        (Gives node drawn) (Is_unkept node)) }
 {
     facts_are_kept();
     core.invariant_holds();
@@ -117,18 +131,28 @@ pub fn take_nonce<P: Keeper>(
     keeper: &mut P,
 ) -> Result<bool, NoMemory>
     requires { May core.old.state (Takes_nonce node seen text) }
-    ensures records { IfOk result
-        (λ is_kept. OptAdds (P.shelf keeper.old).records (P.shelf keeper.new).records
-        (texts_of (records_at core.old.state (chosen is_kept (Takes_nonce node seen text) (Is_unkept node))))) }
-    ensures rose { IfOk result (λ is_kept. is_kept ≡ false → Rose (P.shelf keeper.old).faults (P.shelf keeper.new).faults) }
-    ensures unasked { IfOk result (λ is_kept. (node_of core.old.state node).seen ≡ seen → is_kept ≡ true) }
-    ensures in_range { IfOk result (λ is_kept. KeepsInRange core.old.state (chosen is_kept (Takes_nonce node seen text) (Is_unkept node))) }
-    ensures state { IfOk result (λ is_kept. core.new ≡
-        record core.old { state = after core.old.state (chosen is_kept (Takes_nonce node seen text) (Is_unkept node)) }) }
+    ensures records { IfOk result (λ is_kept. Adds
+        (texts_of (records_at core.old.state
+        (chosen is_kept (Takes_nonce node seen text) (Is_unkept node))))
+        (P.shelf keeper.old) (P.shelf keeper.new)) }
+    ensures rose { IfOk result (λ is_kept. is_kept ≡ false →
+        Fails (P.shelf keeper.old) (P.shelf keeper.new)) }
+    ensures unasked { IfOk result (λ is_kept.
+        (node_of core.old.state node).seen ≡ seen →
+        is_kept ≡ true) }
+    ensures in_range { IfOk result (λ is_kept.
+        KeepsInRange core.old.state
+        (chosen is_kept (Takes_nonce node seen text) (Is_unkept node))) }
+    ensures state { IfOk result (λ is_kept.
+        core.new ≡ parts_after core.old
+        (chosen is_kept (Takes_nonce node seen text) (Is_unkept node))) }
     ensures outs { IfOk result (λ is_kept. out.new.items ≡ out.old.items ++
-        outs core.old.state (chosen is_kept (Takes_nonce node seen text) (Is_unkept node))) }
-    ensures err { OnErr result ((core.new ≡ core.old) × (out.new.items ≡ out.old.items)) }
-    ensures no_record { OnErr result (OptAdds (P.shelf keeper.old).records (P.shelf keeper.new).records []) }
+        outs core.old.state (chosen is_kept
+        (Takes_nonce node seen text) (Is_unkept node))) }
+    ensures err { OnErr result ((core.new ≡ core.old)
+        × (out.new.items ≡ out.old.items)) }
+    ensures no_record { OnErr result
+        (Adds [] (P.shelf keeper.old) (P.shelf keeper.new)) }
     ensures never_falls { (P.shelf keeper.old).faults ≤ (P.shelf keeper.new).faults }
     ensures never_fewer { P.number keeper.old ≤ P.number keeper.new }
     ensures reads { P.reads keeper.new ≡ P.reads keeper.old }

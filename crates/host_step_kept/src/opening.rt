@@ -3,13 +3,13 @@
 ghost use Rattle.std.specs.Prelude.{◌≡◌, ◌++◌, ◌≤◌, [], Some, true, length, IfOk, OnOk, OnErr};
 ghost use Rattle.encap.specs.Opening.{begins_with};
 ghost use Rattle.s0_session.specs.Nonces.{live_of};
-ghost use Rattle.host_keep.specs.Keeping.{OptAdds, Kept};
+ghost use Rattle.host_keep.specs.Keeping.{Kept, Adds};
 ghost use Rattle.host_keep.specs.Rows.{IsRecord};
 ghost use Rattle.host_keep.specs.RecordText.{record_text};
 ghost use Rattle.host_keep.specs.declared.record.Record.TheVariants.{Spent as the_spent};
-ghost use Rattle.host_model.specs.After.{after};
 ghost use Rattle.host_model.specs.Outs.{outs};
 ghost use Rattle.host_model.specs.Taking.{named_by};
+ghost use Rattle.host_step.specs.Changes.{parts_after};
 ghost use Rattle.host_step_kept.specs.Opening.{opening, is_kept, OpensBy, Tells};
 
 use host_heard::{Heard, Told, read_payload};
@@ -44,16 +44,24 @@ pub fn open<P: Keeper>(
     keeper: &mut P,
 ) -> Result<Opened, NoMemory>
     requires header { begins_with payload.now 152 129 ≡ true }
-    requires named { named_by payload.now (live_of core.old.state.nonces node) ≡ Some nonce }
+    requires named { named_by payload.now
+        (live_of core.old.state.nonces node) ≡ Some nonce }
     requires short { length payload.now ≤ 65534 }
-    ensures opens { IfOk result (λ opened. OpensBy core.old.state node nonce payload.now opened) }
-    ensures kept { IfOk result (λ opened. Kept (is_kept opened) (record_text (the_spent node)) (P.shelf keeper.old)
-        (P.shelf keeper.new)) }
+    ensures opens { IfOk result (λ opened.
+        OpensBy core.old.state node nonce payload.now opened) }
+    ensures kept { IfOk result (λ opened.
+        Kept (is_kept opened) (record_text (the_spent node))
+        (P.shelf keeper.old) (P.shelf keeper.new)) }
     ensures in_range { OnOk result (IsRecord (the_spent node)) }
-    ensures state { IfOk result (λ opened. core.new ≡ record core.old { state = after core.old.state (opening node payload.now opened) }) }
-    ensures outs { IfOk result (λ opened. out.new.items ≡ out.old.items ++ outs core.old.state (opening node payload.now opened)) }
-    ensures err { OnErr result ((core.new ≡ core.old) × (out.new.items ≡ out.old.items)) }
-    ensures no_record { OnErr result (OptAdds (P.shelf keeper.old).records (P.shelf keeper.new).records []) }
+    ensures state { IfOk result (λ opened.
+        core.new ≡ parts_after core.old (opening node payload.now opened)) }
+    ensures outs { IfOk result (λ opened.
+        out.new.items ≡ out.old.items ++
+        outs core.old.state (opening node payload.now opened)) }
+    ensures err { OnErr result ((core.new ≡ core.old)
+        × (out.new.items ≡ out.old.items)) }
+    ensures no_record { OnErr result
+        (Adds [] (P.shelf keeper.old) (P.shelf keeper.new)) }
     ensures never_falls { (P.shelf keeper.old).faults ≤ (P.shelf keeper.new).faults }
     ensures never_fewer { P.number keeper.old ≤ P.number keeper.new }
     ensures reads { P.reads keeper.new ≡ P.reads keeper.old }

@@ -1,7 +1,7 @@
 //! A node joins, its interview ends, or a command is cancelled.
 
 ghost use Rattle.std.specs.Prelude.{◌≡◌, ◌++◌, ◌≤◌, [], IfOk, OnOk, OnErr};
-ghost use Rattle.host_keep.specs.Keeping.{OptAdds, Kept};
+ghost use Rattle.host_keep.specs.Keeping.{Kept, Adds};
 ghost use Rattle.host_keep.specs.Rows.{IsRecord};
 ghost use Rattle.host_keep.specs.RecordText.{record_text};
 ghost use Rattle.host_keep.specs.declared.record.Record.TheVariants.{Cancelled as the_cancelled, Classes as the_classes, Joined as the_joined};
@@ -9,6 +9,7 @@ ghost use Rattle.host_model.specs.Events.{Cancels, Interviews, Interview_unkept,
 ghost use Rattle.host_model.specs.After.{after, node_for};
 ghost use Rattle.host_model.specs.Outs.{outs};
 ghost use Rattle.host_model.specs.May.{May};
+ghost use Rattle.host_step.specs.Changes.{parts_after};
 ghost use Rattle.host_step_kept.specs.Choices.{after_if, chosen};
 
 use chip_functions::Update;
@@ -22,11 +23,15 @@ use zw_text::Entry;
 /// A node joins, once that is kept. True where it was.
 pub fn join<P: Keeper>(core: &mut HostCore, node: NodeId, keeper: &mut P) -> Result<bool, NoMemory>
     requires { May core.old.state (Joins node) }
-    ensures kept { IfOk result (λ is_kept. Kept is_kept (record_text (the_joined node)) (P.shelf keeper.old) (P.shelf keeper.new)) }
+    ensures kept { IfOk result (λ is_kept.
+        Kept is_kept (record_text (the_joined node))
+        (P.shelf keeper.old) (P.shelf keeper.new)) }
     ensures in_range { OnOk result (IsRecord (the_joined node)) }
-    ensures state { IfOk result (λ is_kept. core.new ≡ record core.old { state = after_if is_kept core.old.state (Joins node) }) }
+    ensures state { IfOk result (λ is_kept.
+        core.new ≡ record core.old { state = after_if is_kept core.old.state (Joins node) }) }
     ensures err { OnErr result (core.new ≡ core.old) }
-    ensures no_record { OnErr result (OptAdds (P.shelf keeper.old).records (P.shelf keeper.new).records []) }
+    ensures no_record { OnErr result
+        (Adds [] (P.shelf keeper.old) (P.shelf keeper.new)) }
     ensures never_falls { (P.shelf keeper.old).faults ≤ (P.shelf keeper.new).faults }
     ensures never_fewer { P.number keeper.old ≤ P.number keeper.new }
     ensures reads { P.reads keeper.new ≡ P.reads keeper.old }
@@ -49,11 +54,15 @@ pub fn cancel<P: Keeper>(
 ) -> Result<bool, NoMemory>
     requires node { node ≡ node_for core.old.state command }
     requires may { May core.old.state (Cancels command) }
-    ensures kept { IfOk result (λ is_kept. Kept is_kept (record_text (the_cancelled command)) (P.shelf keeper.old) (P.shelf keeper.new)) }
+    ensures kept { IfOk result (λ is_kept.
+        Kept is_kept (record_text (the_cancelled command))
+        (P.shelf keeper.old) (P.shelf keeper.new)) }
     ensures in_range { OnOk result (IsRecord (the_cancelled command)) }
-    ensures state { IfOk result (λ is_kept. core.new ≡ record core.old { state = after_if is_kept core.old.state (Cancels command) }) }
+    ensures state { IfOk result (λ is_kept.
+        core.new ≡ record core.old { state = after_if is_kept core.old.state (Cancels command) }) }
     ensures err { OnErr result (core.new ≡ core.old) }
-    ensures no_record { OnErr result (OptAdds (P.shelf keeper.old).records (P.shelf keeper.new).records []) }
+    ensures no_record { OnErr result
+        (Adds [] (P.shelf keeper.old) (P.shelf keeper.new)) }
     ensures never_falls { (P.shelf keeper.old).faults ≤ (P.shelf keeper.new).faults }
     ensures never_fewer { P.number keeper.old ≤ P.number keeper.new }
     ensures reads { P.reads keeper.new ≡ P.reads keeper.old }
@@ -79,15 +88,22 @@ pub fn interviewed<P: Keeper>(
     keeper: &mut P,
 ) -> Result<bool, NoMemory>
     requires { May core.old.state (Interviews node listens classes update) }
-    ensures kept { IfOk result (λ is_kept. Kept is_kept (record_text (the_classes node listens classes)) (P.shelf keeper.old)
-        (P.shelf keeper.new)) }
-    ensures in_range { OnOk result (IsRecord (the_classes node listens classes)) }
-    ensures state { IfOk result (λ is_kept. core.new ≡
-        record core.old { state = after core.old.state (chosen is_kept (Interviews node listens classes update) (Interview_unkept node update)) }) }
+    ensures kept { IfOk result (λ is_kept.
+        Kept is_kept (record_text (the_classes node listens classes))
+        (P.shelf keeper.old) (P.shelf keeper.new)) }
+    ensures in_range { OnOk result
+        (IsRecord (the_classes node listens classes)) }
+    ensures state { IfOk result (λ is_kept. core.new ≡ parts_after core.old
+        (chosen is_kept (Interviews node listens classes update)
+        (Interview_unkept node update))) }
     ensures outs { IfOk result (λ is_kept. out.new.items ≡ out.old.items ++
-        outs core.old.state (chosen is_kept (Interviews node listens classes update) (Interview_unkept node update))) }
-    ensures err { OnErr result ((core.new ≡ core.old) × (out.new.items ≡ out.old.items)) }
-    ensures no_record { OnErr result (OptAdds (P.shelf keeper.old).records (P.shelf keeper.new).records []) }
+        outs core.old.state (chosen is_kept
+        (Interviews node listens classes update)
+        (Interview_unkept node update))) }
+    ensures err { OnErr result ((core.new ≡ core.old)
+        × (out.new.items ≡ out.old.items)) }
+    ensures no_record { OnErr result
+        (Adds [] (P.shelf keeper.old) (P.shelf keeper.new)) }
     ensures never_falls { (P.shelf keeper.old).faults ≤ (P.shelf keeper.new).faults }
     ensures never_fewer { P.number keeper.old ≤ P.number keeper.new }
     ensures reads { P.reads keeper.new ≡ P.reads keeper.old }
@@ -106,7 +122,8 @@ fn classes_record(
     classes: &Bytes,
     out: &mut List<HostOut>,
 ) -> Result<Record, NoMemory>
-    ensures fact { IfOk result (λ fact. fact ≡ the_classes node listens classes.now) }
+    ensures fact { IfOk result (λ fact.
+        fact ≡ the_classes node listens classes.now) }
     ensures outs { out.new.items ≡ out.old.items }
     ensures room { OnOk result (1 ≤ out.new.room) }
 {
@@ -129,14 +146,17 @@ fn end_interview(
     is_kept: bool,
     out: &mut List<HostOut>,
 )
-    requires may { May core.old.state (Interviews node listens classes update) }
+    requires may { May core.old.state
+        (Interviews node listens classes update) }
     requires room { 1 ≤ out.old.room }
     ensures state { core.new ≡ record core.old {
       state = after core.old.state
           (chosen is_kept (Interviews node listens classes update) (Interview_unkept node update));
     } }
     ensures outs { out.new.items ≡ out.old.items ++
-        outs core.old.state (chosen is_kept (Interviews node listens classes update) (Interview_unkept node update)) }
+        outs core.old.state (chosen is_kept
+        (Interviews node listens classes update)
+        (Interview_unkept node update)) }
 {
     facts_are_kept();
     core.invariant_holds();

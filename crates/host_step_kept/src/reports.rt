@@ -1,7 +1,7 @@
 //! A report ends a session.
 
 ghost use Rattle.std.specs.Prelude.{◌≡◌, ◌++◌, ◌&&◌, ◌+◌, ◌≤◌, ◌<◌, [], length, IfOk, OnOk, OnErr};
-ghost use Rattle.host_keep.specs.Keeping.{OptAdds, Kept};
+ghost use Rattle.host_keep.specs.Keeping.{Kept, Adds};
 ghost use Rattle.host_keep.specs.Rows.{IsRecord};
 ghost use Rattle.host_keep.specs.RecordText.{record_text};
 ghost use Rattle.host_keep.specs.declared.record.Record.TheVariants.{Final as the_final};
@@ -9,10 +9,10 @@ ghost use Rattle.host_node.specs.State.{is_false};
 ghost use Rattle.host_model.specs.Events.{Finishes, Is_unkept};
 ghost use Rattle.host_model.specs.State.{command_at};
 ghost use Rattle.host_model.specs.Sessions.{settings_with};
-ghost use Rattle.host_model.specs.After.{after};
 ghost use Rattle.host_step_kept.specs.declared.reports.TheConstants.{MOST_OTHERS};
 ghost use Rattle.host_model.specs.Outs.{outs, ended_of, noted, stored_entries};
 ghost use Rattle.host_model.specs.May.{May};
+ghost use Rattle.host_step.specs.Changes.{parts_after};
 ghost use Rattle.host_step_kept.specs.Choices.{chosen};
 
 use host_keep::{FinalStatus, Keeper, Record};
@@ -39,16 +39,24 @@ pub fn finish<P: Keeper>(
     keeper: &mut P,
 ) -> Result<bool, NoMemory>
     requires six_bits { id < 64 }
-    requires may { May core.old.state (Finishes node session id command status wake_request) }
-    ensures kept { IfOk result (λ is_kept. Kept is_kept (record_text (the_final node session status)) (P.shelf keeper.old)
-        (P.shelf keeper.new)) }
-    ensures in_range { OnOk result (IsRecord (the_final node session status)) }
-    ensures state { IfOk result (λ is_kept. core.new ≡
-        record core.old { state = after core.old.state (chosen is_kept (Finishes node session id command status wake_request) (Is_unkept node)) }) }
+    requires may { May core.old.state
+        (Finishes node session id command status wake_request) }
+    ensures kept { IfOk result (λ is_kept.
+        Kept is_kept (record_text (the_final node session status))
+        (P.shelf keeper.old) (P.shelf keeper.new)) }
+    ensures in_range { OnOk result
+        (IsRecord (the_final node session status)) }
+    ensures state { IfOk result (λ is_kept. core.new ≡ parts_after core.old
+        (chosen is_kept (Finishes node session id command status wake_request)
+        (Is_unkept node))) }
     ensures outs { IfOk result (λ is_kept. out.new.items ≡ out.old.items ++
-        outs core.old.state (chosen is_kept (Finishes node session id command status wake_request) (Is_unkept node))) }
-    ensures err { OnErr result ((core.new ≡ core.old) × (out.new.items ≡ out.old.items)) }
-    ensures no_record { OnErr result (OptAdds (P.shelf keeper.old).records (P.shelf keeper.new).records []) }
+        outs core.old.state (chosen is_kept
+        (Finishes node session id command status wake_request)
+        (Is_unkept node))) }
+    ensures err { OnErr result ((core.new ≡ core.old)
+        × (out.new.items ≡ out.old.items)) }
+    ensures no_record { OnErr result
+        (Adds [] (P.shelf keeper.old) (P.shelf keeper.new)) }
     ensures never_falls { (P.shelf keeper.old).faults ≤ (P.shelf keeper.new).faults }
     ensures never_fewer { P.number keeper.old ≤ P.number keeper.new }
     ensures reads { P.reads keeper.new ≡ P.reads keeper.old }
@@ -85,9 +93,12 @@ fn confirmed_with_room(
     status: FinalStatus,
     out: &mut List<HostOut>,
 ) -> Result<List<Setting>, NoMemory>
-    ensures confirms { IfOk result (λ made. made.items ≡ settings_with status (command_at core.now.state.commands command)) }
+    ensures confirms { IfOk result (λ made.
+        made.items ≡ settings_with status
+        (command_at core.now.state.commands command)) }
     ensures outs { out.new.items ≡ out.old.items }
-    ensures room { IfOk result (λ made. MOST_OTHERS + length made.items ≤ out.new.room) }
+    ensures room { IfOk result (λ made.
+        MOST_OTHERS + length made.items ≤ out.new.room) }
 {
     let confirmed = core.confirmed_by(command, status)?;
     out.reserve(MOST_OTHERS + confirmed.len())?;
@@ -107,11 +118,17 @@ fn end_session(
     out: &mut List<HostOut>,
 )
     requires six_bits { id < 64 }
-    requires may { May core.old.state (Finishes node session id command status wake_request) }
-    requires confirms { confirmed.now ≡ settings_with status (command_at core.old.state.commands command) }
+    requires may { May core.old.state
+        (Finishes node session id command status wake_request) }
+    requires confirms { confirmed.now ≡
+        settings_with status (command_at core.old.state.commands command) }
     requires room { MOST_OTHERS + length confirmed.now ≤ out.old.room }
-    ensures state { core.new ≡ record core.old { state = after core.old.state (Finishes node session id command status wake_request) } }
-    ensures outs { out.new.items ≡ out.old.items ++ outs core.old.state (Finishes node session id command status wake_request) }
+    ensures state { core.new ≡
+        parts_after core.old (Finishes node
+        session id command status wake_request) }
+    ensures outs { out.new.items ≡ out.old.items ++
+        outs core.old.state (Finishes node
+        session id command status wake_request) }
 {
     facts_are_kept();
     core.invariant_holds();
@@ -130,7 +147,8 @@ fn end_session(
 // What is confirmed is entered, for which there is room.
 fn note_confirmed(node: NodeId, confirmed: &[Setting], out: &mut List<HostOut>)
     requires { length confirmed.now ≤ out.old.room }
-    ensures outs { out.new.items ≡ out.old.items ++ noted (stored_entries node confirmed.now) }
+    ensures outs { out.new.items ≡ out.old.items ++
+        noted (stored_entries node confirmed.now) }
     ensures room { out.new.room + length confirmed.now ≡ out.old.room }
 {
     if let [setting, more @ ..] = confirmed {

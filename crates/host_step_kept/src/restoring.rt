@@ -20,8 +20,10 @@ const CONTROLLER: u8 = 1;
 /// Takes up a record, where it may follow what the host has; where it may not, nothing changes. A host for which there
 /// was no memory is given up.
 pub fn restore(core: &mut HostCore, fact: Record) -> Result<bool, NoMemory>
-    ensures taken { IfOk result (λ taken. taken ≡ may_restore core.old.state fact) }
-    ensures state { IfOk result (λ taken. core.new ≡ record core.old { state = restored_if taken core.old.state fact }) }
+    ensures taken { IfOk result (λ taken.
+        taken ≡ may_restore core.old.state fact) }
+    ensures state { IfOk result (λ taken.
+        core.new ≡ record core.old { state = restored_if taken core.old.state fact }) }
 {
     match fact {
         Record::Accepted { command, order } => restore_order(core, command, order),
@@ -50,8 +52,10 @@ pub fn restore(core: &mut HostCore, fact: Record) -> Result<bool, NoMemory>
 
 // An order that was taken is judged and taken again. Its record is kept already, so none is kept of it here.
 fn restore_order(core: &mut HostCore, command: u32, order: Order) -> Result<bool, NoMemory>
-    ensures taken { IfOk result (λ taken. taken ≡ may_restore core.old.state (record_of.Accepted command order)) }
-    ensures state { IfOk result (λ taken. core.new ≡ record core.old { state = restored_if taken core.old.state (record_of.Accepted command order) }) }
+    ensures taken { IfOk result (λ taken.
+        taken ≡ may_restore core.old.state (record_of.Accepted command order)) }
+    ensures state { IfOk result (λ taken. core.new ≡
+        record core.old { state = restored_if taken core.old.state (record_of.Accepted command order) }) }
 {
     if !is_next(u64::from(command), core.commands() as u64) {
         return Ok(false);
@@ -65,8 +69,10 @@ fn restore_order(core: &mut HostCore, command: u32, order: Order) -> Result<bool
 
 // A node joined.
 fn restore_joined(core: &mut HostCore, node: NodeId) -> bool
-    ensures taken { result ≡ may_restore core.old.state (record_of.Joined node) }
-    ensures state { core.new ≡ record core.old { state = restored_if result core.old.state (record_of.Joined node) } }
+    ensures taken { result ≡
+        may_restore core.old.state (record_of.Joined node) }
+    ensures state { core.new ≡
+        record core.old { state = restored_if result core.old.state (record_of.Joined node) } }
 {
     a_record_restores_what_it_says();
     core.invariant_holds();
@@ -79,8 +85,10 @@ fn restore_joined(core: &mut HostCore, node: NodeId) -> bool
 
 // A node was interviewed.
 fn restore_classes(core: &mut HostCore, node: NodeId, listens: bool, classes: Bytes) -> bool
-    ensures taken { result ≡ may_restore core.old.state (record_of.Classes node listens classes) }
-    ensures state { core.new ≡ record core.old { state = restored_if result core.old.state (record_of.Classes node listens classes) } }
+    ensures taken { result ≡
+        may_restore core.old.state (record_of.Classes node listens classes) }
+    ensures state { core.new ≡
+        record core.old { state = restored_if result core.old.state (record_of.Classes node listens classes) } }
 {
     a_record_restores_what_it_says();
     core.invariant_holds();
@@ -93,8 +101,10 @@ fn restore_classes(core: &mut HostCore, node: NodeId, listens: bool, classes: By
 
 // A session was begun.
 fn restore_begun(core: &mut HostCore, node: NodeId, session: u64, command: u32) -> bool
-    ensures taken { result ≡ may_restore core.old.state (record_of.Begun node session command) }
-    ensures state { core.new ≡ record core.old { state = restored_if result core.old.state (record_of.Begun node session command) } }
+    ensures taken { result ≡
+        may_restore core.old.state (record_of.Begun node session command) }
+    ensures state { core.new ≡
+        record core.old { state = restored_if result core.old.state (record_of.Begun node session command) } }
 {
     a_record_restores_what_it_says();
     core.invariant_holds();
@@ -112,8 +122,11 @@ fn restore_final(
     session: u64,
     status: FinalStatus,
 ) -> Result<bool, NoMemory>
-    ensures taken { IfOk result (λ taken. taken ≡ may_restore core.old.state (record_of.Final node session status)) }
-    ensures state { IfOk result (λ taken. core.new ≡ record core.old { state = restored_if taken core.old.state (record_of.Final node session status) }) }
+    ensures taken { IfOk result (λ taken.
+        taken ≡ may_restore core.old.state
+        (record_of.Final node session status)) }
+    ensures state { IfOk result (λ taken.
+        core.new ≡ record core.old { state = restored_if taken core.old.state (record_of.Final node session status) }) }
 {
     a_record_restores_what_it_says();
     core.invariant_holds();
@@ -135,8 +148,10 @@ fn restore_final(
 
 // A command was cancelled.
 fn restore_cancelled(core: &mut HostCore, command: u32) -> bool
-    ensures taken { result ≡ may_restore core.old.state (record_of.Cancelled command) }
-    ensures state { core.new ≡ record core.old { state = restored_if result core.old.state (record_of.Cancelled command) } }
+    ensures taken { result ≡
+        may_restore core.old.state (record_of.Cancelled command) }
+    ensures state { core.new ≡
+        record core.old { state = restored_if result core.old.state (record_of.Cancelled command) } }
 {
     a_record_restores_what_it_says();
     core.invariant_holds();
@@ -149,8 +164,10 @@ fn restore_cancelled(core: &mut HostCore, command: u32) -> bool
 
 // A nonce was given.
 fn restore_given(core: &mut HostCore, node: NodeId, given: u64, nonce: [u8; 8]) -> bool
-    ensures taken { result ≡ may_restore core.old.state (record_of.Given node given nonce) }
-    ensures state { core.new ≡ record core.old { state = restored_if result core.old.state (record_of.Given node given nonce) } }
+    ensures taken { result ≡
+        may_restore core.old.state (record_of.Given node given nonce) }
+    ensures state { core.new ≡
+        record core.old { state = restored_if result core.old.state (record_of.Given node given nonce) } }
 {
     a_record_restores_what_it_says();
     core.invariant_holds();
@@ -163,8 +180,10 @@ fn restore_given(core: &mut HostCore, node: NodeId, given: u64, nonce: [u8; 8]) 
 
 // The live nonce was spent.
 fn restore_spent(core: &mut HostCore, node: NodeId) -> bool
-    ensures taken { result ≡ may_restore core.old.state (record_of.Spent node) }
-    ensures state { core.new ≡ record core.old { state = restored_if result core.old.state (record_of.Spent node) } }
+    ensures taken { result ≡
+        may_restore core.old.state (record_of.Spent node) }
+    ensures state { core.new ≡
+        record core.old { state = restored_if result core.old.state (record_of.Spent node) } }
 {
     a_record_restores_what_it_says();
     core.invariant_holds();
@@ -177,8 +196,10 @@ fn restore_spent(core: &mut HostCore, node: NodeId) -> bool
 
 // A nonce was seen.
 fn restore_seen(core: &mut HostCore, node: NodeId, seen: u64) -> bool
-    ensures taken { result ≡ may_restore core.old.state (record_of.Seen node seen) }
-    ensures state { core.new ≡ record core.old { state = restored_if result core.old.state (record_of.Seen node seen) } }
+    ensures taken { result ≡
+        may_restore core.old.state (record_of.Seen node seen) }
+    ensures state { core.new ≡
+        record core.old { state = restored_if result core.old.state (record_of.Seen node seen) } }
 {
     a_record_restores_what_it_says();
     core.invariant_holds();
@@ -205,7 +226,8 @@ fn is_joined(core: &HostCore, node: NodeId) -> bool
 
 // The next session of a node begins, where none is open, for the command that waits longest.
 fn may_begin(core: &HostCore, node: NodeId, session: u64, command: u32) -> bool
-    ensures { result ≡ may_restore core.now.state (record_of.Begun node session command) }
+    ensures { result ≡ may_restore core.now.state
+        (record_of.Begun node session command) }
 {
     let state = core.node(node);
     is_next(session, state.sessions())
@@ -215,8 +237,11 @@ fn may_begin(core: &HostCore, node: NodeId, session: u64, command: u32) -> bool
 
 // The node of a command that waits.
 fn waits_for(core: &HostCore, command: u32) -> Option<NodeId>
-    ensures waits { IfSome result (λ node. (node ≡ node_for core.now.state command) × Contains (node_of core.now.state node).waiting command) }
-    ensures none { result ≡ None → may_restore core.now.state (record_of.Cancelled command) ≡ false }
+    ensures waits { IfSome result (λ node.
+        (node ≡ node_for core.now.state command)
+        × Contains (node_of core.now.state node).waiting command) }
+    ensures none { result ≡ None →
+        may_restore core.now.state (record_of.Cancelled command) ≡ false }
 {
     core.invariant_holds();
     let node = core.command_at(command)?.order().node;
@@ -229,7 +254,8 @@ fn waits_for(core: &HostCore, command: u32) -> Option<NodeId>
 
 // The next nonce is given to a node where none is live; its first byte counts.
 fn may_give(core: &HostCore, node: NodeId, given: u64, nonce: [u8; 8]) -> bool
-    ensures { result ≡ may_restore core.now.state (record_of.Given node given nonce) }
+    ensures { result ≡ may_restore core.now.state
+        (record_of.Given node given nonce) }
 {
     is_next(given, core.given(node))
         && core.live(node).is_none()
@@ -245,7 +271,8 @@ fn has_live(core: &HostCore, node: NodeId) -> bool
 
 // One nonce of a node more than before was seen.
 fn may_see(core: &HostCore, node: NodeId, seen: u64) -> bool
-    ensures { result ≡ may_restore core.now.state (record_of.Seen node seen) }
+    ensures { result ≡ may_restore core.now.state
+        (record_of.Seen node seen) }
 {
     is_next(seen, core.node(node).seen())
 }
@@ -259,7 +286,8 @@ fn is_next(number: u64, before: u64) -> bool
 
 // An order that a rule refuses is not taken again; or there was no memory.
 fn refused_again(refused: Refused) -> Result<bool, NoMemory>
-    ensures { IfOk result (λ taken. (taken ≡ false) × (refused ≢ Refused.NoMemory)) }
+    ensures { IfOk result (λ taken. (taken ≡ false)
+        × (refused ≢ Refused.NoMemory)) }
 {
     match refused {
         Refused::NoMemory => Err(NoMemory),

@@ -77,6 +77,9 @@ classes_at node past entry = []
 abbrev pub listing_heard : List Entry → ℕ → List ℕ
 listing_heard heard node = last_or [] (shown_after (classes_at node) [] heard)
 
--- a host alone goes by that, and by these messages of each payload, up to its acknowledgement
+-- a host alone goes by that, by these messages of each payload, up to its acknowledgement, and from so many nonces on
+abbrev pub heeds_from : (ℕ → ℕ) → (List Entry → Carried → List Told) → Heeds
+heeds_from counted taken = record { listing = listing_heard; taken = λ past rest carried. taken past carried; counted = counted }
+
 abbrev pub heeds_alone : (List Entry → Carried → List Told) → Heeds
-heeds_alone taken = record { listing = listing_heard; taken = λ past rest carried. taken past carried }
+heeds_alone taken = heeds_from (λ node. 0) taken

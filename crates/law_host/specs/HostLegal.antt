@@ -24,7 +24,7 @@ use Rattle.law_time.specs.law_wire.Serial.{ended}
 use Rattle.law_time.specs.Heeds.{Heeds}
 use Rattle.law_time.specs.Prompt.{IsPromptAfter}
 use Rattle.law_host.specs.Course.{Heeding}
-use Rattle.law_host.specs.Heard.{heeds_alone}
+use Rattle.law_host.specs.Heard.{heeds_from}
 use Rattle.law_host.specs.Notes.{NotesWhatHappens, Start, course_of}
 
 -- ---- values shown
@@ -76,9 +76,13 @@ abbrev pub gone_through : Bool → List Heeding → List Heeding
 gone_through true heeded = heeded
 gone_through false heeded = take (length heeded - 1) heeded
 
--- a host of which nothing is known but what it heard: it is legal as it goes by what nodes listed in their interviews, and by the messages that it
--- took up, sealed or not
-pub record IsLegalAlone (key : List ℕ) (start : Start) (whole : Bool) (heard : List Entry) (records : Option (List (List ℕ))) : Type 0 where
+-- a host of which nothing is known but what it heard, and how many nonces of each node it had counted before: it is legal as it goes by what nodes
+-- listed in their interviews, and by the messages that it took up, sealed or not
+pub record IsLegalCounting (key : List ℕ) (counted : ℕ → ℕ) (start : Start) (whole : Bool) (heard : List Entry) (records : Option (List (List ℕ))) : Type 0 where
   pub taken : List Entry → Carried → List Told
-  pub legal : IsHostLegal key (heeds_alone taken) start whole heard records
-  pub heeded : AllByRecursion (IsHeeded taken) (gone_through whole (course_of (heeds_alone taken) start heard legal.notes.choices).heeded)
+  pub legal : IsHostLegal key (heeds_from counted taken) start whole heard records
+  pub heeded : AllByRecursion (IsHeeded taken) (gone_through whole (course_of (heeds_from counted taken) start heard legal.notes.choices).heeded)
+
+-- all that it had counted stands before it
+abbrev pub IsLegalAlone : List ℕ → Start → Bool → List Entry → Option (List (List ℕ)) → Type 0
+IsLegalAlone key = IsLegalCounting key (λ node. 0)

@@ -9,6 +9,7 @@ pub mod Notes
 pub mod Heard
 pub mod HostLegal
 pub mod Starting
+pub mod Story
 pub mod Legal
 pub mod Worked
 pub use Rattle.law_time.specs as law_time

@@ -1,6 +1,6 @@
 -- Worked transcripts of notes and of nonces, and others with one thing wrong, made by hand in the form in which the program prints them, as a
 -- host hears them.
-use Rattle.std.specs.Prelude.{ℕ, true, false, List, [], ◌∷◌, ◌++◌, codes, drop, map, take, None, Some}
+use Rattle.std.specs.Prelude.{ℕ, ◌==◌, true, false, if◌then◌else◌, List, [], ◌∷◌, ◌++◌, codes, drop, map, take, None, Some}
 use Rattle.std.specs.List.{flat_map, range_with_len}
 use Rattle.zw_base.specs.declared.order.Word.TheVariants.{On, Off}
 use Rattle.zw_base.specs.declared.order.What.TheVariants.{Value}
@@ -27,6 +27,7 @@ use Rattle.law_time.specs.WorkedTurns.{filled, given_up_plug, second_wanted}
 use Rattle.law_time.specs.WorkedUnits.{by_chip, by_host, chip_acknowledges, delivered, host_acknowledges, message_sent, nonce_asked, notified, taken}
 use Rattle.law_host.specs.Course.{Choices}
 use Rattle.law_host.specs.Notes.{Start, course_of}
+use Rattle.law_host.specs.Story.{interview_told}
 
 -- every record is kept, and no message of a lock is heard
 abbrev pub all_kept : Choices
@@ -537,3 +538,32 @@ next_session = Begin 2 2 2 ∷ by_host (codes "010E001302076C01020325010025018B"
 
 abbrev pub session_again : List Entry
 session_again = Begin 2 1 2 ∷ []
+
+-- ---- records that no host of this program left
+
+-- one nonce of node 3 was counted, though none of its sessions asked for one
+abbrev pub counted_records : List Record
+counted_records = records.Joined 3 ∷ records.Classes 3 true (0x98 ∷ 0x6C ∷ 0x25 ∷ []) ∷ records.Seen 3 1 ∷ []
+
+-- their story
+abbrev pub counted_story : List Entry
+counted_story = Said (codes "join 3") ∷ Said (codes "interview 3") ∷ interview_told 3 true (0x98 ∷ 0x6C ∷ 0x25 ∷ [])
+
+abbrev pub after_counted : Start
+after_counted = record {
+  before = counted_story ++ Said (codes "restart") ∷ [];
+  books = record { node = 3; sealer = record { seen = 1; pending = []; ready = [] }; giver = record { given = 0; live = false; offers = [] } } ∷ [];
+}
+
+abbrev pub counted_nonces : ℕ → ℕ
+counted_nonces node = if node == 3 then 1 else 0
+
+-- the second nonce of node 3, which is taken
+abbrev pub second_nonce : List Told
+second_nonce = told.NonceReport (2 ∷ 7 ∷ 7 ∷ 7 ∷ 7 ∷ 7 ∷ 7 ∷ 7 ∷ []) ∷ []
+
+abbrev pub second_taken : List Entry
+second_taken =
+    Said (codes "set 3 on") ∷ Accepted 1 3 ∷ Begin 3 1 1 ∷ by_host (codes "0109001303029840250118") ∷ chip_acknowledges ∷ taken ∷ host_acknowledges
+    ∷ by_chip (codes "010500130100E8") ∷ host_acknowledges ∷ by_chip (codes "0110000400030A98800207070707070707FF") ∷ host_acknowledges
+    ∷ by_host (codes "01220013031B98810909090909090909DBA3F22717ADA1F902B7148CEC757E539E2502A0") ∷ []

@@ -7,8 +7,8 @@
 //!
 //! The definitions are in `specs/`: `Course` (what stands next, and what no entry shows), `Nonces`, `Messages`, `Ends`,
 //! `Frames` and `Ticks` (what each event makes), `Following` and `Notes` (the law of notes and nonces); `Heard` (what a
-//! host heard of a run); `HostLegal` (the laws of the host, as one), `Starting` (how it starts from records) and `Legal`
-//! (those of a run, as one). `Worked` has the transcripts that the functions here speak of.
+//! host heard of a run); `HostLegal` (the laws of the host, as one), `Starting` (how it starts from records), `Story` (how
+//! it starts from any, whoever left them) and `Legal` (those of a run, as one). `Worked` has the transcripts that the functions here speak of.
 #![tactic(auto)]
 
 mod heard;
@@ -16,6 +16,7 @@ mod heeds;
 mod legal;
 mod nonces;
 mod notes;
+mod story;
 mod values;
 
 pub use heard::worked_heard;
@@ -26,4 +27,5 @@ pub use legal::{
 };
 pub use nonces::{rejected_nonces, worked_nonces};
 pub use notes::{rejected_notes, worked_notes};
+pub use story::{rejected_story, worked_story};
 pub use values::{rejected_shown_values, worked_shown_values};

@@ -39,12 +39,13 @@ pub record Attempts : Type 0 where
   pub ready : List ℕ
   pub seen : ℕ
 
-abbrev pub no_attempts : ℕ → Attempts
-no_attempts node = record { node = node; begun = 0; sent = 0; own = false; sign = []; over = false; ready = []; seen = 0 }
+-- none has begun, and so many nonces of the node were counted
+abbrev pub no_attempts : ℕ → ℕ → Attempts
+no_attempts counted node = record { node = node; begun = 0; sent = 0; own = false; sign = []; over = false; ready = []; seen = counted }
 
 -- a series begins: the count of nonces stays
 abbrev pub anew : Attempts → Attempts
-anew attempts = record (no_attempts attempts.node) { seen = attempts.seen }
+anew attempts = no_attempts attempts.seen attempts.node
 
 -- ---- how an attempt ends
 
@@ -217,7 +218,7 @@ abbrev pub serving_from : Heeds → List Entry → Serving → List Entry → Se
 serving_from heeds past serving [] = serving
 serving_from heeds past serving (entry ∷ rest) = serving_from heeds (past ++ entry ∷ []) (serving_after heeds past serving entry rest) rest
 
--- those of these nodes after a past
+-- those of these nodes after a past, from the nonces that were counted before it
 abbrev pub serving : Heeds → List ℕ → List Entry → Serving
 serving heeds nodes past =
-    serving_from heeds [] (record { requests = no_requests; served = controller; each = map no_attempts nodes }) past
+    serving_from heeds [] (record { requests = no_requests; served = controller; each = map (λ node. no_attempts (heeds.counted node) node) nodes }) past

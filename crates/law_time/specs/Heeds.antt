@@ -1,5 +1,5 @@
--- What a host goes by that its entries alone do not tell (this project's own rule): what each node listed, and by which messages of a payload
--- requests and attempts go.
+-- What a host goes by that its entries alone do not tell (this project's own rule): what each node listed, by which messages of a payload requests
+-- and attempts go, and how many nonces of each node it had counted before.
 use Rattle.std.specs.Prelude.{ℕ, ◌==◌, ◌&&◌, not, Bool, true, false, if◌then◌else◌, List, [], ◌∷◌, filter}
 use Rattle.std.specs.List.{flat_map}
 use Rattle.class_info.specs.declared.report_status.ReportStatus.TheVariants.{Working}
@@ -14,10 +14,12 @@ use Rattle.law_wire.specs.law_transcript.Payloads.{messages_of}
 use Rattle.law_wire.specs.law_transcript.Units.{Carried}
 use Rattle.law_time.specs.Judged.{brought_here, is_mark}
 
--- what the nodes list by the entries so far; and the messages of a payload by which it goes, up to the acknowledgement and by what stands after it
+-- what the nodes list by the entries so far; the messages of a payload by which it goes, up to the acknowledgement and by what stands after it; and how
+-- many nonces of a node it had counted before all that stands
 pub record Heeds : Type 0 where
   pub listing : List Entry → ℕ → List ℕ
   pub taken : List Entry → List Entry → Carried → List Told
+  pub counted : ℕ → ℕ
 
 -- those of a node in what was judged here
 abbrev pub taken_here : Heeds → ℕ → List Entry → List Entry → List Told
@@ -47,6 +49,6 @@ taken_plainly past rest carried =
     if is_unkept_next carried.node rest then filter (λ message. not (asks_record message)) (messages_of (heard_at carried.payload))
     else messages_of (heard_at carried.payload)
 
--- each node lists what its device does
+-- each node lists what its device does, and no nonce was counted before
 abbrev pub heeds_of : List State → Heeds
-heeds_of devices = record { listing = always (listing_of devices); taken = taken_plainly }
+heeds_of devices = record { listing = always (listing_of devices); taken = taken_plainly; counted = λ node. 0 }

@@ -13,7 +13,8 @@ use Rattle.zw_text.specs.declared.entry.Entry.TheVariants.{Accepted, Refused, Un
 use Rattle.zw_text.specs.declared.entry.Refusal.TheVariants.{KeeperFault}
 use Rattle.zw_text.specs.Transcript.{outcome, joined, shown, lines_run}
 use Rattle.law_wire.specs.law_transcript.Commands.{waiting, classes_for}
-use Rattle.law_wire.specs.law_transcript.Nodes.{always, device_of, listing_of, is_joined, known_classes}
+use Rattle.law_wire.specs.law_transcript.Lists.{Has}
+use Rattle.law_wire.specs.law_transcript.Nodes.{always, device_of, is_supervised, listing_of, is_joined, known_classes}
 use Rattle.law_wire.specs.law_transcript.Restarts.{ticks_asked}
 use Rattle.law_wire.specs.Reach.{CanBeReached}
 use Rattle.law_time.specs.Requests.{are_none}
@@ -209,9 +210,36 @@ AnswersAsleep key devices before stretch =
     IsCalm (always (listing_of devices)) devices before (ticks_asked (lines_run before)) → IsStretch key devices before stretch
     → is_sleeper_alone devices before stretch ≡ true → is_long_enough stretch ≡ true → answers_all devices before stretch ≡ true
 
--- and of one for one node of any kind
+-- one node is at work, and does not list Security 0
+abbrev pub lists_security : List State → ℕ → Bool
+lists_security devices node = list_any (λ class. class == 0x98) (listing_of devices node)
+
+abbrev pub is_open_alone : List State → List Entry → List Entry → Bool
+is_open_alone devices before stretch = is_alone before stretch && list_all (λ node. not (lists_security devices node)) (workers before stretch)
+
+-- of one for such a node: it may take segments, and each of its commands has its own ticks
+abbrev pub AnswersOpenly : List ℕ → List State → List Entry → List Entry → Type 0
+AnswersOpenly key devices before stretch =
+    IsCalm (always (listing_of devices)) devices before (ticks_asked (lines_run before)) → IsStretch key devices before stretch
+    → is_open_alone devices before stretch ≡ true → is_time before stretch ≡ true → answers_all devices before stretch ≡ true
+
+-- of one for one node of any kind
+abbrev pub AnswersAlone : List ℕ → List State → List Entry → List Entry → Type 0
+AnswersAlone key devices before stretch =
+    IsCalm (always (listing_of devices)) devices before (ticks_asked (lines_run before)) → IsStretch key devices before stretch
+    → is_alone before stretch ≡ true → is_time before stretch ≡ true → answers_all devices before stretch ≡ true
+
+-- and of each
 pub record AnswersInTime (key : List ℕ) (devices : List State) (before stretch : List Entry) : Type 0 where
-  pub alone : IsCalm (always (listing_of devices)) devices before (ticks_asked (lines_run before)) → IsStretch key devices before stretch
-      → is_alone before stretch ≡ true → is_time before stretch ≡ true → answers_all devices before stretch ≡ true
+  pub alone : AnswersAlone key devices before stretch
   pub asleep : AnswersAsleep key devices before stretch
   pub together : AnswersTogether key devices before stretch
+
+-- ---- outcomes
+
+-- In quiet lines each command of a node whose device lists Supervision, that waited before them or was accepted in them and has a final outcome, has the one that its
+-- device's kind says of the message, on the values that the device had as the session began: however late it comes, and whatever was lost, repeated or changed
+abbrev pub EndsAsJudged : List State → List Entry → List Entry → Type 0
+EndsAsJudged devices before stretch =
+    list_all is_quiet_line (lines_run stretch) ≡ true → (node command : ℕ) (device : State) → device_of node devices ≡ Some device → is_supervised device ≡ true
+    → Has (commands_in before stretch node) command → is_final (outcome command (before ++ stretch)) ≡ true → is_answered devices before stretch node command ≡ true

@@ -13,9 +13,11 @@ ghost use Rattle.law_time.specs.Stretches.{
   is_time,
   is_long_enough,
   is_alone,
+  is_open_alone,
   is_sleeper_alone,
   answers_all,
   AnswersInTime,
+  AnswersOpenly,
 };
 ghost use Rattle.law_time.specs.WorkedBetween.{callback_owed, order_unkept, stretch_of_refused, stretch_unkept};
 ghost use Rattle.law_time.specs.WorkedStretches.{
@@ -192,9 +194,10 @@ pub fn worked_stretches()
 /// These are no stretches: one with a line that loses frames, of more than 16 nodes, without the device, of one with another key, of one that does not
 /// listen though the host takes it to, or lists other classes, now or when its command was accepted, of a node out of reach, with a node
 /// that sleeps and is not woken, before its order or twice, with one woken that has nothing to do or has not joined, and in which the
-/// keeper fails, for a session or an order. Two nodes are not one, a node that sleeps and a lock are no plain listeners, a switch does not
-/// sleep, and two ticks are not time enough, nor are those before the last order or `wake` line. And where the outcome is missing in time, the promise is
-/// broken, of one node, of one that sleeps and of nodes that listen; and where a command succeeds that its device does not take, or fails though it does.
+/// keeper fails, for a session or an order. Two nodes are not one, a node that sleeps and a lock are no plain listeners, a lock lists
+/// Security 0, a switch does not sleep, and two ticks are not time enough, nor are those before the last order or `wake` line. And where
+/// the outcome is missing in time, the promise is broken, of one node, of one that does not list Security 0, of one that sleeps and of
+/// nodes that listen; and where a command succeeds that its device does not take, or fails though it does.
 pub fn rejected_stretches()
     ensures lossy { is_quiet [] (the_switch ∷ []) [] (Said (codes "lose 1") ∷ []) ≡ false }
     ensures other_key { is_quiet (1 ∷ []) (the_switch ∷ []) [] calm_exchange ≡ false }
@@ -214,9 +217,11 @@ pub fn rejected_stretches()
     ensures succeeded { AnswersInTime [] (the_thermostat ∷ []) before_failing failing_as_success → ⊥ }
     ensures failed { AnswersInTime [] (the_thermostat ∷ []) before_failing success_as_failing → ⊥ }
     ensures missing_together { AnswersInTime [] (the_switch ∷ []) [] left_in_time → ⊥ }
+    ensures missing_openly { AnswersOpenly [] (the_switch ∷ []) [] left_in_time → ⊥ }
     ensures missing_asleep { AnswersInTime [] (the_sensor ∷ []) before_waking left_asleep → ⊥ }
     ensures not_asleep { is_sleeper_alone (the_switch ∷ []) [] calm_exchange ≡ false }
     ensures not_alone { is_alone before_two stretch_of_two ≡ false }
+    ensures not_open { is_open_alone (the_lock ∷ []) (take 16 sealed_exchange) (drop 16 sealed_exchange) ≡ false }
     ensures not_plain { are_plain_listeners (the_sensor ∷ []) before_waking stretch_of_sleeper ≡ false }
     ensures sealed { are_plain_listeners (the_lock ∷ []) (take 16 sealed_exchange) (drop 16 sealed_exchange) ≡ false }
     ensures taken_to_listen { is_quiet [] (the_sensor ∷ []) taken_to_listen sleeper_ordered ≡ false }

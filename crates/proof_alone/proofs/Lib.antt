@@ -1,5 +1,6 @@
 pub use Rattle.proof_line.proofs.Always
 pub mod Running
+pub mod Since
 pub mod Carefully
 pub mod Stamps
 pub mod Coming
@@ -18,6 +19,8 @@ pub mod Tabling
 pub mod Answering
 pub mod Carrying
 pub mod Listening
+mod TablesSince
+mod Storied
 pub use Rattle.proof_line.proofs.HostOuts
 pub use Rattle.proof_line.proofs.Bodies
 pub use Rattle.proof_line.proofs.Untimed

@@ -84,7 +84,7 @@ event_told h event told none are =
 
 -- ---- lists
 
-rest_stands : (before past told : List Entry) → EachAfter MayStand before (past ++ told) → EachAfter MayStand (before ++ past) told
+pub rest_stands : (before past told : List Entry) → EachAfter MayStand before (past ++ told) → EachAfter MayStand (before ++ past) told
 rest_stands before [] told all = subst (λ (l : List Entry). EachAfter MayStand l told) (sym (append-nil before)) all
 rest_stands before (e ∷ past) told all = subst (λ (l : List Entry). EachAfter MayStand l told) (append_assoc before (e ∷ []) past) (rest_stands (before ++ e ∷ []) past told all.1)
 

@@ -9,6 +9,7 @@ pub mod Tables
 pub mod Words
 pub mod Answering
 pub mod Listening
+pub mod Starts
 pub use Rattle.law_host.specs as law_host
 pub use Rattle.law_host.specs.law_time as law_time
 pub use Rattle.law_host.specs.law_transcript as law_transcript

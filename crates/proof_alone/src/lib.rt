@@ -9,13 +9,18 @@
 //! `proofs/Running` has what a walk gives of a run (`run_keeps`), and one walk on the ground of another (`over`); `proofs/Carefully` has careful runs, a
 //! step at a time. Three grounds are proved: the clock of the host is that of the transcript (`hosts_tell_time`), the words of a
 //! line stand last where the host is asked (`proofs/Words`), and its tables are what the transcript shows (`hosts_keep_their_tables`).
-//! `hosts_answer_what_is_asked` is a law over the last two.
+//! `hosts_answer_what_is_asked` is a law over the last two. From any records, whoever left them, the tables go on too (`hosts_keep_their_tables_from_records`,
+//! over `proofs/Since`: what is known as a host starts goes on from there).
 #![tactic(auto)]
 
+mod from_records;
 mod hosts;
 mod tables;
 mod time;
 
+pub use from_records::{
+    hosts_keep_their_tables_after_a_story, hosts_keep_their_tables_from_records, stories_are_told,
+};
 pub use hosts::{lines_are_a_hosts, machines_are_read_as_hosts, what_is_heard_is_a_hosts};
 pub use proof_line::{
     frames_fly_in_order, hosts_obey_the_line, lines_make_requests, outsides_make_requests,

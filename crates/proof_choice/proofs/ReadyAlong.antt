@@ -72,13 +72,13 @@ first_blank (suc zero) = record { seen = refl; no_text = refl; no_pending = refl
 first_blank (suc (suc zero)) = record { seen = refl; no_text = refl; no_pending = refl }
 first_blank (suc (suc (suc m))) = blank_all 3 230 m
 
-pub first_ready : (heeds : Heeds) (keys : Keys) → ReadyAsTold heeds Resting [] (first_host keys) 0
-first_ready heeds keys n from to =
+pub first_ready : (heeds : Heeds) → ((n : ℕ) → heeds.counted n ≡ 0) → (keys : Keys) → ReadyAsTold heeds Resting [] (first_host keys) 0
+first_ready heeds none keys n from to =
     let blank = first_blank n in
     record {
-      seen = sym blank.seen;
+      seen = none n ∙ sym blank.seen;
       text = λ sealed is. no_some _ (node_among first_nodes n).text sealed blank.no_text is;
-      none = λ runs none. refl;
+      none = λ runs waits. refl;
       pending = λ plain is. no_some _ (node_among first_nodes n).pending plain blank.no_pending is;
     }
 

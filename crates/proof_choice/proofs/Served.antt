@@ -26,7 +26,7 @@ served_of heeds past s [] = refl
 served_of heeds past s (e ∷ told) = served_of heeds (past ++ e ∷ []) (serving_after heeds past s e told) told
 
 pub served_is : (heeds : Heeds) (nodes : List ℕ) (past : List Entry) → (serving heeds nodes past).served ≡ served_so_far heeds past
-served_is heeds nodes past = served_of heeds [] (record { requests = no_requests; served = controller; each = map no_attempts nodes }) past
+served_is heeds nodes past = served_of heeds [] (record { requests = no_requests; served = controller; each = map (λ node. no_attempts (heeds.counted node) node) nodes }) past
 
 -- neither a line or its refusal, nor a unit of the host
 abbrev pub LeavesServed : Entry → Type 0

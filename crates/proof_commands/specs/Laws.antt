@@ -45,8 +45,7 @@ use Rattle.law_time.specs.Choice.{NumbersCallbacks, SendsOneByOne}
 use Rattle.law_time.specs.Errands.{SaysHowDone}
 use Rattle.law_time.specs.Interviews.{EndsInterviews}
 use Rattle.law_time.specs.Questions.{AnswersQuestions}
-use Rattle.law_time.specs.Stretches.{AnswersAsleep, AnswersTogether}
-use Rattle.proof_ready.specs.Stretch.{EndsAsJudged}
+use Rattle.law_time.specs.Stretches.{AnswersAlone, AnswersAsleep, AnswersTogether, EndsAsJudged}
 use Rattle.law_time.specs.Holds.{HoldsAsAsked}
 use Rattle.law_time.specs.Waking.{FallsAsleep, WakesAsTold}
 use Rattle.law_host.specs.Heard.{heard_by_host}
@@ -505,9 +504,12 @@ InStretches key old new Law =
     → Law (last key old before).outside.devices (transcript key old before) (transcript_from (last key old before) stretch))
 
 -- Wherever its lines go on from a calm moment as a stretch in which at most 16 nodes are at work, plain listeners all, or one plain node that sleeps, each command of these has
--- the final outcome that its device's kind says once 500 ticks have passed since the last order or `wake` line.
+-- the final outcome that its device's kind says once 500 ticks have passed since the last order or `wake` line; so it is of one node of any kind, where so many have passed for
+-- each command.
 abbrev pub AnswersCommands : List ℕ → Around → Around → Type 0
-AnswersCommands key old new = InStretches key old new (λ devices before stretch. AnswersTogether key devices before stretch × AnswersAsleep key devices before stretch)
+AnswersCommands key old new =
+    InStretches key old new
+    (λ devices before stretch. AnswersTogether key devices before stretch × AnswersAsleep key devices before stretch × AnswersAlone key devices before stretch)
 
 -- Wherever its lines are quiet for a while, each command that waited then or was accepted since, of a node whose device lists Supervision, and that has a final outcome, has the one
 -- that its device's kind says: however late it comes, and whatever was lost, repeated or changed.

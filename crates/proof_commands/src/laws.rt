@@ -367,8 +367,8 @@ fn stories_are_legal()
     stories_do_as_shown();
 }
 
-/// Wherever the lines of a story go on from a calm moment as a stretch for plain listeners, or for one plain node that sleeps, each command of these has in time
-/// the outcome that its device's kind says.
+/// Wherever the lines of a story go on from a calm moment as a stretch for plain listeners, for one plain node that sleeps, or for one of any kind, each
+/// command of these has in time the outcome that its device's kind says.
 fn stories_answer_in_time()
     ensures { (key : List ℕ) (old new : Around) → AnswersCommands key old new }
 {

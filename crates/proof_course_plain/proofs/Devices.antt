@@ -427,20 +427,20 @@ payload_heard laws orders commands c device since Of_node payload drawn at awake
 -- ---- a tick
 
 -- a tick that ends no work
-record TicksQuietly (device : State) : Type 0 where
-  sessions : (ticked device).device.sessions ≡ device.sessions
-  kept : (ticked device).device.reassembly ≡ device.reassembly
-  replies : (ticked device).replies ≡ []
+pub record TicksQuietly (device : State) : Type 0 where
+  pub sessions : (ticked device).device.sessions ≡ device.sessions
+  pub kept : (ticked device).device.reassembly ≡ device.reassembly
+  pub replies : (ticked device).replies ≡ []
 
-ticks_idle : (device : State) → device.work_left == 0 ≡ true → TicksQuietly device
+pub ticks_idle : (device : State) → device.work_left == 0 ≡ true → TicksQuietly device
 unfolding ticked
 ticks_idle device n = record { sessions = rw n refl; kept = rw n refl; replies = rw n refl }
 
-ticks_on : (device : State) → device.work_left == 0 ≡ false → device.work_left == 1 ≡ false → TicksQuietly device
+pub ticks_on : (device : State) → device.work_left == 0 ≡ false → device.work_left == 1 ≡ false → TicksQuietly device
 unfolding ticked
 ticks_on device n l = record { sessions = rw (n, l) refl; kept = rw (n, l) refl; replies = rw (n, l) refl }
 
-ticks_last : (device : State) → device.work_left == 0 ≡ false → device.work_left == 1 ≡ true
+pub ticks_last : (device : State) → device.work_left == 0 ≡ false → device.work_left == 1 ≡ true
     → ((ticked device).device.sessions ≡ finished device.sessions SUCCESS) × ((ticked device).device.reassembly ≡ device.reassembly)
 unfolding ticked
 ticks_last device n l = (rw (n, l) refl, rw (n, l) refl)
@@ -478,7 +478,7 @@ tick_goes laws c device drawn at = tick_by laws c device drawn at (device.work_l
 
 -- ---- a wake-up, a hand
 
-woken_sessions : (device : State) → ((woken device).device.sessions ≡ device.sessions) × ((woken device).device.reassembly ≡ device.reassembly)
+pub woken_sessions : (device : State) → ((woken device).device.sessions ≡ device.sessions) × ((woken device).device.reassembly ≡ device.reassembly)
 unfolding woken
 woken_sessions device = by (listens device.kind) refl
   where

@@ -35,6 +35,7 @@ use Rattle.host_node.specs.Events.NodeEvent.{Joins as node_joins, Interviews as 
 use Rattle.host_node.specs.Steps.{tick_end}
 use Rattle.host_node.specs.declared.attempt.Plan.{Plan}
 use Rattle.host_node.specs.declared.attempt.Plan.TheVariants.{Whole, Segments}
+use Rattle.value_store.specs.Values.{Values}
 use Rattle.host_keep.specs.Status.{status_byte}
 use Rattle.host_keep.specs.declared.final_status.FinalStatus.{FinalStatus}
 use Rattle.s0_session.specs.Nonces.{live_of}
@@ -83,6 +84,36 @@ command_numbered commands (suc before) command e = numbered_of (map asked_of com
 plain_at : (node : ℕ) (commands : List Command) (number : ℕ) (command : Command) → AllByRecursion (IsPlainFor node) (map asked_of commands) → command_at commands number ≡ Some command → IsPlainFor node (asked_of command)
 plain_at node commands zero command all e = absurd (grind (arith, e))
 plain_at node commands (suc before) command all e = all-get (IsPlainFor node) (map asked_of commands) before (asked_of command) all (get_map commands before command e)
+
+-- the message of a session, of the commands of a host; and each of its segments, where it is cut
+pub message_of_command : (commands : List Command) (numbers : List ℕ) (store : Values) (session number : ℕ) (command : Command) → command_of_session numbers session ≡ Some number → command_at commands number ≡ Some command → IsSound store command
+    → command.order.end ≤ 127 → IsMessageOf (map asked_of commands) numbers session (message_for command session)
+message_of_command commands numbers store session number command carried found sound end = record {
+  number = number;
+  asked = asked_of command;
+  carried = session_numbered numbers session number carried;
+  accepted = command_numbered commands number command found;
+  fit = sound.fit;
+  end = end;
+  text = refl;
+}
+
+pub segment_of_command : (commands : List Command) (numbers : List ℕ) (store : Values) (session number : ℕ) (command : Command) (k : ℕ) → command_of_session numbers session ≡ Some number → command_at commands number ≡ Some command
+    → IsSound store command → command.order.end ≤ 127 → form_of command.carriage.outer ≡ Cut → k < segment_count (message_for command session)
+    → (is : IsSegmentOf (map asked_of commands) numbers session (segment_at session (message_for command session) k)) × ((is.message ≡ message_for command session) × (is.place ≡ k))
+segment_of_command commands numbers store session number command k carried found sound end cut within =
+    let fits : FitsForm Cut (message_for command session) = subst (λ (f : Form). FitsForm f (message_for command session)) cut (sound.form session) in
+    let some = fits.0 in (
+      record {
+        message = message_for command session;
+        of = message_of_command commands numbers store session number command carried found sound end;
+        most = fits.1;
+        place = k;
+        within = omega (arith, within, some);
+        text = refl;
+      },
+      (refl, refl),
+    )
 
 pub owned : (commands : List Command) (node : ℕ) (numbers : List ℕ) (session number : ℕ) → All (IsCommandOf commands node) numbers → command_of_session numbers session ≡ Some number → IsCommandOf commands node number
 owned commands node numbers zero number all e = absurd (grind (arith, e))
@@ -161,15 +192,9 @@ module _ (nonces : (nonce : List ℕ) → IsOther (nonce_report nonce)) (no_more
       → IsMessageOf orders c.host.commands session (message_for command session)
   message_of_session session number command carried found =
       let p = carried_by session number command carried found in
-      record {
-        number = number;
-        asked = asked_of command;
-        carried = session_numbered c.host.commands session number (subst (λ (cs : List ℕ). command_of_session cs session ≡ Some number) commands_are carried);
-        accepted = subst (λ (os : List Asked). numbered os number ≡ asked_of command ∷ []) (sym at.orders_are) (command_numbered h.commands number command found);
-        fit = p.sound.fit;
-        end = p.end;
-        text = refl;
-      }
+      subst (λ (cs : List ℕ). IsMessageOf orders cs session (message_for command session)) commands_are
+      (subst (λ (os : List Asked). IsMessageOf os (node_of h node).book.commands session (message_for command session)) (sym at.orders_are)
+      (message_of_command h.commands (node_of h node).book.commands h.store session number command carried found p.sound p.end))
 
   -- a segment of the last session
   abbrev LastSegment : List ℕ → Type 0
@@ -180,16 +205,10 @@ module _ (nonces : (nonce : List ℕ) → IsOther (nonce_report nonce)) (no_more
       → form_of command.carriage.outer ≡ Cut → k < segment_count (message_for command session) → payload ≡ segment_at session (message_for command session) k → IsSegmentOf orders c.host.commands session payload
   cut_segment session number command k payload carried found cut within text =
       let p = carried_by session number command carried found in
-      let fits : FitsForm Cut (message_for command session) = subst (λ (f : Form). FitsForm f (message_for command session)) cut (p.sound.form session) in
-      let some = fits.0 in
-      record {
-        message = message_for command session;
-        of = message_of_session session number command carried found;
-        most = fits.1;
-        place = k;
-        within = omega (arith, within, some);
-        text = text;
-      }
+      subst (λ (cs : List ℕ). IsSegmentOf orders cs session payload) commands_are
+      (subst (λ (os : List Asked). IsSegmentOf os (node_of h node).book.commands session payload) (sym at.orders_are)
+      (subst (λ (p2 : List ℕ). IsSegmentOf (map asked_of h.commands) (node_of h node).book.commands session p2) (sym text)
+      (segment_of_command h.commands (node_of h node).book.commands h.store session number command k carried found p.sound p.end cut within).0))
 
   last_of : (session : ℕ) (payload : List ℕ) → open_session (node_of h node).book ≡ Some session → IsSegmentOf orders c.host.commands session payload → LastSegment payload
   last_of session payload opened is =

@@ -145,10 +145,10 @@ heard_alone : (rest : List ℕ) (message : InfoMessage) → begins_with (0x98 �
 unfolding heard_at
 heard_alone rest message unsealed read = rw (unsealed, opens_alone rest, read) refl
 
-get_heard : heard_at (form asks_nonce) ≡ Messages (NonceGet ∷ [])
+pub get_heard : heard_at (form asks_nonce) ≡ Messages (NonceGet ∷ [])
 get_heard = heard_alone (64 ∷ []) asks_nonce refl (again (form asks_nonce) asks_nonce (form_spells asks_nonce tt))
 
-report_heard : (nonce : List ℕ) → length nonce ≡ 8 → heard_at (report_of nonce) ≡ Messages (NonceReport nonce ∷ [])
+pub report_heard : (nonce : List ℕ) → length nonce ≡ 8 → heard_at (report_of nonce) ≡ Messages (NonceReport nonce ∷ [])
 report_heard nonce eight = heard_alone (0x80 ∷ nonce) (gives_nonce nonce) (report_open nonce) (report_read nonce eight)
 
 -- ---- payloads

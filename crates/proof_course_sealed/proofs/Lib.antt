@@ -32,5 +32,6 @@ pub mod OtherAsks
 pub mod Runs
 pub mod Places
 mod LockBeginning
+mod Exchanging
 pub use Rattle.proof_course_plain.proofs.AsMade
 pub use Rattle.proof_course_plain.proofs.Once

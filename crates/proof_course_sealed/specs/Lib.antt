@@ -9,6 +9,7 @@ pub mod Mesh
 pub mod Lines
 pub mod Outside
 pub mod Host
+pub mod Exchange
 pub mod HostGoing
 pub mod World
 pub mod Plain

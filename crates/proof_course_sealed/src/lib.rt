@@ -19,6 +19,7 @@
 
 mod air;
 mod device;
+mod exchange;
 mod host;
 mod judging;
 mod made;
@@ -29,6 +30,7 @@ mod world;
 
 pub use air::frames_follow_the_courses;
 pub use device::locks_follow_the_courses;
+pub use exchange::exchanges_go_on;
 pub use host::{hosts_do_as_the_courses_have_it, hosts_judge_as_the_courses_have_it};
 pub use judging::locks_judge_what_is_asked;
 pub use made::locks_as_made_begin_courses;

@@ -40,15 +40,15 @@ each_from heeds past s (e ∷ told) =
 
 pub each_is : (heeds : Heeds) (nodes : List ℕ) (past : List Entry) → (serving heeds nodes past).each ≡ map (λ n. attempts_so_far heeds n past) nodes
 each_is heeds nodes past =
-    each_from heeds [] (record { requests = no_requests; served = controller; each = map no_attempts nodes }) past
-    ∙ map_twice (λ a. attempts_from heeds [] no_requests a past) no_attempts nodes
+    each_from heeds [] (record { requests = no_requests; served = controller; each = map (λ node. no_attempts (heeds.counted node) node) nodes }) past
+    ∙ map_twice (λ a. attempts_from heeds [] no_requests a past) (λ node. no_attempts (heeds.counted node) node) nodes
 
 requests_of : (heeds : Heeds) (past : List Entry) (s : Serving) (told : List Entry) → (serving_from heeds past s told).requests ≡ requests_from heeds past s.requests told
 requests_of heeds past s [] = refl
 requests_of heeds past s (e ∷ told) = requests_of heeds (past ++ e ∷ []) (serving_after heeds past s e told) told
 
 pub requests_are : (heeds : Heeds) (nodes : List ℕ) (past : List Entry) → (serving heeds nodes past).requests ≡ requests heeds past
-requests_are heeds nodes past = requests_of heeds [] (record { requests = no_requests; served = controller; each = map no_attempts nodes }) past
+requests_are heeds nodes past = requests_of heeds [] (record { requests = no_requests; served = controller; each = map (λ node. no_attempts (heeds.counted node) node) nodes }) past
 
 -- ---- they are of their node
 
@@ -101,7 +101,7 @@ module _ (heeds : Heeds) where
   from_node past r a (e ∷ told) = from_node (past ++ e ∷ []) (requests_after heeds past r e told) (attempts_step heeds past r e told a) told ∙ step_node past r e told a
 
   pub node_is : (n : ℕ) (past : List Entry) → (attempts_so_far heeds n past).node ≡ n
-  node_is n past = from_node [] no_requests (no_attempts n) past
+  node_is n past = from_node [] no_requests (no_attempts (heeds.counted n) n) past
 
 -- ---- one list behind another
 
@@ -137,7 +137,7 @@ module _ (taken : List Entry → Carried → List Told) where
   asks_ahead past s (e ∷ told) = asks_ahead (past ++ e ∷ []) (both_step past s e told) told
 
   abbrev first : ℕ → Both
-  first n = record { asks = no_requests; attempts = no_attempts n }
+  first n = record { asks = no_requests; attempts = no_attempts (heeds.counted n) n }
 
   so_far : (n : ℕ) (past : List Entry) → ahead_from both_step same_both [] (first n) past ≡ record { asks = requests heeds past; attempts = attempts_so_far heeds n past }
   so_far n past = ap₂ (λ (r : Requests) (a : Attempts). record { asks = r; attempts = a }) (sym (asks_ahead [] (first n) past)) (sym (as_ahead [] (first n) past))

@@ -15,7 +15,7 @@ attempts_from heeds past requests attempts (entry ∷ rest) =
 
 -- up to where the transcript stands
 abbrev pub attempts_so_far : Heeds → ℕ → List Entry → Attempts
-attempts_so_far heeds n past = attempts_from heeds [] no_requests (no_attempts n) past
+attempts_so_far heeds n past = attempts_from heeds [] no_requests (no_attempts (heeds.counted n) n) past
 
 -- neither a line or its refusal, nor a unit of the host, a session that begins, or how a command ended
 abbrev pub LeavesAttempts : Entry → Type 0

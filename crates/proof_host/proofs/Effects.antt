@@ -69,7 +69,7 @@ same_set nodes n state e m = elim (cases_eq m n) [
 ]
 
 -- a node is so now
-one_set : (nodes : List NodeState) (n : ℕ) (state : NodeState) → n < length nodes → OneNode nodes (with_node nodes n state) n state
+pub one_set : (nodes : List NodeState) (n : ℕ) (state : NodeState) → n < length nodes → OneNode nodes (with_node nodes n state) n state
 one_set nodes n state within = record {
   here = ap (λ (s : NodeState). only_commands s) (get_or-set_same nodes n state (unknown 0) within);
   there = λ m other. ap (λ (s : NodeState). only_commands s) (get_or-set_other nodes n m state (unknown 0) other);
@@ -97,7 +97,7 @@ none_waits : (l : List ℕ) → l ≡ [] → 0 < length l → ⊥
 none_waits [] e some = omega arith
 none_waits (x ∷ l) e some = cc
 
-waits_place : (nodes : List NodeState) (n : ℕ) → 0 < length (node_of nodes n).waiting → n < length nodes
+pub waits_place : (nodes : List NodeState) (n : ℕ) → 0 < length (node_of nodes n).waiting → n < length nodes
 waits_place nodes n some = place_of nodes n (λ e. none_waits (node_of nodes n).waiting (ap (λ (s : NodeState). s.waiting) e) some)
 
 opened_place : (nodes : List NodeState) (n c : ℕ) → open_command (node_of nodes n) ≡ Some c → n < length nodes
@@ -192,15 +192,15 @@ abbrev pub Between : HostState → HostState → List Entry → Type 0
 Between old new entries = Effect old.commands new.commands old.nodes new.nodes old.store new.store entries
 
 -- the same, with the entries as they are noted
-noted_so : {cs cs' : List Command} {ns ns' : List NodeState} {store store' : Values} {entries puts : List Entry} → puts ≡ entries → Effect cs cs' ns ns' store store' entries
+pub noted_so : {cs cs' : List Command} {ns ns' : List NodeState} {store store' : Values} {entries puts : List Entry} → puts ≡ entries → Effect cs cs' ns ns' store store' entries
     → Effect cs cs' ns ns' store store' puts
 noted_so {cs} {cs'} {ns} {ns'} {store} {store'} e effect = subst (λ (l : List Entry). Effect cs cs' ns ns' store store' l) (sym e) effect
 
-left : (commands : List Command) (nodes nodes' : List NodeState) (store : Values) (entries : List Entry) → SameNodes nodes nodes' → AllByRecursion IsAside entries
+pub left : (commands : List Command) (nodes nodes' : List NodeState) (store : Values) (entries : List Entry) → SameNodes nodes nodes' → AllByRecursion IsAside entries
     → Effect commands commands nodes nodes' store store entries
 left commands nodes nodes' store entries same asides = Leaving (record { commands_are = refl; nodes_are = same; asides = asides }) (λ n p. refl)
 
-untouched : (h : HostState) (entries : List Entry) → AllByRecursion IsAside entries → Between h h entries
+pub untouched : (h : HostState) (entries : List Entry) → AllByRecursion IsAside entries → Between h h entries
 untouched h entries asides = left h.commands h.nodes h.nodes h.store entries (λ m. refl) asides
 
 queued : (h : HostState) (full : Bool) (more : HostState) (entries : List Entry) → more.commands ≡ h.commands → more.nodes ≡ h.nodes → more.store ≡ h.store → AllByRecursion IsAside entries → Between h (if full then h else more) entries

@@ -42,7 +42,7 @@ use Rattle.proof_host.proofs.Owned.{node_found}
 use Rattle.proof_host.proofs.Commands.{waits_so}
 use Rattle.proof_host.proofs.Views.{nodes-silent, numbers-silent, for-silent, sessions-silent, outcome-silent, silent}
 use Rattle.proof_host.proofs.Effect.{only_commands, Effect, Leaving, Unanswering, Accepting, Cancelling, Beginning, Finishing}
-use Rattle.proof_host.proofs.Effects.{LeavesRecords, same_set, effect}
+use Rattle.proof_host.proofs.Effects.{Between, LeavesRecords, same_set, effect}
 use Rattle.proof_host.proofs.InOrder.{same_order, order_kept, oldest_is, oldest_waits}
 use Rattle.proof_host.proofs.CommandEnds.{Ends, unanswered_ends, cancelled_ends, finished_ends}
 use Rattle.proof_host.proofs.WaitingCommands.{waiting_kept}
@@ -100,27 +100,30 @@ module _ (T : List Entry) (cs : List Command) (nodes : List NodeState) (owns : (
         stand = stand_begun T cs cs' nodes nodes' entries f.stand e f.accepted f.begun f.entered (orders e.node) one waits;
       }
 
+-- what is done to a host, with these entries, keeps them
+pub effect_kept : (past : List Entry) (h new : HostState) (entries : List Entry) → HostFacts new → Between h new entries → Facts past h → Facts (past ++ entries) new
+effect_kept past h new entries host e f =
+    let shown = shown_kept past h.commands h.nodes f.host.owns f.in_order (record { accepted = f.accepted; begun = f.begun; entered = f.entered; waiting = f.waiting; stand = f.stand })
+    new.commands new.nodes h.store new.store entries e in
+    record {
+      host = host;
+      accepted = shown.accepted;
+      begun = shown.begun;
+      entered = shown.entered;
+      waiting = shown.waiting;
+      in_order = order_kept h.commands h.nodes f.host.owns f.in_order new.commands new.nodes h.store new.store entries e;
+      stored = stored_kept past h.commands h.nodes f.host.owns f.in_order f.stored new.commands new.nodes h.store new.store entries e;
+      confirmed = confirmed_kept h.commands h.nodes h.store f.host.owns f.in_order f.confirmed new.commands new.nodes new.store entries e;
+      stand = shown.stand;
+    }
+
 -- what the host alone keeps
 abbrev pub HostKeeps : Type 0
 HostKeeps = (h : HostState) (event : HostEvent) → HostFacts h → May h event → HostFacts (after h event)
 
 module _ (host : HostKeeps) (law : LeavesRecords) where
   pub each_kept : (past : List Entry) (h : HostState) (event : HostEvent) → Facts past h → May h event → Facts (past ++ entries_at h event) (after h event)
-  each_kept past h event f may =
-      let e = effect law h event may in
-      let shown = shown_kept past h.commands h.nodes f.host.owns f.in_order (record { accepted = f.accepted; begun = f.begun; entered = f.entered; waiting = f.waiting; stand = f.stand })
-      (after h event).commands (after h event).nodes h.store (after h event).store (entries_at h event) e in
-      record {
-        host = host h event f.host may;
-        accepted = shown.accepted;
-        begun = shown.begun;
-        entered = shown.entered;
-        waiting = shown.waiting;
-        in_order = order_kept h.commands h.nodes f.host.owns f.in_order (after h event).commands (after h event).nodes h.store (after h event).store (entries_at h event) e;
-        stored = stored_kept past h.commands h.nodes f.host.owns f.in_order f.stored (after h event).commands (after h event).nodes h.store (after h event).store (entries_at h event) e;
-        confirmed = confirmed_kept h.commands h.nodes h.store f.host.owns f.in_order f.confirmed (after h event).commands (after h event).nodes (after h event).store (entries_at h event) e;
-        stand = shown.stand;
-      }
+  each_kept past h event f may = effect_kept past h (after h event) (entries_at h event) (host h event f.host may) (effect law h event may) f
 
   pub all_kept : (past : List Entry) (h : HostState) (events : List HostEvent) → Facts past h → MayAll h events → Facts (past ++ entries_all h events) (after_all h events)
   all_kept past h [] f may = subst (λ (T : List Entry). Facts T h) (sym (append-nil past)) f
@@ -148,6 +151,11 @@ aside_kept past h entry f aside =
       confirmed = f.confirmed;
       stand = stand_silent past (entry ∷ []) (one, tt) f.stand;
     }
+
+pub asides_kept : (past : List Entry) (h : HostState) (entries : List Entry) → Facts past h → AllByRecursion IsAside entries → Facts (past ++ entries) h
+asides_kept past h [] f all = subst (λ (l : List Entry). Facts l h) (sym (append-nil past)) f
+asides_kept past h (e ∷ entries) f all =
+    subst (λ (l : List Entry). Facts l h) (append_assoc past (e ∷ []) entries) (asides_kept (past ++ e ∷ []) h entries (aside_kept past h e f all.0) all.1)
 
 -- ---- the beginning
 

@@ -31,7 +31,7 @@ place_taken [] k = refl
 place_taken (first ∷ rest) zero = refl
 place_taken (first ∷ rest) (suc k) = place_taken rest k
 
-taken_kept : (commands : List Command) (number : ℕ) → taken_at commands number ≡ command_of (map taken_as commands) number
+pub taken_kept : (commands : List Command) (number : ℕ) → taken_at commands number ≡ command_of (map taken_as commands) number
 taken_kept commands zero = refl
 taken_kept commands (suc k) = place_taken commands k
 

@@ -15,6 +15,7 @@ mod EntryOrder
 mod FactsKept
 mod Restarts
 pub mod HostsFromRecords
+mod FromRecords
 pub mod Over
 pub use Rattle.host_model.proofs.Silence
 pub use Rattle.host_model.proofs.Submitted

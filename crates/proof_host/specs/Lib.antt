@@ -5,6 +5,7 @@ pub mod Stores
 pub mod Facts
 pub mod Wrong
 pub mod Lives
+pub mod RecordsTold
 pub use Rattle.host_model.specs as host_model
 pub use Rattle.law_transcript.specs as law_transcript
 pub use Rattle.law_transcript.specs.device_kinds as device_kinds

@@ -6,11 +6,12 @@
 //! that every event keeps, which tie the entries to the tables of the host. The induction is `first_facts_hold`,
 //! `events_keep_facts`, `outcomes_are_told`, `asides_keep_facts` and `restarts_keep_facts`; `laws_follow` and
 //! `hosts_keep_laws` are its result. `lives_keep_laws` says the same of a host that starts again and again from its
-//! records.
+//! records; `records_keep_facts` begins from any legal records, whoever left them (`specs/RecordsTold`).
 #![tactic(auto)]
 
 mod laws;
 mod lives;
+mod records;
 
 pub use host_model::{
     a_host_begins_with_what_is_kept, a_pump_ends, a_restart_keeps_what_is_held,
@@ -24,3 +25,4 @@ pub use laws::{
     wrong_transcripts_are_rejected,
 };
 pub use lives::{lives_keep_facts, lives_keep_laws, what_is_kept_starts_a_host};
+pub use records::records_keep_facts;

@@ -42,14 +42,15 @@ use Rattle.proof_answered.proofs.TurnOrder.{turn_most}
 use Rattle.proof_answered.proofs.Unmarked.{nothing_asked}
 use Rattle.proof_answered.proofs.proof_traffic_Parts.{Airs}
 use Rattle.proof_in_time.specs.Coming.{AreWaiting, IsKeptFor, WaitsFor}
-use Rattle.proof_in_time.specs.Sleeping.{ComesUp, Flies, IsPlainlyUp, Told}
+use Rattle.proof_in_time.specs.Sleeping.{ComesUp, Flies, Told}
 use Rattle.proof_in_time.specs.InHand.{StandsAt, ticks_blocked, ticks_enough, ticks_of_all}
 use Rattle.proof_in_time.proofs.InHand.{Due, Ended, EndsLater, Goes_on, HasTurn, Idles, KeptLaws, Rests, Runs, Sleeps_on, event_hand, later_hand_as, later_kept, three_true}
 use Rattle.proof_in_time.proofs.InTurn.{ComesTo, In_turn}
+use Rattle.proof_in_time.proofs.Counting.{Ground, Lines}
 use Rattle.proof_in_time.proofs.Keeping.{kept_before, none_unkept, told_kept}
-use Rattle.proof_in_time.proofs.Lasting.{in_time, node_within}
+use Rattle.proof_in_time.proofs.Lasting.{node_within}
 use Rattle.proof_in_time.proofs.Nearing.{EndsSoon, Ends_soon, Enough, IsHeldSoon, IsOverSoon, Never, NeverRests, RunsOn, Soon, WaitsOn, Wakes_soon, idle_of}
-use Rattle.proof_in_time.proofs.Rising.{HasRisen, IsServed, RestsAt, one_comes, one_flies, rests_at, risen_or, risen_served, serves_now}
+use Rattle.proof_in_time.proofs.Rising.{HasRisen, IsServed, RestsAt, one_comes, one_flies, rests_at, risen_or, risen_served}
 use Rattle.proof_in_time.proofs.Serving.{KnowServed}
 
 -- ---- a node that is given a command
@@ -205,40 +206,40 @@ module _ (facts_kept : (h : HostState) (event : HostEvent) → HostFacts h → M
 -- ---- the walk
 
 -- what is known beside: each command of these nodes that was accepted since is in hand, and each that waited
-abbrev pub KnowAccepted : Bool → List Bool → ℕ → (ℕ → List ℕ) → Phase → List Entry → Machine → Type 0
-KnowAccepted listening these start waited here past m = KnowServed listening these here past m × (IsKeptFor these past → (n : ℕ) → is_marked these n ≡ true → InHandFrom n start (waited n) m.host.state)
+abbrev pub KnowAccepted : (Phase → List Entry → Machine → Type 0) → List Bool → ℕ → (ℕ → List ℕ) → Phase → List Entry → Machine → Type 0
+KnowAccepted Know these start waited here past m = Know here past m × (IsKeptFor these past → (n : ℕ) → is_marked these n ≡ true → InHandFrom n start (waited n) m.host.state)
 
-module _ (airs : Airs) (these : List Bool) (many : length these ≡ 233) (none : is_marked these 0 ≡ false) (facts_kept : (h : HostState) (event : HostEvent) → HostFacts h → MayHost h event → HostFacts (after h event)) (listening : Bool) (start : ℕ)
-    (waited : ℕ → List ℕ) (served : WalkWhere (IsPlainlyUp these) AsksNothing (KnowServed listening these)) where
-  accepted_on : (here next : Phase) (past : List Entry) (m : Machine) (event : Event) → Goes here m event next → May m event → IsKeptFor these (past ++ entries m event) → KnowAccepted listening these start waited here past m
+module _ (airs : Airs) (these : List Bool) (many : length these ≡ 233) (none : is_marked these 0 ≡ false) (facts_kept : (h : HostState) (event : HostEvent) → HostFacts h → MayHost h event → HostFacts (after h event)) (Up : Machine → Event → Type 0)
+    (Know : Phase → List Entry → Machine → Type 0) (lines : Lines these Up Know) (start : ℕ) (waited : ℕ → List ℕ) where
+  accepted_on : (here next : Phase) (past : List Entry) (m : Machine) (event : Event) → Goes here m event next → May m event → IsKeptFor these (past ++ entries m event) → KnowAccepted Know these start waited here past m
       → (n : ℕ) → is_marked these n ≡ true → InHandFrom n start (waited n) (happens m event).host.state
   accepted_on here next past m event goes may is known n marked =
       let before = kept_before these past (entries m event) is in
       let stretched = before.worked.stretched in
-      let staff = (known.0.0.0 before).0 in
+      let staff = lines.workers here past m before known.0 in
       let tied = (staff.0.0 stretched).0.tied stretched.quiet in
       let node = node_within these many none n marked in
       let below : n < 233 = (let few = node.1 in omega (arith, few)) in
-      let later = first_on (On facts_kept n below start (waited n)) (on_kept facts_kept n below start (waited n)) airs here next m event goes may (in_time these here past m event before known.0.0.0) tied.0 tied.1 tied.6 (staff.0.0 stretched).1
+      let later = first_on (On facts_kept n below start (waited n)) (on_kept facts_kept n below start (waited n)) airs here next m event goes may (lines.in_time here past m event before known.0) tied.0 tied.1 tied.6 (staff.0.0 stretched).1
       (λ k same on. absurd (none_unkept m event (told_kept these past (entries m event) is) k same)) (record { facts = tied.7.facts; all = known.1 before n marked }) in
       later.all
 
-  pub accepted_walk : WalkWhere (IsPlainlyUp these) AsksNothing (KnowAccepted listening these start waited)
+  pub accepted_walk : WalkWhere Up AsksNothing (KnowAccepted Know these start waited)
   accepted_walk = record {
-    said = λ past m words line read known. (tt, ((served.said past m words line read known.0).1, λ is. known.1 (kept_before these past (entry.Said words ∷ []) is)));
-    event = λ here next past m event goes may plain known. (
+    said = λ past m words line read known. (tt, ((lines.walk.said past m words line read known.0).1, λ is. known.1 (kept_before these past (entry.Said words ∷ []) is)));
+    event = λ here next past m event goes may up known. (
       nothing_asked past (entries m event),
-      ((served.event here next past m event goes may plain known.0).1, λ is. accepted_on here next past m event goes may is known),
+      ((lines.walk.event here next past m event goes may up known.0).1, λ is. accepted_on here next past m event goes may is known),
     );
-    turn = λ here next past m turns known. (served.turn here next past m turns known.0, known.1);
+    turn = λ here next past m turns known. (lines.walk.turn here next past m turns known.0, known.1);
   }
 
 -- ---- from then on its ticks are counted
 
-pub all_most : (these : List Bool) (a b : ℕ) → a ≤ b → ticks_of_all these a ≤ ticks_of_all these b
-all_most these zero b less = omega arith
-all_most these (suc a) zero less = absurd (omega (arith, less))
-all_most these (suc a) (suc b) less = let more = all_most these a b (omega (arith, less)) in omega (arith, more)
+pub all_most : (long : ℕ) (these : List Bool) (a b : ℕ) → a ≤ b → ticks_of_all long these a ≤ ticks_of_all long these b
+all_most long these zero b less = omega arith
+all_most long these (suc a) zero less = absurd (omega (arith, less))
+all_most long these (suc a) (suc b) less = let more = all_most long these a b (omega (arith, less)) in omega (arith, more)
 
 pub blocked_most : (x : NodeState) → ticks_blocked x ≤ 1
 blocked_most x = by x.blocked
@@ -248,38 +249,38 @@ blocked_most x = by x.blocked
     by false = omega arith
 
 -- a node that is served
-few_ends : (these : List Bool) (n command ticks : ℕ) (m : Machine) → IsNode n → IsServed n m.host.state → WaitsFor n 6 Between m → ticks_blocked (node_of m.host.state n) + ticks_of_all these 18 ≤ ticks → FewWait command (node_of m.host.state n)
-    → EndsSoon these n command ticks Between m
-few_ends these n command ticks m node served six enough waits =
-    later_hand_as command Few Few Few (λ (more : ℕ). ComesTo these n (ticks - ticks_of_all these more) Between m) (λ (more : ℕ). RunsOn n (ticks - ticks_of_all these more) Between m) (λ (more : ℕ). IsHeldSoon these n ticks more Between) NeverRests
-    (λ (more wait : ℕ). IsOverSoon these n ticks more wait Between) Fewer Never (node_of m.host.state n) (λ left. (served left).0) due runs held (λ more wait idle again w. absurd w) waits
+few_ends : (Within : ℕ → Phase → Machine → Type 0) (long : ℕ) (these : List Bool) (n command ticks : ℕ) (m : Machine) → IsNode n → IsServed n m.host.state → Within long Between m → ticks_blocked (node_of m.host.state n) + ticks_of_all long these 18 ≤ ticks → FewWait command (node_of m.host.state n)
+    → EndsSoon Within long these n command ticks Between m
+few_ends Within long these n command ticks m node served all enough waits =
+    later_hand_as command Few Few Few (λ (more : ℕ). ComesTo long these n (ticks - ticks_of_all long these more) Between m) (λ (more : ℕ). RunsOn Within (ticks - ticks_of_all long these more) Between m) (λ (more : ℕ). IsHeldSoon long these n ticks more Between) NeverRests
+    (λ (more wait : ℕ). IsOverSoon long these n ticks more wait Between) Fewer Never (node_of m.host.state n) served.up due runs held (λ more wait idle again w. absurd w) waits
   where
-    left : (more : ℕ) → Few more → ticks_enough these ≤ ticks - ticks_of_all these more
-    left more few = let all = all_most these (suc more) 18 (omega (arith, few)) in omega (arith, all, enough)
+    left : (more : ℕ) → Few more → ticks_enough long these ≤ ticks - ticks_of_all long these more
+    left more few = let all = all_most long these (suc more) 18 (omega (arith, few)) in omega (arith, all, enough)
 
-    due : (more : ℕ) → HasTurn (node_of m.host.state n) → Few more → ComesTo these n (ticks - ticks_of_all these more) Between m
+    due : (more : ℕ) → HasTurn (node_of m.host.state n) → Few more → ComesTo long these n (ticks - ticks_of_all long these more) Between m
     due more has few = let most = turn_most these m.host.state.served n node.1 in let some = left more few in In_turn (omega (arith, most, some))
 
-    runs : (more : ℕ) → (node_of m.host.state n).series ≡ series.Running → Few more → RunsOn n (ticks - ticks_of_all these more) Between m
-    runs more so few = let some = left more few in record { most = 6; waits = six; few = omega (arith, some) }
+    runs : (more : ℕ) → (node_of m.host.state n).series ≡ series.Running → Few more → RunsOn Within (ticks - ticks_of_all long these more) Between m
+    runs more so few = let some = left more few in record { most = long; waits = all; few = omega (arith, some) }
 
-    held : (more : ℕ) → (node_of m.host.state n).blocked ≡ true → Few more → IsHeldSoon these n ticks more Between
+    held : (more : ℕ) → (node_of m.host.state n).blocked ≡ true → Few more → IsHeldSoon long these n ticks more Between
     held more blocked few =
-        let all = all_most these (suc more) 18 (omega (arith, few)) in
+        let all = all_most long these (suc more) 18 (omega (arith, few)) in
         let one : ticks_blocked (node_of m.host.state n) ≡ 1 = ap (λ (b : Bool). if b then 1 else 0) blocked in
         omega (arith, all, enough, one)
 
--- the host listens to these nodes
-pub soon_of : (these : List Bool) (n command ticks : ℕ) (taken : Taken) (start : ℕ) (waited : ℕ → List ℕ) (past : List Entry) (m : Machine) → is_marked these n ≡ true → IsNode n → KnowAccepted true these start waited Between past m
-    → taken_at m.host.state.commands command ≡ Some taken → taken.order.node ≡ n → start + 1 ≤ command → ticks_blocked (node_of m.host.state n) + ticks_of_all these 18 ≤ ticks → IsKeptFor these past → Soon true these n command ticks Between past m
-soon_of these n command ticks taken start waited past m marked node known found for_node later enough kept =
-    let at = known.0.0.0 kept in
+-- the host listens to the node
+pub soon_of : (these : List Bool) (n long : ℕ) (Up : Machine → Event → Type 0) (Know : Phase → List Entry → Machine → Type 0) (Within : ℕ → Phase → Machine → Type 0) → Ground these n long true Up Know Within → (command ticks : ℕ) (taken : Taken) (start : ℕ)
+    (waited : ℕ → List ℕ) (past : List Entry) (m : Machine) → is_marked these n ≡ true → IsNode n → KnowAccepted Know these start waited Between past m → taken_at m.host.state.commands command ≡ Some taken → taken.order.node ≡ n → start + 1 ≤ command
+    → ticks_blocked (node_of m.host.state n) + ticks_of_all long these 18 ≤ ticks → IsKeptFor these past → Soon Within true long these n command ticks Between past m
+soon_of these n long Up Know Within ground command ticks taken start waited past m marked node known found for_node later enough kept =
     Ends_soon tt
-    (few_ends these n command ticks m node (serves_now true these n Between past m marked (known.0.1 kept).serve at.1.hears tt) (at.1.waits n marked) enough ((known.1 kept n marked).since command taken found for_node later))
+    (few_ends Within long these n command ticks m node (ground.served Between past m kept known.0 tt) (ground.within Between past m kept known.0) enough ((known.1 kept n marked).since command taken found for_node later))
 
 -- it sleeps, and its `wake` line was said: it has risen, or its Notification comes in the next tick
-pub soon_woken : (these : List Bool) (n command ticks start : ℕ) (waited : ℕ → List ℕ) (past : List Entry) (m : Machine) → is_marked these n ≡ true → IsNode n → KnowAccepted false these start waited Between past m → wakes_never (turns n past) ≡ false
-    → (InHandFrom n start (waited n) m.host.state → FewWait command (node_of m.host.state n)) → 2 + ticks_of_all these 18 ≤ ticks → IsKeptFor these past → Soon false these n command ticks Between past m
+pub soon_woken : (these : List Bool) (n command ticks start : ℕ) (waited : ℕ → List ℕ) (past : List Entry) (m : Machine) → is_marked these n ≡ true → IsNode n → KnowAccepted (KnowServed false these) these start waited Between past m → wakes_never (turns n past) ≡ false
+    → (InHandFrom n start (waited n) m.host.state → FewWait command (node_of m.host.state n)) → 2 + ticks_of_all 6 these 18 ≤ ticks → IsKeptFor these past → Soon (WaitsFor true n) false 6 these n command ticks Between past m
 soon_woken these n command ticks start waited past m marked node known woken counts enough kept = by (risen_or n rests.0.device Between past m rests.1 woken (λ wakes. wakes))
   where
     at : (KnowWorkers these Between past m × Staffed these Between m) × AreWaiting these Between past m
@@ -291,10 +292,10 @@ soon_woken these n command ticks start waited past m marked node known woken cou
     waits : FewWait command (node_of m.host.state n)
     waits = counts (known.1 kept n marked)
 
-    few : (more : ℕ) → Few more → Enough these 2 ticks more
-    few more less = let all = all_most these (suc more) 18 (omega (arith, less)) in omega (arith, all, enough)
+    few : (more : ℕ) → Few more → Enough 6 these 2 ticks more
+    few more less = let all = all_most 6 these (suc more) 18 (omega (arith, less)) in omega (arith, all, enough)
 
-    as_many : FewWait command (node_of m.host.state n) → WaitsOn these command 2 ticks (node_of m.host.state n)
+    as_many : FewWait command (node_of m.host.state n) → WaitsOn 6 these command 2 ticks (node_of m.host.state n)
     as_many (Goes_on (Ended is)) = Goes_on (Ended is)
     as_many (Goes_on (Idles more none idle stands d v)) = Goes_on (Idles more none idle stands (λ free. few more (d free)) (λ blocked. few more (v blocked)))
     as_many (Goes_on (Due more session opened so stands d v)) = Goes_on (Due more session opened so stands (few more d) (λ blocked. few more (v blocked)))
@@ -306,9 +307,9 @@ soon_woken these n command ticks start waited past m marked node known woken cou
     comes (Flies_home one pending) = Flies (one_flies n (on_air m.outside.outer.air.frames) one) (omega arith)
     comes (Comes_home frames one) = let from = one_comes n (unheard m.outside.outer) one in Told from.payload from.tells from.has (omega arith)
 
-    by : OneWakes n m ⊎ HasRisen n Between past m → Soon false these n command ticks Between past m
+    by : OneWakes n m ⊎ HasRisen n Between past m → Soon (WaitsFor true n) false 6 these n command ticks Between past m
     by (inl one) = Wakes_soon refl 1 (comes one) (as_many waits)
     by (inr risen) =
         let served : IsServed n m.host.state = risen_served n rests.0.device Between past m rests.1 risen in
         let blocked = blocked_most (node_of m.host.state n) in
-        Ends_soon risen (few_ends these n command ticks m node served (at.1.waits n marked) (omega (arith, enough, blocked)) waits)
+        Ends_soon risen (few_ends (WaitsFor true n) 6 these n command ticks m node served (at.1.waits n marked) (omega (arith, enough, blocked)) waits)

@@ -26,7 +26,6 @@ use Rattle.air_frames.specs.declared.frame.Departure.{Departure}
 use Rattle.air_frames.specs.declared.frame.Heading.TheVariants.{Outward}
 use Rattle.host_requests.specs.Frames.{frame_of, request_frame, request_of, send}
 use Rattle.host_requests.specs.declared.task.Purpose.{Purpose}
-use Rattle.host_requests.specs.declared.task.Purpose.TheVariants.{Attempt}
 use Rattle.host_requests.specs.declared.under_way.UnderWay.{UnderWay}
 use Rattle.mesh_sim.specs.Air.{AirState, departing, no_route}
 use Rattle.outside_model.specs.Chip.{chip_does, put_out}
@@ -94,26 +93,32 @@ frame_air o f way route none takes_it is =
     by turn = puts_air (with_chip o (record (record hs { port = queued_at turn hs.port response }) { sending = Some (record { node = takes_it.node; callback_id = takes_it.id }) }))
         (Write Ack ∷ queued_outs_at turn hs.port response) takes_it.node takes_it.payload route (tt, queued_said turn hs.port response)
 
--- it stands on the air then, as the last
+-- it is the last of the frames on the air then
+pub record Departs (n : ℕ) (payload : List ℕ) (flights later : List Flown) : Type 0 where
+  pub frame : Flown
+  pub are : later ≡ flights ++ frame ∷ []
+  pub is : IsOnAir n payload frame
+
+pub departs_stands : (n : ℕ) (payload : List ℕ) (flights later : List Flown) → Departs n payload flights later → Stands (IsOnAir n payload) later
+departs_stands n payload flights later departs = record { before = flights; frame = departs.frame; behind = []; are = departs.are; is = departs.is }
+
 departed : (airs : Airs) (log : List Mark) (flights : List Flown) (a : AirState) (n : ℕ) (payload : List ℕ) (route : Route) (later : AirState) → n < 233 → Fly log flights a.frames → later ≡ departing a n Outward (Some route) payload
-    → Stands (IsOnAir n payload) (on_air later.frames)
+    → Departs n payload flights (on_air later.frames)
 departed airs log flights a n payload route later within fly is =
     let d : Departure = record { node = n; heading = Outward; route = unwrap_or (Some route) no_route; lost = nat_lt 0 a.losing || is_none (Some route); payload = payload } in
     let flown : Fly (log ++ goes_mark d ∷ []) (flights ++ flown_now log d ∷ []) (departing a n Outward (Some route) payload).frames = airs.goes log flights a.frames d within fly in
     record {
-      before = flights;
       frame = flown_now log d;
-      behind = [];
       are = ap (λ (air : AirState). on_air air.frames) is ∙ sym (flights_are (log ++ goes_mark d ∷ []) (flights ++ flown_now log d ∷ []) (departing a n Outward (Some route) payload).frames flown);
       is = record { node = refl; out = refl; is = refl };
     }
 
 -- ---- which payload that is
 
--- what an attempt of a node asks for is to send its payload to it
-same_node : (joined : List Bool) (n : ℕ) (more : Bool) (payload : List ℕ) (purpose : Purpose) (id : ℕ) → purpose ≡ Attempt n more payload → (asks : AsksToSend joined purpose id) → (asks.node ≡ n) × (asks.payload ≡ payload)
-same_node joined n more payload purpose id is asks =
-    let both : send n payload id ≡ send asks.node asks.payload id = sym (ap (λ (p : Purpose). request_of p id) is) ∙ asks.is in
+-- what asks to send a payload to a node asks for that
+same_node : (joined : List Bool) (n : ℕ) (payload : List ℕ) (purpose : Purpose) (id : ℕ) → request_of purpose id ≡ send n payload id → (asks : AsksToSend joined purpose id) → (asks.node ≡ n) × (asks.payload ≡ payload)
+same_node joined n payload purpose id is asks =
+    let both : send n payload id ≡ send asks.node asks.payload id = sym is ∙ asks.is in
     let first : asks.node ≡ n = cc in
     let later : asks.payload ≡ payload = cc in
     (first, later)
@@ -150,7 +155,7 @@ module _ (airs : Airs) (log : List Mark) (flights : List Flown) (n : ℕ) (paylo
 
   -- the frame alone
   frame_stands : (o : OuterState) (f : FrameParts) (way : Option Route) → HasNoMarks o → (takes_it : IsTakenBy o.chip.state f) → Reaches o.chip.state.table these → ChipMay o.chip.state (Judged (Good (Framed f)) way)
-      → takes_it.node ≡ n → takes_it.payload ≡ payload → Fly log flights o.air.frames → Stands (IsOnAir n payload) (on_air (chip_does o (Judged (Good (Framed f)) way)).outer.air.frames)
+      → takes_it.node ≡ n → takes_it.payload ≡ payload → Fly log flights o.air.frames → Departs n payload flights (on_air (chip_does o (Judged (Good (Framed f)) way)).outer.air.frames)
   frame_stands o f way none takes_it reaches may node_is payload_is fly =
       let route = some_route way (frame_way these o.chip.state f way none.link takes_it (asks_these o.chip.state f takes_it node_is) reaches may) in
       let air = frame_air o f way route.0 none takes_it route.1 in
@@ -160,13 +165,13 @@ module _ (airs : Airs) (log : List Mark) (flights : List Flown) (n : ℕ) (paylo
   -- an acknowledgement before it
   ack_frame_stands : (o : OuterState) (f : FrameParts) (first way : Option Route) → HasNoMarks o → (takes_it : IsTakenBy (after_chip o.chip.state (Judged (Good Ack) first)) f) → Reaches o.chip.state.table these
       → ChipMay (after_chip o.chip.state (Judged (Good Ack) first)) (Judged (Good (Framed f)) way) → takes_it.node ≡ n → takes_it.payload ≡ payload → Fly log flights o.air.frames
-      → Stands (IsOnAir n payload) (on_air (chip_does (chip_does o (Judged (Good Ack) first)).outer (Judged (Good (Framed f)) way)).outer.air.frames)
+      → Departs n payload flights (on_air (chip_does (chip_does o (Judged (Good Ack) first)).outer (Judged (Good (Framed f)) way)).outer.air.frames)
   ack_frame_stands o f first way none takes_it reaches may node_is payload_is fly = by (chip_does o (Judged (Good Ack) first)).outer (does_chip o (Judged (Good Ack) first)) (does_none o (Judged (Good Ack) first) tt none) (does_said o (Judged (Good Ack) first) (ack_said o.chip.state first)).air
     where
-      by : (q : OuterState) → q.chip.state ≡ after_chip o.chip.state (Judged (Good Ack) first) → HasNoMarks q → q.air ≡ o.air → Stands (IsOnAir n payload) (on_air (chip_does q (Judged (Good (Framed f)) way)).outer.air.frames)
+      by : (q : OuterState) → q.chip.state ≡ after_chip o.chip.state (Judged (Good Ack) first) → HasNoMarks q → q.air ≡ o.air → Departs n payload flights (on_air (chip_does q (Judged (Good (Framed f)) way)).outer.air.frames)
       by q state quiet air = of q.chip.state refl state
         where
-          of : (s : ChipState) → q.chip.state ≡ s → s ≡ after_chip o.chip.state (Judged (Good Ack) first) → Stands (IsOnAir n payload) (on_air (chip_does q (Judged (Good (Framed f)) way)).outer.air.frames)
+          of : (s : ChipState) → q.chip.state ≡ s → s ≡ after_chip o.chip.state (Judged (Good Ack) first) → Departs n payload flights (on_air (chip_does q (Judged (Good (Framed f)) way)).outer.air.frames)
           of s same is =
               let whole : q.chip.state ≡ after_chip o.chip.state (Judged (Good Ack) first) = same ∙ is in
               let there : IsTakenBy q.chip.state f =
@@ -182,12 +187,12 @@ taken_air m rest ways = (entered_leaves (outcome m.outside (Chip_takes (length m
 
 module _ (airs : Airs) (m : Machine) (awaits : Awaits m) (n : ℕ) (payload : List ℕ) (within : n < 233) (these : List Bool) (marked : is_marked these n ≡ true) (busy : m.host.state.side.turn ≡ no_turn → ⊥)
     (same : (t : ChipState) (f : FrameParts) → m.host.state.side.turn ≡ Copied f 1 0 → (takes_it : IsTakenBy t f) → (takes_it.node ≡ n) × (takes_it.payload ≡ payload)) where
-  pub frame_airs : (passes : ℕ) (rest : Rest) (ways : List (Item × Option Route)) → ChipMayTake m rest ways → IsDone m ⊎ CanMove passes m → HasRoom m.outside.outer.chip.state → TieOf true m (on_line m.host.state.side.turn) → IsPeopled these m
-      → Stands (IsOnAir n payload) (on_air (chip_taken m rest ways).outside.outer.air.frames)
+  pub frame_departs : (passes : ℕ) (rest : Rest) (ways : List (Item × Option Route)) → ChipMayTake m rest ways → IsDone m ⊎ CanMove passes m → HasRoom m.outside.outer.chip.state → TieOf true m (on_line m.host.state.side.turn) → IsPeopled these m
+      → Departs n payload (on_air m.outside.outer.air.frames) (on_air (chip_taken m rest ways).outside.outer.air.frames)
   unfolding May MayOutside
-  frame_airs passes rest ways may (inl done) room tie peopled = absurd (busy done.line.at_host.turn_is)
-  frame_airs passes rest ways may (inr can) room tie peopled =
-      subst (λ (a : AirState). Stands (IsOnAir n payload) (on_air a.frames)) (sym (taken_air m rest ways)) (by can.live.line can.moves (part_tied m can.live.line rest ways can.moves may room tie).0)
+  frame_departs passes rest ways may (inl done) room tie peopled = absurd (busy done.line.at_host.turn_is)
+  frame_departs passes rest ways may (inr can) room tie peopled =
+      subst (λ (a : AirState). Departs n payload (on_air m.outside.outer.air.frames) (on_air a.frames)) (sym (taken_air m rest ways)) (by can.live.line can.moves (part_tied m can.live.line rest ways can.moves may room tie).0)
     where
       items : List Item
       items = map (λ (w : Item × Option Route). w.0) ways
@@ -196,26 +201,26 @@ module _ (airs : Airs) (m : Machine) (awaits : Awaits m) (n : ℕ) (payload : Li
       reaches k of_these = let reached = peopled.live.reached k of_these in (reached.apart, (reached.over, reached.walk))
 
       alone : (f : FrameParts) → HasNoMarks m.outside.outer → m.host.state.side.turn ≡ Copied f 1 0 → items ≡ Good (Framed f) ∷ [] → TakesEach m.outside.outer.chip.state ways
-          → Stands (IsOnAir n payload) (on_air (each chip_does (taken m.outside.outer rest) (judged_all ways)).outer.air.frames)
+          → Departs n payload (on_air m.outside.outer.air.frames) (on_air (each chip_does (taken m.outside.outer rest) (judged_all ways)).outer.air.frames)
       alone f quiet turn are takes_each =
           let one = one_way ways (Good (Framed f)) are in
           let takes_it : IsTakenBy m.outside.outer.chip.state f = (subst (TakesEach m.outside.outer.chip.state) one.1 takes_each).0 in
           let is = same m.outside.outer.chip.state f turn takes_it in
-          subst (λ (l : List (Item × Option Route)). Stands (IsOnAir n payload) (on_air (each chip_does (taken m.outside.outer rest) (judged_all l)).outer.air.frames)) (sym one.1)
+          subst (λ (l : List (Item × Option Route)). Departs n payload (on_air m.outside.outer.air.frames) (on_air (each chip_does (taken m.outside.outer rest) (judged_all l)).outer.air.frames)) (sym one.1)
           (frame_stands airs awaits.log (on_air m.outside.outer.air.frames) n payload within these marked (taken m.outside.outer rest) f one.0 (marks_of m.outside.outer rest quiet) takes_it reaches
           (subst (λ (l : List (Item × Option Route)). ChipMayAll m.outside.outer.chip.state (judged_all l)) one.1 may.1.judges).0 is.0 is.1 awaits.follows.fly)
 
       acked : (f : FrameParts) → HasNoMarks m.outside.outer → m.host.state.side.turn ≡ Copied f 1 0 → items ≡ Good Ack ∷ Good (Framed f) ∷ [] → TakesEach m.outside.outer.chip.state ways
-          → Stands (IsOnAir n payload) (on_air (each chip_does (taken m.outside.outer rest) (judged_all ways)).outer.air.frames)
+          → Departs n payload (on_air m.outside.outer.air.frames) (on_air (each chip_does (taken m.outside.outer rest) (judged_all ways)).outer.air.frames)
       acked f quiet turn are takes_each =
           let two = two_ways ways (Good Ack) (Good (Framed f)) are in
           let takes_it : IsTakenBy (after_chip m.outside.outer.chip.state (Judged (Good Ack) two.0)) f = (subst (TakesEach m.outside.outer.chip.state) two.2 takes_each).1.0 in
           let is = same (after_chip m.outside.outer.chip.state (Judged (Good Ack) two.0)) f turn takes_it in
-          subst (λ (l : List (Item × Option Route)). Stands (IsOnAir n payload) (on_air (each chip_does (taken m.outside.outer rest) (judged_all l)).outer.air.frames)) (sym two.2)
+          subst (λ (l : List (Item × Option Route)). Departs n payload (on_air m.outside.outer.air.frames) (on_air (each chip_does (taken m.outside.outer rest) (judged_all l)).outer.air.frames)) (sym two.2)
           (ack_frame_stands airs awaits.log (on_air m.outside.outer.air.frames) n payload within these marked (taken m.outside.outer rest) f two.0 two.1 (marks_of m.outside.outer rest quiet) takes_it reaches
           (subst (λ (l : List (Item × Option Route)). ChipMayAll m.outside.outer.chip.state (judged_all l)) two.2 may.1.judges).1.0 is.0 is.1 awaits.follows.fly)
 
-      by : (at : Line m) → Moves at → TakesEach m.outside.outer.chip.state ways → Stands (IsOnAir n payload) (on_air (each chip_does (taken m.outside.outer rest) (judged_all ways)).outer.air.frames)
+      by : (at : Line m) → Moves at → TakesEach m.outside.outer.chip.state ways → Departs n payload (on_air m.outside.outer.air.frames) (on_air (each chip_does (taken m.outside.outer rest) (judged_all ways)).outer.air.frames)
       by (Free at) moves takes_each = absurd moves
       by (Asks f fits at) moves takes_each =
           let fed = fed_units (Framed f) [] m.outside.outer.to_chip.bytes m.outside.outer.chip.decoder rest items (fits, tt) at.at_chip.decoder at.at_chip.up_bytes may.1.feeds in
@@ -229,32 +234,48 @@ module _ (airs : Airs) (m : Machine) (awaits : Awaits m) (n : ℕ) (payload : Li
           let fed = fed_units (Framed f) [] m.outside.outer.to_chip.bytes m.outside.outer.chip.decoder rest items (fits, tt) at.at_chip.decoder at.at_chip.up_bytes may.1.feeds in
           alone f at.unmarked at.at_host.turn_is fed.0 takes_each
 
--- an attempt
-module _ (airs : Airs) (m : Machine) (awaits : Awaits m) (n session : ℕ) (within : n < 233) (asks : AsksFor n session m.host.state) (these : List Bool) (marked : is_marked these n ≡ true) where
-  -- it is on its way
-  frame_taken : (t : ChipState) (f : FrameParts) → m.host.state.side.turn ≡ Copied f 1 0 → TieOf true m (on_line m.host.state.side.turn) → (takes_it : IsTakenBy t f) → (takes_it.node ≡ n) × (takes_it.payload ≡ asks.payload)
-  frame_taken t f turn tie takes_it = by (subst (λ (fs : List FrameParts). TieOf true m fs) asks.frame tie).tied
-    where
-      own : f ≡ frame_of asks.request.purpose m.host.state.requests.last_id
-      own = let same : f ∷ [] ≡ frame_of asks.request.purpose m.host.state.requests.last_id ∷ [] = sym (ap on_line turn) ∙ asks.frame in cc
+  pub frame_airs : (passes : ℕ) (rest : Rest) (ways : List (Item × Option Route)) → ChipMayTake m rest ways → IsDone m ⊎ CanMove passes m → HasRoom m.outside.outer.chip.state → TieOf true m (on_line m.host.state.side.turn) → IsPeopled these m
+      → Stands (IsOnAir n payload) (on_air (chip_taken m rest ways).outside.outer.air.frames)
+  frame_airs passes rest ways may at room tie peopled =
+      departs_stands n payload (on_air m.outside.outer.air.frames) (on_air (chip_taken m rest ways).outside.outer.air.frames) (frame_departs passes rest ways may at room tie peopled)
 
-      by : Tied true (ends_of m.host.state m.outside.outer.chip.state) (unheard m.outside.outer) (frame_of asks.request.purpose m.host.state.requests.last_id ∷ []) → (takes_it.node ≡ n) × (takes_it.payload ≡ asks.payload)
+-- a request that is on its way to the chip, which asks to send a payload to the node
+module _ (m : Machine) (n : ℕ) (payload : List ℕ) (request : UnderWay) (under_way : m.host.state.requests.under_way ≡ Some request) (sends : (id : ℕ) → request_of request.purpose id ≡ send n payload id)
+    (line : on_line m.host.state.side.turn ≡ frame_of request.purpose m.host.state.requests.last_id ∷ []) where
+  pub request_taken : (t : ChipState) (f : FrameParts) → m.host.state.side.turn ≡ Copied f 1 0 → TieOf true m (on_line m.host.state.side.turn) → (takes_it : IsTakenBy t f) → (takes_it.node ≡ n) × (takes_it.payload ≡ payload)
+  request_taken t f turn tie takes_it = by (subst (λ (fs : List FrameParts). TieOf true m fs) line tie).tied
+    where
+      own : f ≡ frame_of request.purpose m.host.state.requests.last_id
+      own = let same : f ∷ [] ≡ frame_of request.purpose m.host.state.requests.last_id ∷ [] = sym (ap on_line turn) ∙ line in cc
+
+      by : Tied true (ends_of m.host.state m.outside.outer.chip.state) (unheard m.outside.outer) (frame_of request.purpose m.host.state.requests.last_id ∷ []) → (takes_it.node ≡ n) × (takes_it.payload ≡ payload)
       by (Nowhere is) = absurd (let wrong = is.nothing in cc)
       by (At_chip u of fresh is) = absurd (let wrong = is.nothing in cc)
       by (Called u of fresh is) = absurd (let wrong = is.nothing in cc)
       by (On_way u of fresh is) =
-          let both : Some u ≡ Some asks.request = sym of.under_way ∙ asks.under_way in
-          let same : u ≡ asks.request = cc in
-          let sends : AsksToSend m.outside.outer.chip.state.joined asks.request.purpose m.host.state.requests.last_id =
+          let both : Some u ≡ Some request = sym of.under_way ∙ under_way in
+          let same : u ≡ request = cc in
+          let asks_so : AsksToSend m.outside.outer.chip.state.joined request.purpose m.host.state.requests.last_id =
           subst (λ (v : UnderWay). AsksToSend m.outside.outer.chip.state.joined v.purpose m.host.state.requests.last_id) same is.asks in
-          let asked_for = same_node m.outside.outer.chip.state.joined n asks.more asks.payload asks.request.purpose m.host.state.requests.last_id asks.purpose sends in
-          let taken_is = same_taken t m.outside.outer.chip.state.joined asks.request.purpose m.host.state.requests.last_id f own sends is.from is.to takes_it in
+          let asked_for = same_node m.outside.outer.chip.state.joined n payload request.purpose m.host.state.requests.last_id (sends m.host.state.requests.last_id) asks_so in
+          let taken_is = same_taken t m.outside.outer.chip.state.joined request.purpose m.host.state.requests.last_id f own asks_so is.from is.to takes_it in
           (taken_is.0 ∙ asked_for.0, taken_is.1 ∙ asked_for.1)
 
-  never_free : m.host.state.side.turn ≡ no_turn → ⊥
-  never_free free = absurd (let wrong = sym (ap on_line free) ∙ asks.frame in cc)
+  pub never_idle : m.host.state.side.turn ≡ no_turn → ⊥
+  never_idle free = absurd (let wrong = sym (ap on_line free) ∙ line in cc)
 
-  pub request_airs : (passes : ℕ) (rest : Rest) (ways : List (Item × Option Route)) → ChipMayTake m rest ways → IsDone m ⊎ CanMove passes m → HasRoom m.outside.outer.chip.state → TieOf true m (on_line m.host.state.side.turn) → IsPeopled these m
-      → Stands (IsOnAir n asks.payload) (on_air (chip_taken m rest ways).outside.outer.air.frames)
-  request_airs passes rest ways may at room tie peopled =
-      frame_airs airs m awaits n asks.payload within these marked never_free (λ t f turn takes_it. frame_taken t f turn tie takes_it) passes rest ways may at room tie peopled
+-- so that payload goes on the air
+module _ (airs : Airs) (m : Machine) (awaits : Awaits m) (n : ℕ) (payload : List ℕ) (within : n < 233) (request : UnderWay) (under_way : m.host.state.requests.under_way ≡ Some request)
+    (sends : (id : ℕ) → request_of request.purpose id ≡ send n payload id) (line : on_line m.host.state.side.turn ≡ frame_of request.purpose m.host.state.requests.last_id ∷ []) (these : List Bool)
+    (marked : is_marked these n ≡ true) where
+  pub payload_airs : (passes : ℕ) (rest : Rest) (ways : List (Item × Option Route)) → ChipMayTake m rest ways → IsDone m ⊎ CanMove passes m → HasRoom m.outside.outer.chip.state → TieOf true m (on_line m.host.state.side.turn) → IsPeopled these m
+      → Stands (IsOnAir n payload) (on_air (chip_taken m rest ways).outside.outer.air.frames)
+  payload_airs passes rest ways may at room tie peopled =
+      frame_airs airs m awaits n payload within these marked (never_idle m n payload request under_way sends line)
+      (λ t f turn takes_it. request_taken m n payload request under_way sends line t f turn tie takes_it) passes rest ways may at room tie peopled
+
+-- an attempt
+pub request_airs : (airs : Airs) (m : Machine) (awaits : Awaits m) (n session : ℕ) (within : n < 233) (asks : AsksFor n session m.host.state) (these : List Bool) (marked : is_marked these n ≡ true) (passes : ℕ) (rest : Rest) (ways : List (Item × Option Route))
+    → ChipMayTake m rest ways → IsDone m ⊎ CanMove passes m → HasRoom m.outside.outer.chip.state → TieOf true m (on_line m.host.state.side.turn) → IsPeopled these m → Stands (IsOnAir n asks.payload) (on_air (chip_taken m rest ways).outside.outer.air.frames)
+request_airs airs m awaits n session within asks these marked passes rest ways may at room tie peopled =
+    payload_airs airs m awaits n asks.payload within asks.request asks.under_way (λ id. ap (λ (p : Purpose). request_of p id) asks.purpose) asks.frame these marked passes rest ways may at room tie peopled

@@ -1,5 +1,5 @@
 -- What a device answers to the message of a session, and at the end of its work.
-use Rattle.std.proofs.Common.{◌≡◌, ◌≢◌, ◌≤◌, ℕ, ◌+◌, ◌-◌, ◌/◌, ◌%◌, ◌==◌, ◌&&◌, not, nat_lt, inl, inr, Bool, true, false, if◌then◌else◌, Option, Some, None, List, [], ◌∷◌, length, length-append, refl, sym, ap, ◌∙◌, subst, arith}
+use Rattle.std.proofs.Common.{◌≡◌, ◌≢◌, ◌≤◌, ℕ, ◌+◌, ◌-◌, ◌%◌, ◌==◌, ◌&&◌, not, nat_lt, inl, inr, Bool, true, false, if◌then◌else◌, Option, Some, None, List, length, refl, sym, ap, ◌∙◌, subst, arith}
 use Rattle.std.specs.Option.{option_map, option_to_list}
 use Rattle.std.proofs.lemmas.Bool.{eq-eqb, eqb-true}
 use Rattle.std.proofs.lemmas.Bool.Decides.{nat_tests}
@@ -11,10 +11,7 @@ use Rattle.supervision.specs.declared.session.TheConstants.{NO_SUPPORT, WORKING,
 use Rattle.supervision.specs.declared.device_book.Heard.{Heard}
 use Rattle.supervision.specs.declared.device_book.Heard.TheVariants.{New, Again, Old}
 use Rattle.encap.specs.Opening.{Message, opened_at}
-use Rattle.class_info.specs.InfoSpelling.{form}
-use Rattle.encap.specs.Written.{AreEnds, addressed_form, checked_form}
-use Rattle.zw_base.specs.Crc.{crc}
-use Rattle.encap.specs.declared.plan.Outer.TheVariants.{None as no_outer, Crc16, Security, Transport}
+use Rattle.encap.specs.Written.{AreEnds}
 use Rattle.encap.specs.declared.plan.Plan.{Plan}
 use Rattle.encap.specs.declared.plan.Supervised.{Supervised}
 use Rattle.encap.specs.declared.plan.Ends.{Ends}
@@ -39,7 +36,7 @@ use Rattle.device_sim.specs.Event.{Hears, Ticks, device_after, device_replies, o
 use Rattle.device_sim.specs.Laws.{IsHeard}
 use Rattle.proof_messages.specs.Asking.{MakesOnly, message_in, takes_openly, verdict_on}
 use Rattle.proof_messages.specs.Reporting.{CanBeAnswered}
-use Rattle.proof_messages.proofs.DeviceReports.{opened_ends, own_heard, report_length, taken_own, text_by}
+use Rattle.proof_messages.proofs.DeviceReports.{opened_ends, own_heard, taken_own, text_by, text_length}
 use Rattle.proof_messages.proofs.SessionMessages.{awake_after, headed_no_segment, knows_supervision, message_headed, openly_by}
 use Rattle.proof_in_time.specs.Answering.{AnswersSession, Goes_on, Ends as Ends_work, IsAtWork, IsAwakeNow, IsDone, IsDoneOrAtWork, IsInStep, IsStill, Last, Next, StaysDone, WorksOn}
 use Rattle.proof_course_plain.proofs.Levels.{works_time}
@@ -55,7 +52,7 @@ none_is : (b : Bool) → (b ≡ true → ⊥) → b ≡ false
 none_is true none = absurd (none refl)
 none_is false none = refl
 
-heard_next : (sessions : Taken) (id session : ℕ) → session ≡ sessions.taken + 1 → sessions.status ≢ WORKING → id ≡ wire_id session → heard_of sessions id ≡ New (sessions.taken + 1)
+pub heard_next : (sessions : Taken) (id session : ℕ) → session ≡ sessions.taken + 1 → sessions.status ≢ WORKING → id ≡ wire_id session → heard_of sessions id ≡ New (sessions.taken + 1)
 heard_next sessions id session next over named =
     ap (λ (b : Bool). if b then New (sessions.taken + 1) else (if is_again sessions id then Again sessions.status else Old))
     (both (id == wire_id (sessions.taken + 1)) (not (sessions.status == WORKING)) (eq-eqb id (wire_id (sessions.taken + 1)) (named ∙ ap wire_id next))
@@ -71,7 +68,7 @@ never_new sessions id none = by (id == wire_id (sessions.taken + 1)) refl
 other_id : (taken : ℕ) → taken % 64 ≡ (taken + 1) % 64 → ⊥
 other_id taken e = omega (arith, e)
 
-heard_last : (sessions : Taken) (id session : ℕ) → session ≡ sessions.taken → 1 ≤ session → id ≡ wire_id session → heard_of sessions id ≡ Again sessions.status
+pub heard_last : (sessions : Taken) (id session : ℕ) → session ≡ sessions.taken → 1 ≤ session → id ≡ wire_id session → heard_of sessions id ≡ Again sessions.status
 heard_last sessions id session last some named =
     let is : id ≡ wire_id sessions.taken = named ∙ ap wire_id last in
     let positive : 1 ≤ sessions.taken = subst (λ (n : ℕ). 1 ≤ n) last some in
@@ -84,21 +81,11 @@ heard_last sessions id session last some named =
 abbrev IsShort : List ℕ → Type 0
 IsShort text = (1 ≤ length text) × (length text ≤ 46)
 
-addressed_length : (channel : Option Ends) (inner : List ℕ) → length inner ≡ 5 → (1 ≤ length (addressed_form channel inner)) × (length (addressed_form channel inner) ≤ 9)
-addressed_length None inner is = (omega (arith, is), omega (arith, is))
-addressed_length (Some ends) inner is = (omega (arith, is), omega (arith, is))
-
-checked_length : (outer : Outer) (inner : List ℕ) → 1 ≤ length inner → length inner ≤ 9 → IsShort (checked_form outer inner)
-checked_length Crc16 inner some few =
-    let all = length-append (86 ∷ 1 ∷ inner) (crc (86 ∷ 1 ∷ inner) / 256 ∷ crc (86 ∷ 1 ∷ inner) % 256 ∷ []) in (omega (arith, some, all), omega (arith, few, all))
-checked_length no_outer inner some few = (some, omega (arith, few))
-checked_length Security inner some few = (some, omega (arith, few))
-checked_length Transport inner some few = (some, omega (arith, few))
+at_most : (k : ℕ) → k ≤ 13 → k ≤ 46
+at_most k few = omega (arith, few)
 
 text_short : (channel : Option Ends) (outer : Outer) (device : State) (asked : Supervised) (status : ℕ) → IsShort (text_by channel outer (status_report device asked status))
-text_short channel outer device asked status =
-    let inner = addressed_length channel (form (status_report device asked status)) (report_length device asked status) in
-    checked_length outer (addressed_form channel (form (status_report device asked status))) inner.0 inner.1
+text_short channel outer device asked status = let long = text_length channel outer device asked status in (long.0, at_most (length (text_by channel outer (status_report device asked status))) long.1)
 
 -- ---- what it answers
 

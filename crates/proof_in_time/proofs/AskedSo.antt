@@ -155,34 +155,35 @@ tick_steady m first events given at = by at.counted at.left
     by counted (Nodes are done) = node_steady m.host.state first are.0
 
 -- an event that submits nothing, and at which the chip takes nothing; that at which something is submitted; and that at which the chip takes what is on its way to it
-pub data Step (here : Phase) (m : Machine) (event : Event) : Type 0 where
-  Goes_on : GoesSteady m.host.state (happens m event).host.state → ((count : ℕ) (rest : Rest) (ways : List (Item × Option Route)) → event ≡ Outside_does (Chip_takes count rest ways) → ⊥) → Step here m event
-  Submits : m.host.state.requests.under_way ≡ None → ((count : ℕ) (rest : Rest) (ways : List (Item × Option Route)) → event ≡ Outside_does (Chip_takes count rest ways) → ⊥) → Step here m event
-  Takes : (passes ticks : ℕ) (rest : Rest) (ways : List (Item × Option Route)) → here ≡ Moving passes ticks → event ≡ Outside_does (Chip_takes (length m.outside.outer.to_chip.bytes) rest ways) → Step here m event
+pub data Step (here next : Phase) (m : Machine) (event : Event) : Type 0 where
+  Goes_on : GoesSteady m.host.state (happens m event).host.state → (IsAsking next → ⊥) → ((count : ℕ) (rest : Rest) (ways : List (Item × Option Route)) → event ≡ Outside_does (Chip_takes count rest ways) → ⊥) → Step here next m event
+  Submits : (passes ticks : ℕ) (asked : HostEvent) → here ≡ Submitting passes ticks → next ≡ Submitting passes ticks → event ≡ Host_does asked → IsNext m.host.state asked → Step here next m event
+  Takes : (passes ticks : ℕ) (rest : Rest) (ways : List (Item × Option Route)) → here ≡ Moving passes ticks → next ≡ Moved true passes ticks → event ≡ Outside_does (Chip_takes (length m.outside.outer.to_chip.bytes) rest ways) → Step here next m event
 
-goes_as : (here : Phase) (m : Machine) (event is : Event) → event ≡ is → GoesSteady m.host.state (happens m is).host.state → ((count : ℕ) (rest : Rest) (ways : List (Item × Option Route)) → is ≡ Outside_does (Chip_takes count rest ways) → ⊥) → Step here m event
-goes_as here m event is same steady none =
-    Goes_on (subst (λ (e : Event). GoesSteady m.host.state (happens m e).host.state) (sym same) steady) (λ count rest ways takes. none count rest ways (sym same ∙ takes))
+goes_as : (here next to : Phase) (m : Machine) (event is : Event) → event ≡ is → next ≡ to → (IsAsking to → ⊥) → GoesSteady m.host.state (happens m is).host.state → ((count : ℕ) (rest : Rest) (ways : List (Item × Option Route)) → is ≡ Outside_does (Chip_takes count rest ways) → ⊥)
+    → Step here next m event
+goes_as here next to m event is same to_is calm steady none =
+    Goes_on (subst (λ (e : Event). GoesSteady m.host.state (happens m e).host.state) (sym same) steady) (λ asking. calm (subst IsAsking to_is asking)) (λ count rest ways takes. none count rest ways (sym same ∙ takes))
 
 effect_takes : (event : Event) → IsEffect event → (count : ℕ) (rest : Rest) (ways : List (Item × Option Route)) → event ≡ Outside_does (Chip_takes count rest ways) → ⊥
 effect_takes event is count rest ways takes = absurd (subst IsEffect takes is)
 
-step_of : (airs : Airs) (here next : Phase) (m : Machine) (event : Event) → Goes here m event next → May m event → LineAt here m → TieAt here m → length m.host.state.nodes ≡ 233 → Step here m event
-step_of airs (Said_line line) next m event (is, to) may at tie places = goes_as _ m event _ is (outer_steady m Begins_line places) (λ count rest ways takes. cc)
-step_of airs (Doing line (first ∷ left)) next m event (is, to) may at tie places = goes_as _ m event first is (effect_steady m first at.0.0 places) (effect_takes first at.0.0)
-step_of airs (To_tick (suc ticks)) next m event (is, to) may at tie places = goes_as _ m event _ is (outer_steady m Begins_tick places) (λ count rest ways takes. cc)
-step_of airs (Arriving (suc frames) ticks) next m event (drawn, route, is, to) may at tie places = goes_as _ m event _ is (outer_steady m (Arrives drawn route) places) (λ count rest ways takes. cc)
-step_of airs (Giving (suc results) ticks) next m event (route, is, to) may at tie places = goes_as _ m event _ is (outer_steady m (Gives route) places) (λ count rest ways takes. cc)
-step_of airs (Ticking_devices place (suc count) ticks) next m event (drawn, route, is, to) may at tie places = goes_as _ m event _ is (outer_steady m (Device_ticks place drawn route) places) (λ many rest ways takes. cc)
-step_of airs (Ticking_chip ticks) next m event (is, to) may at tie places = goes_as _ m event _ is (outer_steady m Chip_ticks places) (λ count rest ways takes. cc)
-step_of airs (Ticking_decoder ticks) next m event (is, to) may at tie places = goes_as _ m event _ is (decoder_steady m places) (λ count rest ways takes. cc)
-step_of airs (Ticking_host (first ∷ events) ticks) next m event (is, to) may at tie places = goes_as _ m event _ is (does_steady m first (tick_steady m first events at.1 tie) places) (λ count rest ways takes. cc)
+pub step_of : (airs : Airs) (here next : Phase) (m : Machine) (event : Event) → Goes here m event next → May m event → LineAt here m → TieAt here m → length m.host.state.nodes ≡ 233 → Step here next m event
+step_of airs (Said_line line) next m event (is, to) may at tie places = goes_as _ next _ m event _ is to (λ asking. asking) (outer_steady m Begins_line places) (λ count rest ways takes. cc)
+step_of airs (Doing line (first ∷ left)) next m event (is, to) may at tie places = goes_as _ next _ m event first is to (λ asking. asking) (effect_steady m first at.0.0 places) (effect_takes first at.0.0)
+step_of airs (To_tick (suc ticks)) next m event (is, to) may at tie places = goes_as _ next _ m event _ is to (λ asking. asking) (outer_steady m Begins_tick places) (λ count rest ways takes. cc)
+step_of airs (Arriving (suc frames) ticks) next m event (drawn, route, is, to) may at tie places = goes_as _ next _ m event _ is to (λ asking. asking) (outer_steady m (Arrives drawn route) places) (λ count rest ways takes. cc)
+step_of airs (Giving (suc results) ticks) next m event (route, is, to) may at tie places = goes_as _ next _ m event _ is to (λ asking. asking) (outer_steady m (Gives route) places) (λ count rest ways takes. cc)
+step_of airs (Ticking_devices place (suc count) ticks) next m event (drawn, route, is, to) may at tie places = goes_as _ next _ m event _ is to (λ asking. asking) (outer_steady m (Device_ticks place drawn route) places) (λ many rest ways takes. cc)
+step_of airs (Ticking_chip ticks) next m event (is, to) may at tie places = goes_as _ next _ m event _ is to (λ asking. asking) (outer_steady m Chip_ticks places) (λ count rest ways takes. cc)
+step_of airs (Ticking_decoder ticks) next m event (is, to) may at tie places = goes_as _ next _ m event _ is to (λ asking. asking) (decoder_steady m places) (λ count rest ways takes. cc)
+step_of airs (Ticking_host (first ∷ events) ticks) next m event (is, to) may at tie places = goes_as _ next _ m event _ is to (λ asking. asking) (does_steady m first (tick_steady m first events at.1 tie) places) (λ count rest ways takes. cc)
 step_of airs (Sleeping passes ticks) next m event (node, wants, is, to) may at tie places =
-    goes_as _ m event _ is (does_steady m (no_more_event m.host.state node) (no_more_is (IsSteady m.host.state) (record { queues = λ n. tt; drops = λ n. tt }) m.host.state node) places) (λ count rest ways takes. cc)
-step_of airs (Submitting passes ticks) next m event (asked, next_is, is, to) may at tie places = Submits next_is.0.none_under_way (λ count rest ways takes. let no : Host_does asked ≡ Outside_does (Chip_takes count rest ways) = sym is ∙ takes in cc)
-step_of airs (Moving passes ticks) next m event (rest, ways, is, to) may at tie places = Takes passes ticks rest ways refl is
+    goes_as _ next _ m event _ is to (λ asking. asking) (does_steady m (no_more_event m.host.state node) (no_more_is (IsSteady m.host.state) (record { queues = λ n. tt; drops = λ n. tt }) m.host.state node) places) (λ count rest ways takes. cc)
+step_of airs (Submitting passes ticks) next m event (asked, next_is, is, to) may at tie places = Submits passes ticks asked refl to is next_is
+step_of airs (Moving passes ticks) next m event (rest, ways, is, to) may at tie places = Takes passes ticks rest ways refl to is
 step_of airs (Moved b passes ticks) next m event (rest, items, done, is, to) may at tie places =
-    goes_as _ m event _ is (judged_steady airs b passes m rest items done (subst (May m) is may) at tie places) (λ count more ways takes. cc)
+    goes_as _ next _ m event _ is to (λ asking. asking) (judged_steady airs b passes m rest items done (subst (May m) is may) at tie places) (λ count more ways takes. cc)
 step_of airs here next m event goes may at tie places = absurd goes
 
 -- ---- something is submitted
@@ -217,7 +218,7 @@ starts_next : (m : Machine) (n : ℕ) (plan : Plan) (more : Bool) (payload : Lis
 unfolding May
 starts_next m n plan more payload may = may.0.0.next
 
-starts_begun : (m : Machine) (n : ℕ) (plan : Plan) (more : Bool) (payload : List ℕ) → May m (Host_does (Starts n plan more payload)) → 1 ≤ begun_of (node_of m.host.state n).book
+pub starts_begun : (m : Machine) (n : ℕ) (plan : Plan) (more : Bool) (payload : List ℕ) → May m (Host_does (Starts n plan more payload)) → 1 ≤ begun_of (node_of m.host.state n).book
 unfolding May
 starts_begun m n plan more payload may = let some = (open_is (node_of m.host.state n).book may.0.1.session may.0.1.opened).1 in omega (arith, some)
 
@@ -375,7 +376,7 @@ module _ (airs : Airs) (these : List Bool) (many : length these ≡ 233) where
   turn_free (Paused f copies ticks) = inr (λ no. cc)
 
   -- all frames of the host, where the chip takes nothing
-  outs_still : (P : Flown → Type 0) (here next : Phase) (m : Machine) (event : Event) → Goes here m event next → May m event → LineAt here m → AwaitsAt here m
+  pub outs_still : (P : Flown → Type 0) (here next : Phase) (m : Machine) (event : Event) → Goes here m event next → May m event → LineAt here m → AwaitsAt here m
       → ((count : ℕ) (rest : Rest) (ways : List (Item × Option Route)) → event ≡ Outside_does (Chip_takes count rest ways) → ⊥) → AllByRecursion (IsOut P) (on_air m.outside.outer.air.frames)
       → AllByRecursion (IsOut P) (on_air (happens m event).outside.outer.air.frames)
   outs_still P here next m event goes may line_at awaits none all =
@@ -416,17 +417,18 @@ module _ (airs : Airs) (these : List Bool) (many : length these ≡ 233) where
           (subst (λ (e : Event). (happens m e).outside.outer.chip.state.aborted ≡ 0) is (none_aborted next (happens m event) line_next)) next
           (subst (λ (q : Phase). Goes q m (Outside_does (Chip_takes (length m.outside.outer.to_chip.bytes) rest ways)) next) at (subst (λ (e : Event). Goes here m e next) is goes)))
 
-      by : Step here m event → AreNow these many (happens m event).host.state (happens m event).outside.outer
-      by (Goes_on steady none) =
+      by : Step here next m event → AreNow these many (happens m event).host.state (happens m event).outside.outer
+      by (Goes_on steady calm none) =
           steady_flies these many h next (happens m event) steady line_next awaits_next tie_next (outs_still (λ (frame : Flown). IsAskedNow these h frame) here next m event goes may line_at awaits none so.flies)
-      by (Submits free none) =
+      by (Submits passes ticks asked at to is next_is) =
           all-weaker (IsOut (λ (frame : Flown). ⊥)) (IsOut (λ (frame : Flown). IsAskedNow these (happens m event).host.state frame)) (λ frame never out. absurd (never out)) (on_air (happens m event).outside.outer.air.frames)
-          (outs_still (λ (frame : Flown). ⊥) here next m event goes may line_at awaits none
-          (all-weaker (IsOut (λ (frame : Flown). IsAskedNow these h frame)) (IsOut (λ (frame : Flown). ⊥)) (λ frame asked out. never_asked frame free (asked out)) (on_air m.outside.outer.air.frames) so.flies))
+          (outs_still (λ (frame : Flown). ⊥) here next m event goes may line_at awaits
+          (λ count rest ways takes. let no : Host_does asked ≡ Outside_does (Chip_takes count rest ways) = sym is ∙ takes in cc)
+          (all-weaker (IsOut (λ (frame : Flown). IsAskedNow these h frame)) (IsOut (λ (frame : Flown). ⊥)) (λ frame was out. never_asked frame next_is.0.none_under_way (was out)) (on_air m.outside.outer.air.frames) so.flies))
         where
           never_asked : (frame : Flown) → h.requests.under_way ≡ None → IsAskedNow these h frame → ⊥
           never_asked frame none_is asked = absurd (let no : None ≡ Some asked.request = sym none_is ∙ asked.under_way in cc)
-      by (Takes passes ticks rest ways at is) =
+      by (Takes passes ticks rest ways at to is) =
           subst (λ (e : Event). AreNow these many (happens m e).host.state (happens m e).outside.outer) (sym is) (taken_as passes ticks rest ways at is)
 
   -- a request begins in a settling alone

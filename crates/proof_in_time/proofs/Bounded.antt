@@ -61,7 +61,7 @@ use Rattle.proof_answered.proofs.Unheard.{counts_says, decoder_says, device_says
 use Rattle.proof_answered.specs.Heard.{IsHeardThen}
 use Rattle.proof_answered.proofs.Speaking.{fate_listens, hears_at}
 use Rattle.proof_in_time.specs.Answering.{AnswersSession, Ends as Work_ends, Goes_on as Work_goes_on, IsAtWork, IsDoneOrAtWork, IsInStep, WorksOn}
-use Rattle.proof_in_time.specs.Coming.{AsksFor, Asked, At_work, Coming, Flies, Has, IsAsking, IsBusy, IsMessage, IsReport, IsRequest, Sent, Stands, TellsEnd, Told, WaitsFor, has_ticked, one_later, own_ticks, ticks_left, ticks_of, is_layered}
+use Rattle.proof_in_time.specs.Coming.{AsksFor, Asked, At_work, Coming, Flies, Has, IsAsking, IsBusy, IsMessage, IsReport, IsRequest, Sent, Stands, TellsEnd, Told, WaitsFor, has_ticked, one_later, own_ticks, ticks_left, ticks_of, is_listed}
 use Rattle.proof_in_time.specs.InStep.{HasInStep, HearsInStep}
 use Rattle.proof_in_time.proofs.Busy.{BusyThere, HearsStill, StayBusy, arrived_devices, arrives_busy, later_ticked, one_most, same_busy, ticked_devices, then_busy, ticks_apart, unless_ticking, wakes_busy}
 use Rattle.proof_in_time.proofs.Carried.{Fits, IsNearEnd, arrives_comes, busy_on, carry, many_on_air, ticks_once}
@@ -90,8 +90,8 @@ far : (wait left own : ℕ) → (wait ≡ 0) ⊎ (70 + left + own ≤ wait) → 
 far wait left own (inl none) one = omega (arith, none, one)
 far wait left own (inr more) one = omega (arith, more, one)
 
-pub lasts_of : (n most : ℕ) (here : Phase) (m : Machine) → NodeFacts (node_of m.host.state n) → WaitsFor n most here m → (node_of m.host.state n).attempt_wait ≢ 1
-lasts_of n most here m facts waits = by (runs_or_not (node_of m.host.state n).series)
+pub lasts_of : (whole : Bool) (n most : ℕ) (here : Phase) (m : Machine) → NodeFacts (node_of m.host.state n) → WaitsFor whole n most here m → (node_of m.host.state n).attempt_wait ≢ 1
+lasts_of whole n most here m facts waits = by (runs_or_not (node_of m.host.state n).series)
   where
     by : ((node_of m.host.state n).series ≡ series.Running) ⊎ ((node_of m.host.state n).series ≢ series.Running) → (node_of m.host.state n).attempt_wait ≢ 1
     by (inl run) = let b = waits.bounded run in far (node_of m.host.state n).attempt_wait b.left (own_ticks n here) b.waits
@@ -120,7 +120,7 @@ is_open n facts run = of (subst (λ (s : Series). SeriesFacts s n.book n.attempt
 pub open_where : (n : NodeState) → NodeFacts n → n.series ≡ series.Running → open_session n.book ≡ Some (begun_of n.book)
 open_where n facts run = open_by n.book.commands n.book.outcome n.book.attempts (is_open n facts run)
 
-begun_where : (n : NodeState) → NodeFacts n → n.series ≡ series.Running → 1 ≤ begun_of n.book
+pub begun_where : (n : NodeState) → NodeFacts n → n.series ≡ series.Running → 1 ≤ begun_of n.book
 begun_where n facts run = some_by n.book.commands n.book.outcome n.book.attempts (is_open n facts run)
 
 -- ---- where the host is as it was
@@ -147,14 +147,14 @@ as_far wait left old new less (inr more) = inr (omega (arith, less, more))
 no_fewer : (more least : ℕ) → least ≤ more + least
 no_fewer more least = omega arith
 
-fewer : (new old : ℕ) → new ≤ old → old ≤ 1 → new ≤ 1
+pub fewer : (new old : ℕ) → new ≤ old → old ≤ 1 → new ≤ 1
 fewer new old less once = omega (arith, less, once)
 
-module _ (n most : ℕ) (here next : Phase) (less : NoMore n here next) where
+module _ (whole : Bool) (n most : ℕ) (here next : Phase) (less : NoMore n here next) where
   -- with the host as it was
-  same_host : (m later : Machine) → later.host.state ≡ m.host.state → ((node_of m.host.state n).series ≡ series.Running → Goes_on n here m next later) → WaitsFor n most here m → WaitsFor n most next later
+  same_host : (m later : Machine) → later.host.state ≡ m.host.state → ((node_of m.host.state n).series ≡ series.Running → Goes_on n here m next later) → WaitsFor whole n most here m → WaitsFor whole n most next later
   same_host m later same goes w = record {
-    openly = ap (λ (h : HostState). is_layered (node_of h n).classes) same ∙ w.openly;
+    openly = ap (λ (h : HostState). is_listed whole (node_of h n).classes) same ∙ w.openly;
     once = fewer (own_ticks n next) (own_ticks n here) less w.once;
     bounded = λ run.
         let was = sym (ap (λ (h : HostState). (node_of h n).series) same) ∙ run in
@@ -169,27 +169,27 @@ module _ (n most : ℕ) (here next : Phase) (less : NoMore n here next) where
         };
   }
 
-  running_waits : (m : Machine) (event : OuterEvent) → ((node_of m.host.state n).series ≡ series.Running → Goes_on n here m next (happens m (Outside_does event))) → WaitsFor n most here m → WaitsFor n most next (happens m (Outside_does event))
+  running_waits : (m : Machine) (event : OuterEvent) → ((node_of m.host.state n).series ≡ series.Running → Goes_on n here m next (happens m (Outside_does event))) → WaitsFor whole n most here m → WaitsFor whole n most next (happens m (Outside_does event))
   unfolding happens
   running_waits m event goes w = same_host m (happens m (Outside_does event)) refl goes w
 
-  pub outer_waits : (m : Machine) (event : OuterEvent) → Goes_on n here m next (happens m (Outside_does event)) → WaitsFor n most here m → WaitsFor n most next (happens m (Outside_does event))
+  pub outer_waits : (m : Machine) (event : OuterEvent) → Goes_on n here m next (happens m (Outside_does event)) → WaitsFor whole n most here m → WaitsFor whole n most next (happens m (Outside_does event))
   outer_waits m event goes w = running_waits m event (λ run. goes) w
 
-  pub decoder_waits : (m : Machine) → Goes_on n here m next (happens m Decoder_ticks) → WaitsFor n most here m → WaitsFor n most next (happens m Decoder_ticks)
+  pub decoder_waits : (m : Machine) → Goes_on n here m next (happens m Decoder_ticks) → WaitsFor whole n most here m → WaitsFor whole n most next (happens m Decoder_ticks)
   unfolding happens
   decoder_waits m goes w = same_host m (happens m Decoder_ticks) refl (λ run. goes) w
 
-  pub refuses_waits : (m : Machine) (event : Event) → (happens m event).host.state ≡ m.host.state → Goes_on n here m next (happens m event) → WaitsFor n most here m → WaitsFor n most next (happens m event)
+  pub refuses_waits : (m : Machine) (event : Event) → (happens m event).host.state ≡ m.host.state → Goes_on n here m next (happens m event) → WaitsFor whole n most here m → WaitsFor whole n most next (happens m event)
   refuses_waits m event same goes w = same_host m (happens m event) same (λ run. goes) w
 
   -- the same machine at another phase
-  pub turn_waits : (m : Machine) → Goes_on n here m next m → WaitsFor n most here m → WaitsFor n most next m
+  pub turn_waits : (m : Machine) → Goes_on n here m next m → WaitsFor whole n most here m → WaitsFor whole n most next m
   turn_waits m goes w = same_host m m refl (λ run. goes) w
 
 -- within more ticks
-pub later_waits : (n most more : ℕ) (here : Phase) (m : Machine) → most ≤ more → WaitsFor n most here m → WaitsFor n more here m
-later_waits n most more here m less w = record {
+pub later_waits : (whole : Bool) (n most more : ℕ) (here : Phase) (m : Machine) → most ≤ more → WaitsFor whole n most here m → WaitsFor whole n more here m
+later_waits whole n most more here m less w = record {
   openly = w.openly;
   once = w.once;
   bounded = λ run. let b = w.bounded run in let within = b.within in record { left = b.left; few = b.few; within = omega (arith, within, less); comes = b.comes; waits = b.waits };
@@ -202,14 +202,14 @@ again_far wait old left was now few less once (inl same) (inl none) = inl (same 
 again_far wait old left was now few less once (inl same) (inr more) = inr (omega (arith, same, more, less))
 again_far wait old left was now few less once (inr anew) so = inr (omega (arith, anew, few, less, once))
 
-module _ (n most : ℕ) (within : n < 233) where
-  pub does_waits : (here next : Phase) (m : Machine) (event : HostEvent) → NoMore n here next → IsBeside n m.host.state event → length m.host.state.nodes ≡ 233 → Goes_on n here m next (happens m (Host_does event)) → WaitsFor n most here m
-      → WaitsFor n most next (happens m (Host_does event))
+module _ (whole : Bool) (n most : ℕ) (within : n < 233) where
+  pub does_waits : (here next : Phase) (m : Machine) (event : HostEvent) → NoMore n here next → IsBeside n m.host.state event → length m.host.state.nodes ≡ 233 → Goes_on n here m next (happens m (Host_does event)) → WaitsFor whole n most here m
+      → WaitsFor whole n most next (happens m (Host_does event))
   unfolding happens
   does_waits here next m event less beside places goes w =
       let table : OnTable n (node_of m.host.state n) (after m.host.state event).nodes = beside_table n within m.host.state event places beside in
       record {
-        openly = ap is_layered table.from.same ∙ w.openly;
+        openly = ap (is_listed whole) table.from.same ∙ w.openly;
         once = fewer (own_ticks n next) (own_ticks n here) less w.once;
         bounded = λ run.
             let k = table.from.keeps run in
@@ -235,14 +235,14 @@ module _ (n most : ℕ) (within : n < 233) where
   Own_at events ticks = Ticking_host (Node_ticks n ∷ events) ticks
 
   tick_waits : (events : List HostEvent) (ticks : ℕ) (m : Machine) → length m.host.state.nodes ≡ 233 → (node_of m.host.state n).attempt_wait ≢ 1
-      → Goes_on n (Own_at events ticks) m (Ticking_host events ticks) (happens m (Host_does (Node_ticks n))) → WaitsFor n most (Own_at events ticks) m → WaitsFor n most (Ticking_host events ticks) (happens m (Host_does (Node_ticks n)))
+      → Goes_on n (Own_at events ticks) m (Ticking_host events ticks) (happens m (Host_does (Node_ticks n))) → WaitsFor whole n most (Own_at events ticks) m → WaitsFor whole n most (Ticking_host events ticks) (happens m (Host_does (Node_ticks n)))
   unfolding happens
   tick_waits events ticks m places lasts goes w =
       let t : TickOf (node_of m.host.state n) (node_of (after m.host.state (Node_ticks n)) n) = own_tick n within m.host.state places lasts in
       let once = w.once in
       let one = own_count events in
       record {
-        openly = ap is_layered t.same ∙ w.openly;
+        openly = ap (is_listed whole) t.same ∙ w.openly;
         once = omega (arith, once, one);
         bounded = λ run.
             let b = w.bounded (t.running run) in
@@ -257,21 +257,21 @@ module _ (n most : ℕ) (within : n < 233) where
       }
 
   -- an attempt of its own starts
-  start_kept : (state : NodeState) (plan : Plan)
+  pub start_kept : (state : NodeState) (plan : Plan)
       → ((after_start state plan).book ≡ state.book) × ((after_start state plan).classes ≡ state.classes) × ((after_start state plan).attempt_wait ≡ state.attempt_wait)
   start_kept state Whole = (refl, refl, refl)
   start_kept state (Segments count) = (refl, refl, refl)
   start_kept state (Sealed plain) = (refl, refl, refl)
 
   pub start_waits : (here next : Phase) (m : Machine) (plan : Plan) (more : Bool) (payload : List ℕ) → length m.host.state.nodes ≡ 233 → (node_of m.host.state n).attempt_wait ≡ 0 → IsMessage (begun_of (node_of m.host.state n).book) payload → IsAsking next
-      → own_ticks n next ≤ 1 → WaitsFor n most here m → WaitsFor n 6 next (happens m (Host_does (Starts n plan more payload)))
+      → own_ticks n next ≤ 1 → WaitsFor whole n most here m → WaitsFor whole n 6 next (happens m (Host_does (Starts n plan more payload)))
   unfolding happens
   start_waits here next m plan more payload places none message asking once w =
       let h : HostState = m.host.state in
       let there : node_of (after h (Starts n plan more payload)) n ≡ after_start (node_of h n) plan = own_start n within h plan more payload places in
       let begun : begun_of (node_of (after h (Starts n plan more payload)) n).book ≡ begun_of (node_of h n).book = ap (λ (s : NodeState). begun_of s.book) there ∙ ap begun_of (start_kept (node_of h n) plan).0 in
       record {
-        openly = ap (λ (s : NodeState). is_layered s.classes) there ∙ (ap is_layered (start_kept (node_of h n) plan).1 ∙ w.openly);
+        openly = ap (λ (s : NodeState). is_listed whole s.classes) there ∙ (ap (is_listed whole) (start_kept (node_of h n) plan).1 ∙ w.openly);
         once = once;
         bounded = λ run. record {
           left = 6;
@@ -338,7 +338,7 @@ pub record Devices : Type 0 where
   pub works : (device : State) (drawn : List ℕ) → CanSay device → IsAtWork device → WorksOn device (device_after device (Ticks drawn)) (device_replies device (Ticks drawn))
 
 -- what a device tells of a session that is over tells its end
-tells_end : (session : ℕ) (new : State) (payload : List ℕ) → new.sessions.taken ≡ session → new.sessions.status ≢ WORKING → TellsOwn new payload → 1 ≤ length payload → length payload ≤ 46 → TellsEnd session payload
+pub tells_end : (session : ℕ) (new : State) (payload : List ℕ) → new.sessions.taken ≡ session → new.sessions.status ≢ WORKING → TellsOwn new payload → 1 ≤ length payload → length payload ≤ 46 → TellsEnd session payload
 tells_end session new payload taken over tells some few = record {
   status = new.sessions.status;
   over = over;
@@ -467,7 +467,7 @@ module _ (airs : Airs) (laws : Devices) (n : ℕ) (within : n < 233) (session le
       by true own = own_ticks_on at (eqb-true at.place place own) (only_left (unless_ticking (nat_le place at.place && nat_lt at.place (place + suc count))) at.device.work_left left few)
       by false other = others at (λ same. let wrong : true ≡ false = sym (eq-eqb at.place place same) ∙ other in absurd cc) few
 
-module _ (airs : Airs) (these : List Bool) (many : length these ≡ 233) (laws : Devices) (n most : ℕ) (marked : is_marked these n ≡ true) (node : IsNode n) where
+module _ (airs : Airs) (these : List Bool) (many : length these ≡ 233) (laws : Devices) (whole : Bool) (n most : ℕ) (marked : is_marked these n ≡ true) (node : IsNode n) where
   within : n < 233
   within = let few = node.1 in omega (arith, few)
 
@@ -490,10 +490,10 @@ module _ (airs : Airs) (these : List Bool) (many : length these ≡ 233) (laws :
 
   -- ---- outside the host
 
-  pub line_waits : (line : Line) (m : Machine) → WaitsFor n most (Said_line line) m → WaitsFor n most (Begun line) (happens m (Outside_does Begins_line))
+  pub line_waits : (line : Line) (m : Machine) → WaitsFor whole n most (Said_line line) m → WaitsFor whole n most (Begun line) (happens m (Outside_does Begins_line))
   unfolding happens outcome
   line_waits line m w =
-      outer_waits n most (Said_line line) (Begun line) (omega arith) m Begins_line
+      outer_waits whole n most (Said_line line) (Begun line) (omega arith) m Begins_line
       (same_stay (Said_line line) (Begun line) m (happens m (Outside_does Begins_line)) (λ a. a) (same_adds m.outside.outer (happens m (Outside_does Begins_line)).outside.outer refl) (λ x has. line_says AnyFrame (Has x) (has_piled x) m has)
       (same_fits (Said_line line) (Begun line) (λ place. omega arith) (omega arith) (many_on_air m)) (line_devices m) (λ place. omega arith)) w
 
@@ -509,7 +509,7 @@ module _ (airs : Airs) (these : List Bool) (many : length these ≡ 233) (laws :
   begun_far wait left some (inl none) = inl none
   begun_far wait left some (inr more) = inr (omega (arith, some, more))
 
-  pub begins_waits : (ticks : ℕ) (m : Machine) → WaitsFor n most (To_tick (suc ticks)) m → WaitsFor n (most - 1) (Ticked ticks) (happens m (Outside_does Begins_tick))
+  pub begins_waits : (ticks : ℕ) (m : Machine) → WaitsFor whole n most (To_tick (suc ticks)) m → WaitsFor whole n (most - 1) (Ticked ticks) (happens m (Outside_does Begins_tick))
   unfolding happens outcome
   begins_waits ticks m w = record {
     openly = w.openly;
@@ -532,28 +532,28 @@ module _ (airs : Airs) (these : List Bool) (many : length these ≡ 233) (laws :
         };
   }
 
-  pub ticks_wait : (place count ticks : ℕ) (m : Machine) (drawn : List ℕ) (route : Option Route) → HasInStep n m → is_joined m.outside.outer.air n ≡ true → Awaits m → WaitsFor n most (Ticking_devices place (suc count) ticks) m
-      → WaitsFor n most (Ticking_devices (place + 1) count ticks) (happens m (Outside_does (Device_ticks place drawn route)))
+  pub ticks_wait : (place count ticks : ℕ) (m : Machine) (drawn : List ℕ) (route : Option Route) → HasInStep n m → is_joined m.outside.outer.air n ≡ true → Awaits m → WaitsFor whole n most (Ticking_devices place (suc count) ticks) m
+      → WaitsFor whole n most (Ticking_devices (place + 1) count ticks) (happens m (Outside_does (Device_ticks place drawn route)))
   ticks_wait place count ticks m drawn route step joined is w =
-      outer_waits n most (Ticking_devices place (suc count) ticks) (Ticking_devices (place + 1) count ticks) (omega arith) m (Device_ticks place drawn route)
+      outer_waits whole n most (Ticking_devices place (suc count) ticks) (Ticking_devices (place + 1) count ticks) (omega arith) m (Device_ticks place drawn route)
       (λ left comes.
       carry n (session_of n m) left left (Ticking_devices place (suc count) ticks) (Ticking_devices (place + 1) count ticks) m (happens m (Outside_does (Device_ticks place drawn route))) (λ asking asks six. absurd asking)
       (ticks_near airs laws n within (session_of n m) left place count ticks m drawn route step joined is) (device_adds airs m is place drawn route) (λ x has. device_says AnyFrame (Has x) (has_piled x) m place drawn route has)
       (same_fits (Ticking_devices place (suc count) ticks) (Ticking_devices (place + 1) count ticks) (λ at. omega arith) (omega arith) (many_on_air m) left) comes) w
 
-  pub chip_waits : (ticks : ℕ) (m : Machine) → IsGiven 0 m → IsGiven 1 (happens m (Outside_does Chip_ticks)) → WaitsFor n most (Ticking_chip ticks) m → WaitsFor n most (Ticking_decoder ticks) (happens m (Outside_does Chip_ticks))
+  pub chip_waits : (ticks : ℕ) (m : Machine) → IsGiven 0 m → IsGiven 1 (happens m (Outside_does Chip_ticks)) → WaitsFor whole n most (Ticking_chip ticks) m → WaitsFor whole n most (Ticking_decoder ticks) (happens m (Outside_does Chip_ticks))
   chip_waits ticks m given later w =
-      outer_waits n most (Ticking_chip ticks) (Ticking_decoder ticks) (omega arith) m Chip_ticks
+      outer_waits whole n most (Ticking_chip ticks) (Ticking_decoder ticks) (omega arith) m Chip_ticks
       (same_stay (Ticking_chip ticks) (Ticking_decoder ticks) m (happens m (Outside_does Chip_ticks)) (λ a. a) (chip_adds m) (λ x has. counts_says AnyFrame (Has x) (has_piled x) m given later has)
       (same_fits (Ticking_chip ticks) (Ticking_decoder ticks) (λ place. omega arith) (omega arith) (many_on_air m)) (counted_devices m) (λ place. omega arith)) w
     where
       chip_adds : (k : Machine) → Adds k.outside.outer (happens k (Outside_does Chip_ticks)).outside.outer
       chip_adds k = same_adds k.outside.outer (happens k (Outside_does Chip_ticks)).outside.outer (counted_air k)
 
-  pub unfinished_waits : (ticks : ℕ) (m : Machine) → WaitsFor n most (Ticking_decoder ticks) m → WaitsFor n most (Ticking_host (tick_events m.host.state) ticks) (happens m Decoder_ticks)
+  pub unfinished_waits : (ticks : ℕ) (m : Machine) → WaitsFor whole n most (Ticking_decoder ticks) m → WaitsFor whole n most (Ticking_host (tick_events m.host.state) ticks) (happens m Decoder_ticks)
   unfinished_waits ticks m w =
       let once = ticks_once n m.host.state in
-      decoder_waits n most (Ticking_decoder ticks) (Ticking_host (tick_events m.host.state) ticks) once m
+      decoder_waits whole n most (Ticking_decoder ticks) (Ticking_host (tick_events m.host.state) ticks) once m
       (same_stay (Ticking_decoder ticks) (Ticking_host (tick_events m.host.state) ticks) m (happens m Decoder_ticks) (λ a. a) (decoder_adds m) (λ x has. decoder_says AnyFrame (Has x) (has_piled x) m has)
       (same_fits (Ticking_decoder ticks) (Ticking_host (tick_events m.host.state) ticks) (λ place. omega arith) (omega arith) (many_on_air m)) (decoder_devices m) (λ place. omega arith)) w
 
@@ -561,10 +561,10 @@ module _ (airs : Airs) (these : List Bool) (many : length these ≡ 233) (laws :
   for_five session place left devices few (busy, (place_is, left_is)) = (busy, subst (λ (k : ℕ). k ≤ 5) (sym left_is) few)
 
   pub arrives_wait : (frames ticks : ℕ) (m : Machine) (drawn : List ℕ) (route : Option Route) → May m (Outside_does (Arrives drawn route)) → HasInStep n m → is_joined m.outside.outer.air n ≡ true → NodeFacts (node_of m.host.state n) → Awaits m
-      → IsHeardThen m (Outside_does (Arrives drawn route)) → HasLive these m.outside.outer → IsGiven 0 m → IsGiven 0 (happens m (Outside_does (Arrives drawn route))) → length m.outside.outer.chip.state.port.waiting ≤ 31 → WaitsFor n most (Arriving (suc frames) ticks) m
-      → WaitsFor n most (Arriving frames ticks) (happens m (Outside_does (Arrives drawn route)))
+      → IsHeardThen m (Outside_does (Arrives drawn route)) → HasLive these m.outside.outer → IsGiven 0 m → IsGiven 0 (happens m (Outside_does (Arrives drawn route))) → length m.outside.outer.chip.state.port.waiting ≤ 31 → WaitsFor whole n most (Arriving (suc frames) ticks) m
+      → WaitsFor whole n most (Arriving frames ticks) (happens m (Outside_does (Arrives drawn route)))
   arrives_wait frames ticks m drawn route may step joined facts is hears live given later room w =
-      running_waits n most (Arriving (suc frames) ticks) (Arriving frames ticks) (omega arith) m (Arrives drawn route) goes w
+      running_waits whole n most (Arriving (suc frames) ticks) (Arriving frames ticks) (omega arith) m (Arrives drawn route) goes w
     where
       at : Arrived airs m is drawn route
       at = arrives_there airs m is drawn route may
@@ -613,32 +613,32 @@ module _ (airs : Airs) (these : List Bool) (many : length these ≡ 233) (laws :
   effect_fits : (line : Line) (first : Event) (left : List Event) (count k : ℕ) → Fits n count (Doing line (first ∷ left)) k (Doing line left) k
   effect_fits line first left count k = still_fits n count k (Doing line (first ∷ left)) (Doing line left) (λ place. omega arith) (omega arith)
 
-  pub effect_waits : (line : Line) (left : List Event) (m : Machine) (event : Event) → IsEffect event → Awaits m → length m.host.state.nodes ≡ 233 → WaitsFor n most (Doing line (event ∷ left)) m → WaitsFor n most (Doing line left) (happens m event)
+  pub effect_waits : (line : Line) (left : List Event) (m : Machine) (event : Event) → IsEffect event → Awaits m → length m.host.state.nodes ≡ 233 → WaitsFor whole n most (Doing line (event ∷ left)) m → WaitsFor whole n most (Doing line left) (happens m event)
   unfolding happens outcome
   effect_waits line left m (Outside_does (Wakes_device node route)) is awaits places w =
-      outer_waits n most (Doing line (Outside_does (Wakes_device node route) ∷ left)) (Doing line left) (omega arith) m (Wakes_device node route)
+      outer_waits whole n most (Doing line (Outside_does (Wakes_device node route) ∷ left)) (Doing line left) (omega arith) m (Wakes_device node route)
       (stay (Doing line (Outside_does (Wakes_device node route) ∷ left)) (Doing line left) m (happens m (Outside_does (Wakes_device node route))) (λ a. a) (wakes_add airs m awaits node route)
       (λ x has. effect_says AnyFrame (Has x) (has_piled x) airs m (Outside_does (Wakes_device node route)) tt has) (effect_fits line (Outside_does (Wakes_device node route)) left (many_on_air m))
       (wakes_busy n (session_of n m) m node route) (λ place. omega arith)) w
   effect_waits line left m (Outside_does (Shows node)) is awaits places w =
-      outer_waits n most (Doing line (Outside_does (Shows node) ∷ left)) (Doing line left) (omega arith) m (Shows node)
+      outer_waits whole n most (Doing line (Outside_does (Shows node) ∷ left)) (Doing line left) (omega arith) m (Shows node)
       (same_stay (Doing line (Outside_does (Shows node) ∷ left)) (Doing line left) m (happens m (Outside_does (Shows node))) (λ a. a) (shows_adds m node)
       (λ x has. effect_says AnyFrame (Has x) (has_piled x) airs m (Outside_does (Shows node)) tt has) (effect_fits line (Outside_does (Shows node)) left (many_on_air m)) (shows_devices m node) (λ place. omega arith)) w
   effect_waits line left m (Outside_does (Cuts size)) is awaits places w =
-      outer_waits n most (Doing line (Outside_does (Cuts size) ∷ left)) (Doing line left) (omega arith) m (Cuts size)
+      outer_waits whole n most (Doing line (Outside_does (Cuts size) ∷ left)) (Doing line left) (omega arith) m (Cuts size)
       (same_stay (Doing line (Outside_does (Cuts size) ∷ left)) (Doing line left) m (happens m (Outside_does (Cuts size))) (λ a. a) (same_adds m.outside.outer (happens m (Outside_does (Cuts size))).outside.outer refl)
       (λ x has. effect_says AnyFrame (Has x) (has_piled x) airs m (Outside_does (Cuts size)) tt has) (effect_fits line (Outside_does (Cuts size)) left (many_on_air m)) (cuts_devices m size) (λ place. omega arith)) w
   effect_waits line left m (Host_does (Accepts order carriage)) is awaits places w =
-      does_waits n most within (Doing line (Host_does (Accepts order carriage) ∷ left)) (Doing line left) m (Accepts order carriage) (omega arith) tt places
+      does_waits whole n most within (Doing line (Host_does (Accepts order carriage) ∷ left)) (Doing line left) m (Accepts order carriage) (omega arith) tt places
       (same_stay (Doing line (Host_does (Accepts order carriage) ∷ left)) (Doing line left) m (happens m (Host_does (Accepts order carriage))) (λ a. a)
       (calm_adds m.outside.outer (happens m (Host_does (Accepts order carriage))).outside.outer (does_calm airs m (Accepts order carriage)))
       (λ x has. effect_says AnyFrame (Has x) (has_piled x) airs m (Host_does (Accepts order carriage)) tt has) (effect_fits line (Host_does (Accepts order carriage)) left (many_on_air m)) (devices_host-all m (Accepts order carriage ∷ [])) (λ place. omega arith)) w
   effect_waits line left m (Refuses of refusal) is awaits places w =
-      refuses_waits n most (Doing line (Refuses of refusal ∷ left)) (Doing line left) (omega arith) m (Refuses of refusal) refl
+      refuses_waits whole n most (Doing line (Refuses of refusal ∷ left)) (Doing line left) (omega arith) m (Refuses of refusal) refl
       (same_stay (Doing line (Refuses of refusal ∷ left)) (Doing line left) m (happens m (Refuses of refusal)) (λ a. a) (calm_adds m.outside.outer (happens m (Refuses of refusal)).outside.outer (enters_calm airs m (entry.Refused refusal)))
       (λ x has. effect_says AnyFrame (Has x) (has_piled x) airs m (Refuses of refusal) tt has) (effect_fits line (Refuses of refusal) left (many_on_air m)) (refuses_devices m of refusal) (λ place. omega arith)) w
   effect_waits line left m (Shows_values node) is awaits places w =
-      refuses_waits n most (Doing line (Shows_values node ∷ left)) (Doing line left) (omega arith) m (Shows_values node) refl
+      refuses_waits whole n most (Doing line (Shows_values node ∷ left)) (Doing line left) (omega arith) m (Shows_values node) refl
       (same_stay (Doing line (Shows_values node ∷ left)) (Doing line left) m (happens m (Shows_values node)) (λ a. a) (calm_adds m.outside.outer (happens m (Shows_values node)).outside.outer (enters_calm airs m (shown_values m.host.state node)))
       (λ x has. effect_says AnyFrame (Has x) (has_piled x) airs m (Shows_values node) tt has) (effect_fits line (Shows_values node) left (many_on_air m)) (values_devices m node) (λ place. omega arith)) w
   effect_waits line left m (Outside_does event) is awaits places w = absurd is
@@ -649,28 +649,28 @@ module _ (airs : Airs) (these : List Bool) (many : length these ≡ 233) (laws :
 
   -- an event of its tick, of this node or not
   pub tick_event : (first : HostEvent) (events : List HostEvent) (ticks : ℕ) (m : Machine) → IsOfTick first → m.host.state.side.turn ≡ no_turn → length m.host.state.nodes ≡ 233 → (node_of m.host.state n).attempt_wait ≢ 1
-      → WaitsFor n most (Ticking_host (first ∷ events) ticks) m → WaitsFor n most (Ticking_host events ticks) (happens m (Host_does first))
+      → WaitsFor whole n most (Ticking_host (first ∷ events) ticks) m → WaitsFor whole n most (Ticking_host events ticks) (happens m (Host_does first))
   tick_event Line_ticks events ticks m is turn places lasts w =
-      does_waits n most within (Ticking_host (Line_ticks ∷ events) ticks) (Ticking_host events ticks) m Line_ticks (omega arith) turn places
+      does_waits whole n most within (Ticking_host (Line_ticks ∷ events) ticks) (Ticking_host events ticks) m Line_ticks (omega arith) turn places
       (host_stays airs n (Ticking_host (Line_ticks ∷ events) ticks) (Ticking_host events ticks) m Line_ticks (λ asking asks. asking) (λ left. still_fits n (many_on_air m) left (Ticking_host (Line_ticks ∷ events) ticks) (Ticking_host events ticks) (λ place. omega arith) (omega arith)) (λ place. omega arith)) w
   tick_event (Requests_do event moment) events ticks m is turn places lasts w =
-      does_waits n most within (Ticking_host (Requests_do event moment ∷ events) ticks) (Ticking_host events ticks) m (Requests_do event moment) (omega arith) tt places
+      does_waits whole n most within (Ticking_host (Requests_do event moment ∷ events) ticks) (Ticking_host events ticks) m (Requests_do event moment) (omega arith) tt places
       (host_stays airs n (Ticking_host (Requests_do event moment ∷ events) ticks) (Ticking_host events ticks) m (Requests_do event moment) (λ asking asks. asking)
       (λ left. still_fits n (many_on_air m) left (Ticking_host (Requests_do event moment ∷ events) ticks) (Ticking_host events ticks) (λ place. omega arith) (omega arith)) (λ place. omega arith)) w
   tick_event (Node_ticks k) events ticks m is turn places lasts w = by (either_node n k)
     where
-      own : WaitsFor n most (Ticking_host (Node_ticks n ∷ events) ticks) m → WaitsFor n most (Ticking_host events ticks) (happens m (Host_does (Node_ticks n)))
+      own : WaitsFor whole n most (Ticking_host (Node_ticks n ∷ events) ticks) m → WaitsFor whole n most (Ticking_host events ticks) (happens m (Host_does (Node_ticks n)))
       own v =
-          tick_waits n most within events ticks m places lasts
-          (host_stays airs n (Own_at n most within events ticks) (Ticking_host events ticks) m (Node_ticks n) (λ asking asks. asking)
-          (λ left. still_fits n (many_on_air m) left (Own_at n most within events ticks) (Ticking_host events ticks) (λ place. omega arith) (omega arith)) (λ place. omega arith)) v
+          tick_waits whole n most within events ticks m places lasts
+          (host_stays airs n (Own_at whole n most within events ticks) (Ticking_host events ticks) m (Node_ticks n) (λ asking asks. asking)
+          (λ left. still_fits n (many_on_air m) left (Own_at whole n most within events ticks) (Ticking_host events ticks) (λ place. omega arith) (omega arith)) (λ place. omega arith)) v
 
-      by : (k ≡ n) ⊎ (k ≢ n) → WaitsFor n most (Ticking_host events ticks) (happens m (Host_does (Node_ticks k)))
+      by : (k ≡ n) ⊎ (k ≢ n) → WaitsFor whole n most (Ticking_host events ticks) (happens m (Host_does (Node_ticks k)))
       by (inl same) =
-          subst (λ (j : ℕ). WaitsFor n most (Ticking_host events ticks) (happens m (Host_does (Node_ticks j)))) (sym same)
-          (own (subst (λ (j : ℕ). WaitsFor n most (Ticking_host (Node_ticks j ∷ events) ticks) m) same w))
+          subst (λ (j : ℕ). WaitsFor whole n most (Ticking_host events ticks) (happens m (Host_does (Node_ticks j)))) (sym same)
+          (own (subst (λ (j : ℕ). WaitsFor whole n most (Ticking_host (Node_ticks j ∷ events) ticks) m) same w))
       by (inr other) =
-          does_waits n most within (Ticking_host (Node_ticks k ∷ events) ticks) (Ticking_host events ticks) m (Node_ticks k) (no_fewer (if k == n then 1 else 0) (ticks_of n events)) other places
+          does_waits whole n most within (Ticking_host (Node_ticks k ∷ events) ticks) (Ticking_host events ticks) m (Node_ticks k) (no_fewer (if k == n then 1 else 0) (ticks_of n events)) other places
           (host_stays airs n (Ticking_host (Node_ticks k ∷ events) ticks) (Ticking_host events ticks) m (Node_ticks k) (λ asking asks. asking)
           (λ left. still_fits n (many_on_air m) left (Ticking_host (Node_ticks k ∷ events) ticks) (Ticking_host events ticks) (λ place. omega arith) (omega arith)) (λ place. omega arith)) w
   tick_event event events ticks m is turn places lasts w = absurd is

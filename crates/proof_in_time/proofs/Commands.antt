@@ -60,8 +60,9 @@ module _ (Goes : Order → Carriage → Type 0) where
   goes_as : (order with_order : Order) (carriage with_carriage : Carriage) → order ≡ with_order → carriage ≡ with_carriage → Goes order carriage → Goes with_order with_carriage
   goes_as order with_order carriage with_carriage is same goes = subst (λ (o : Order). Goes o with_carriage) is (subst (Goes order) same goes)
 
-  same_go : (these : List Bool) (old new : List Command) → SameOrders old new → AllGo Goes these old → AllGo Goes these new
-  same_go these old new same go number command found marked = by (command_at old number) refl
+  pub same_at : (old new : List Command) → SameOrders old new → (number : ℕ) → ((command : Command) → command_at old number ≡ Some command → Goes command.order command.carriage)
+      → (command : Command) → command_at new number ≡ Some command → Goes command.order command.carriage
+  same_at old new same number go command found = by (command_at old number) refl
     where
       taken : taken_at new number ≡ Some (record { order = command.order; carriage = command.carriage })
       taken = ap taken_by found
@@ -71,10 +72,12 @@ module _ (Goes : Order → Carriage → Type 0) where
       by (Some before) is =
           let both : taken_by (Some before) ≡ Some (record { order = command.order; carriage = command.carriage }) = sym (same.taken number ∙ ap taken_by is) ∙ taken in
           let one : ◌≡◌ {A = Taken} (record { order = before.order; carriage = before.carriage }) (record { order = command.order; carriage = command.carriage }) = cc in
-          let order : before.order ≡ command.order = ap (λ (t : Taken). t.order) one in
-          let carriage : before.carriage ≡ command.carriage = ap (λ (t : Taken). t.carriage) one in
-          goes_as before.order command.order before.carriage command.carriage order carriage (go number before is (ap (λ (o : Order). is_marked these o.node) order ∙ marked))
+          goes_as before.order command.order before.carriage command.carriage (ap (λ (t : Taken). t.order) one) (ap (λ (t : Taken). t.carriage) one) (go before is)
 
+same_go : (Goes : Order → Carriage → Type 0) (these : List Bool) (old new : List Command) → SameOrders old new → AllGo Goes these old → AllGo Goes these new
+same_go Goes these old new same go number command found marked = same_at (λ order carriage. is_marked these order.node ≡ true → Goes order carriage) old new same number (go number) command found marked
+
+module _ (Goes : Order → Carriage → Type 0) where
   more_go : (these : List Bool) (commands : List Command) (one : Command) → (is_marked these one.order.node ≡ true → Goes one.order one.carriage) → AllGo Goes these commands → AllGo Goes these (commands ++ one ∷ [])
   more_go these commands one new go zero command found marked = absurd cc
   more_go these commands one new go (suc place) command found marked = by (pushed commands one place command found)
@@ -84,11 +87,11 @@ module _ (Goes : Order → Carriage → Type 0) where
       by (inr is) =
           let order : one.order ≡ command.order = ap (λ (c : Command). c.order) is in
           let carriage : one.carriage ≡ command.carriage = ap (λ (c : Command). c.carriage) is in
-          goes_as one.order command.order one.carriage command.carriage order carriage (new (ap (λ (o : Order). is_marked these o.node) order ∙ marked))
+          goes_as Goes one.order command.order one.carriage command.carriage order carriage (new (ap (λ (o : Order). is_marked these o.node) order ∙ marked))
 
   events_go : (these : List Bool) (h : HostState) (events : List HostEvent) → AllByRecursion IsNoOrder events → AllGo Goes these h.commands → AllGo Goes these (after_all h events).commands
   events_go these h [] no_order go = go
-  events_go these h (event ∷ events) no_order go = events_go these (after h event) events no_order.1 (same_go these h.commands (after h event).commands (event_kept h event no_order.0) go)
+  events_go these h (event ∷ events) no_order go = events_go these (after h event) events no_order.1 (same_go Goes these h.commands (after h event).commands (event_kept h event no_order.0) go)
 
 -- where neither is listed, an order that is accepted fits in one payload
 none_first : (o : Option Refused) (more : List (Option Refused)) → first_some (o ∷ more) ≡ None → o ≡ None
@@ -221,7 +224,7 @@ on_openly these here next m event goes at may bare steps go = goes_on GoesOpenly
 
 -- ---- what an attempt gives
 
-sound_at : (h : HostState) → HostFacts h → (number : ℕ) (command : Command) → command_at h.commands number ≡ Some command → IsSound h.store command
+pub sound_at : (h : HostState) → HostFacts h → (number : ℕ) (command : Command) → command_at h.commands number ≡ Some command → IsSound h.store command
 sound_at h facts zero command found = absurd cc
 sound_at h facts (suc place) command found = All-slice_get (IsSound h.store) h.commands place command facts.commands found
 

@@ -247,7 +247,7 @@ waiting_recorded : (o : Outcome) → is_waiting (recorded o) ≡ is_waiting o
 waiting_recorded Waiting = refl
 waiting_recorded o = refl
 
-waiting_is : (n : ℕ) (past : List Entry) (h : HostState) → Facts past h → numbers_of (accepted n past) ≡ numbers_for n past → (node_of h n).waiting ≡ waiting n past
+pub waiting_is : (n : ℕ) (past : List Entry) (h : HostState) → Facts past h → numbers_of (accepted n past) ≡ numbers_for n past → (node_of h n).waiting ≡ waiting n past
 waiting_is n past h facts numbers =
     facts.waiting n ∙ filter_agree (λ (k : ℕ). is_waiting (outcome_in h.commands k)) (λ (k : ℕ). is_waiting (outcome k past))
     (λ k. sym (waiting_recorded (outcome_in h.commands k)) ∙ ap is_waiting (sym (facts.entered k)) ∙ waiting_recorded (outcome k past)) (numbers_for n past)
@@ -257,6 +257,7 @@ waiting_is n past h facts numbers =
 pub record StandsSoon (n command : ℕ) (h : HostState) : Type 0 where
   pub more : ℕ
   pub few : more ≤ 15
+  pub within : more + 1 ≤ length (node_of h n).waiting
   pub stands : StandsAt command more (node_of h n).waiting
 
 pub stands_soon : (n command : ℕ) (past : List Entry) (h : HostState) → Facts past h → numbers_of (accepted n past) ≡ numbers_for n past → Has (waiting n past) command → StandsSoon n command h
@@ -264,7 +265,7 @@ stands_soon n command past h facts numbers has =
     let at = stands_in (node_of h n).waiting command (subst (λ (l : List ℕ). Has l command) (sym (waiting_is n past h facts numbers)) has) in
     let within = at.1.0 in
     let most = (facts.host.nodes.facts n).waiting in
-    record { more = at.0; few = omega (arith, within, most); stands = at.1.1 }
+    record { more = at.0; few = omega (arith, within, most); within = within; stands = at.1.1 }
 
 -- so it is in hand
 pub record IsInHandSoon (n command : ℕ) (h : HostState) : Type 0 where
@@ -278,7 +279,7 @@ waiting_soon n command past h facts numbers has closed = let at = stands_soon n 
 -- or it comes after a session whose series is over, where its wait runs
 pub record RestsSoon (n command : ℕ) (h : HostState) : Type 0 where
   pub more : ℕ
-  pub few : more ≤ 15
+  pub within : more + 1 ≤ length (node_of h n).waiting
   pub rests : RestsBefore command more (node_of h n)
   pub wait : (node_of h n).again_wait ≤ 101
 
@@ -296,4 +297,4 @@ pub rests_soon : (n command : ℕ) (past : List Entry) (h : HostState) → Facts
 rests_soon n command past h facts numbers has runs =
     let at = stands_soon n command past h facts numbers has in
     let node = facts.host.nodes.facts n in
-    record { more = at.more; few = at.few; rests = rests_before (node_of h n) command at.more node runs at.stands; wait = node.again_wait }
+    record { more = at.more; within = at.within; rests = rests_before (node_of h n) command at.more node runs at.stands; wait = node.again_wait }

@@ -2,6 +2,7 @@
 use Rattle.std.proofs.Common.{◌≡◌, ◌<◌, ℕ, suc, Bool, inl, inr, List, [], ◌∷◌, ◌++◌, length, refl, sym, ap, ◌∙◌, subst, append_assoc}
 use Rattle.std.proofs.lemmas.List.{append-nil}
 use Rattle.std.specs.Prelude.{◌⊎◌, Option, Some, None, option_map, slice_get}
+use Rattle.std.specs.List.{AllByRecursion}
 use Rattle.zw_base.proofs.Each.{all-get}
 use Rattle.zw_text.specs.declared.entry.Entry.{Entry}
 use Rattle.serial_frame.specs.Stream.{Rest}
@@ -27,7 +28,7 @@ use Rattle.proof_answered.specs.proof_calm.proof_traffic.Flights.{Fly}
 use Rattle.proof_answered.specs.proof_calm.proof_traffic.OnAir.{fed_chip, on_air}
 use Rattle.proof_answered.specs.proof_calm.Awaited.{Awaits}
 use Rattle.proof_answered.specs.Outward.{IsSentTo}
-use Rattle.proof_answered.proofs.Outwards.{judges_add, next_flight}
+use Rattle.proof_answered.proofs.Outwards.{IsSentFor, judges_add, next_flight}
 use Rattle.proof_answered.proofs.ArrivedFrames.{Homes as ArrivedHomes, arrives_home}
 use Rattle.proof_answered.proofs.Arrivals.{Homes, answered_if_homes}
 use Rattle.proof_answered.proofs.Calm.{Calm}
@@ -53,6 +54,12 @@ stands_next Is first rest at = by at.before at.are
     by : (before : List Flown) → first ∷ rest ≡ before ++ at.frame ∷ at.behind → Is first ⊎ ((on : Stands Is rest) × (length before ≡ suc (length on.before)))
     by [] are = let same : at.frame ≡ first = cc in inl (subst Is same at.is)
     by (one ∷ before) are = let same : rest ≡ before ++ at.frame ∷ at.behind = cc in inr (record { before = before; frame = at.frame; behind = at.behind; are = same; is = at.is }, refl)
+
+-- and those are the host's, for these
+pub record Sends (these : List Bool) (flights later : List Flown) : Type 0 where
+  pub more : List Flown
+  pub are : later ≡ flights ++ more
+  pub sent : AllByRecursion (IsSentFor these) more
 
 -- ---- what is on the air of a machine
 
@@ -105,14 +112,23 @@ module _ (airs : Airs) (m : Machine) (is : Awaits m) where
   wakes_add node route =
       then_entered m.outside.outer (outcome m.outside (Wakes_device node route)) (outcome m.outside (Wakes_device node route)).entries (hand_adds (place_of node m.outside.devices) Wakes route)
 
+  -- what the chip puts there is of the host, for these
+  pub takes_sent : (these : List Bool) → length these ≡ 233 → (count : ℕ) (rest : Rest) (ways : List (Item × Option Route)) → IsSentTo these m (Outside_does (Chip_takes count rest ways))
+      → Sends these (on_air m.outside.outer.air.frames) (on_air (happens m (Outside_does (Chip_takes count rest ways))).outside.outer.air.frames)
+  unfolding outcome happens
+  takes_sent these many count rest ways sent =
+      let p : OuterState = (each chip_does (fed_chip m.outside.outer count rest) (judged_all ways)).outer in
+      let x : Outcome = outcome m.outside (Chip_takes count rest ways) in
+      let adds = judges_add airs these many is.log flights (fed_chip m.outside.outer count rest) ways sent fly in
+      record {
+        more = adds.added;
+        are = ap (λ (a : AirState). on_air a.frames) (entered_leaves x.outer x.entries).air ∙ sym (flights_are (is.log ++ adds.more) (flights ++ adds.added) p.air.frames adds.fly);
+        sent = adds.are_so;
+      }
+
   pub takes_add : (these : List Bool) → length these ≡ 233 → (count : ℕ) (rest : Rest) (ways : List (Item × Option Route)) → IsSentTo these m (Outside_does (Chip_takes count rest ways))
       → Adds m.outside.outer (happens m (Outside_does (Chip_takes count rest ways))).outside.outer
-  unfolding outcome happens
-  takes_add these many count rest ways sent =
-      let p : OuterState = (each chip_does (fed_chip m.outside.outer count rest) (judged_all ways)).outer in
-      let adds = judges_add airs these many is.log flights (fed_chip m.outside.outer count rest) ways sent fly in
-      then_entered m.outside.outer (outcome m.outside (Chip_takes count rest ways)) (outcome m.outside (Chip_takes count rest ways)).entries
-      (record { more = adds.added; are = sym (flights_are (is.log ++ adds.more) (flights ++ adds.added) p.air.frames adds.fly) })
+  takes_add these many count rest ways sent = let sends = takes_sent these many count rest ways sent in record { more = sends.more; are = sends.are }
 
   -- a frame arrives, the first of them
   pub record Arrived (drawn : List ℕ) (route : Option Route) : Type 0 where

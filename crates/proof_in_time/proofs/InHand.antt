@@ -182,10 +182,10 @@ got_last : (commands : List ℕ) (command : ℕ) → slice_get (commands ++ comm
 got_last [] command = refl
 got_last (first ∷ commands) command = got_last commands command
 
-command_last : (commands : List ℕ) (command : ℕ) → command_at (commands ++ command ∷ []) (length commands + 1) ≡ Some command
+pub command_last : (commands : List ℕ) (command : ℕ) → command_at (commands ++ command ∷ []) (length commands + 1) ≡ Some command
 command_last commands command = let more : length commands + 1 ≡ suc (length commands) = omega arith in ap (λ (k : ℕ). command_at (commands ++ command ∷ []) k) more ∙ got_last commands command
 
-begun_opens : (book : HostBook) (command : ℕ) → open_session (begins book command) ≡ Some (length book.commands + 1)
+pub begun_opens : (book : HostBook) (command : ℕ) → open_session (begins book command) ≡ Some (length book.commands + 1)
 begun_opens book command = by book.commands ∙ ap Some (length-append book.commands (command ∷ []))
   where
     by : (commands : List ℕ) → open_session (record { commands = commands ++ command ∷ []; outcome = None; attempts = 0 }) ≡ Some (length (commands ++ command ∷ []))

@@ -47,6 +47,7 @@ use Rattle.proof_answered.proofs.Tying.{request_rests}
 use Rattle.proof_answered.proofs.Unheard.{chip_part_says}
 use Rattle.proof_answered.proofs.proof_traffic_Parts.{Airs}
 use Rattle.proof_answered.specs.Turns.{turn_of}
+use Rattle.proof_in_time.specs.Owed.{IsFreeNow, IsOwed}
 use Rattle.proof_in_time.specs.Coming.{Has}
 use Rattle.proof_in_time.proofs.Bounded.{either_node}
 use Rattle.proof_in_time.proofs.InHand.{HasTurn}
@@ -57,38 +58,18 @@ use Rattle.proof_in_time.proofs.Served.{IsPartOf}
 
 -- ---- whether the request of this tick is still to be submitted
 
--- nothing of the host is on its way to the chip, which sends nothing
-pub record IsFreeNow (m : Machine) : Type 0 where
-  pub quiet : m.outside.outer.chip.state.sending ≡ None
-  pub silent : on_line m.host.state.side.turn ≡ []
+-- an attempt of the node that has work starts within so many ticks, but for those that it takes
+pub data ComesTo (long : ℕ) (these : List Bool) (n ticks : ℕ) (here : Phase) (m : Machine) : Type 0 where
+  In_turn : turn_of these m.host.state.served n + (long + 1) ≤ ticks → ComesTo long these n ticks here m
+  Owed : IsOwed here m → turn_of these m.host.state.served n + long ≤ ticks → ComesTo long these n ticks here m
 
--- in a tick that has begun, none is submitted before its settling; and then while that is so
-abbrev pub IsOwed : Phase → Machine → Type 0
-IsOwed (Ticked ticks) m = Unit {0}
-IsOwed (Arriving frames ticks) m = Unit {0}
-IsOwed (Giving results ticks) m = Unit {0}
-IsOwed (Ticking_devices at count ticks) m = Unit {0}
-IsOwed (Ticking_chip ticks) m = Unit {0}
-IsOwed (Ticking_decoder ticks) m = Unit {0}
-IsOwed (Ticking_host events ticks) m = Unit {0}
-IsOwed (Sleeping passes ticks) m = IsFreeNow m
-IsOwed (Submitting passes ticks) m = IsFreeNow m
-IsOwed (Moving passes ticks) m = IsFreeNow m
-IsOwed (Moved has_moved passes ticks) m = IsFreeNow m
-IsOwed here m = ⊥
-
--- an attempt of the node that has work starts within so many ticks
-pub data ComesTo (these : List Bool) (n ticks : ℕ) (here : Phase) (m : Machine) : Type 0 where
-  In_turn : turn_of these m.host.state.served n + 7 ≤ ticks → ComesTo these n ticks here m
-  Owed : IsOwed here m → turn_of these m.host.state.served n + 6 ≤ ticks → ComesTo these n ticks here m
-
-pub seven_left : (these : List Bool) (n ticks : ℕ) (here : Phase) (m : Machine) → is_marked these n ≡ true → ComesTo these n ticks here m → 7 ≤ ticks
-seven_left these n ticks here m marked (In_turn few) = omega (arith, few)
-seven_left these n ticks here m marked (Owed owed few) = let least = turn_least these m.host.state.served n marked in omega (arith, few, least)
+pub turn_ticks : (long : ℕ) (these : List Bool) (n ticks : ℕ) (here : Phase) (m : Machine) → is_marked these n ≡ true → ComesTo long these n ticks here m → long + 1 ≤ ticks
+turn_ticks long these n ticks here m marked (In_turn few) = omega (arith, few)
+turn_ticks long these n ticks here m marked (Owed owed few) = let least = turn_least these m.host.state.served n marked in omega (arith, few, least)
 
 -- ---- a node of which no attempt runs gives nothing but its first part
 
-no_sending : (s : Option Sending) → is_some s ≡ false → s ≡ None
+pub no_sending : (s : Option Sending) → is_some s ≡ false → s ≡ None
 no_sending None none = refl
 no_sending (Some sending) none = absurd cc
 
@@ -129,7 +110,7 @@ module _ (n : ℕ) (within : n < 233) where
 
 -- ---- a call that the host has not judged
 
-has_in : (x : FrameParts) (before behind : List FrameParts) → Has x (before ++ x ∷ behind)
+pub has_in : (x : FrameParts) (before behind : List FrameParts) → Has x (before ++ x ∷ behind)
 has_in x [] behind = inl refl
 has_in x (frame ∷ before) behind = inr (has_in x before behind)
 
@@ -139,6 +120,11 @@ leaves_it joined x (frame ∷ frames) all (inl is) = subst (LeavesIt joined) (sy
 leaves_it joined x (frame ∷ frames) all (inr has) = leaves_it joined x frames all.1 has
 
 -- ---- from phase to phase
+
+-- what the host submits is left out
+abbrev pub GoesByItself : Phase → Type 0
+GoesByItself (Submitting passes ticks) = ⊥
+GoesByItself here = Unit {0}
 
 module _ (airs : Airs) (these : List Bool) (n : ℕ) (marked : is_marked these n ≡ true) (node : IsNode n) where
   below : n < 233
@@ -190,7 +176,7 @@ module _ (airs : Airs) (these : List Bool) (n : ℕ) (marked : is_marked these n
       }
 
   -- the chip takes nothing of the host's
-  takes_free : (passes ticks : ℕ) (m : Machine) (rest : Rest) (ways : List (Item × Option Route)) → May m (Outside_does (Chip_takes (length m.outside.outer.to_chip.bytes) rest ways)) → IsDone m ⊎ CanMove passes m → HasRoom m.outside.outer.chip.state
+  pub takes_free : (passes ticks : ℕ) (m : Machine) (rest : Rest) (ways : List (Item × Option Route)) → May m (Outside_does (Chip_takes (length m.outside.outer.to_chip.bytes) rest ways)) → IsDone m ⊎ CanMove passes m → HasRoom m.outside.outer.chip.state
       → TieOf true m (on_line m.host.state.side.turn) → IsDone (chip_taken m rest ways) ⊎ HasMoved true passes (chip_taken m rest ways) → TieOf true (chip_taken m rest ways) [] → IsFreeNow m → IsFreeNow (chip_taken m rest ways)
   unfolding happens
   takes_free passes ticks m rest ways may at room tie later tie_later free = record { quiet = by tie_later.tied; silent = free.silent }
@@ -236,10 +222,10 @@ module _ (airs : Airs) (these : List Bool) (n : ℕ) (marked : is_marked these n
       by (Called u of fresh is) = is.idle
 
   -- the host judges what comes
-  judges_free : (passes : ℕ) (m : Machine) (count : ℕ) (rest : Rest) (items : List Item) (events : List HostEvent) → IsDone (happens m (Host_takes count rest items events)) ⊎ HostStands passes (happens m (Host_takes count rest items events)) → IsFreeNow m
-      → IsFreeNow (happens m (Host_takes count rest items events))
-  judges_free passes m count rest items events at free = record {
-    quiet = ap (λ (s : ChipState). s.sending) (takes_calm airs m count rest items events).chip ∙ free.quiet;
+  pub judged_free : (passes : ℕ) (m : Machine) (count : ℕ) (rest : Rest) (items : List Item) (events : List HostEvent) → IsDone (happens m (Host_takes count rest items events)) ⊎ HostStands passes (happens m (Host_takes count rest items events))
+      → m.outside.outer.chip.state.sending ≡ None → IsFreeNow (happens m (Host_takes count rest items events))
+  judged_free passes m count rest items events at quiet = record {
+    quiet = ap (λ (s : ChipState). s.sending) (takes_calm airs m count rest items events).chip ∙ quiet;
     silent = by at;
   }
     where
@@ -247,23 +233,48 @@ module _ (airs : Airs) (these : List Bool) (n : ℕ) (marked : is_marked these n
       by (inl done) = ap on_line done.line.at_host.turn_is
       by (inr stands) = ap on_line stands.turn
 
-  -- at an event, but as a tick begins: it is still to come, or the turn of the node has come nearer
+  pub judges_free : (passes : ℕ) (m : Machine) (count : ℕ) (rest : Rest) (items : List Item) (events : List HostEvent) → IsDone (happens m (Host_takes count rest items events)) ⊎ HostStands passes (happens m (Host_takes count rest items events)) → IsFreeNow m
+      → IsFreeNow (happens m (Host_takes count rest items events))
+  judges_free passes m count rest items events at free = judged_free passes m count rest items events at free.quiet
+
+  -- at an event at which the host does not submit, but as a tick begins
+  owed_to : (next to : Phase) (m : Machine) (event is : Event) → event ≡ is → next ≡ to → IsOwed to (happens m is) → IsOwed next (happens m event)
+  owed_to next to m event is event_is next_is owed = subst (λ (q : Phase). IsOwed q (happens m event)) (sym next_is) (subst (λ (e : Event). IsOwed to (happens m e)) (sym event_is) owed)
+
+  pub owed_stays : (here next : Phase) (m : Machine) (event : Event) → Goes here m event next → May m event → LineAt here m → RoomAt here m → TieAt here m → LineAt next (happens m event) → TieAt next (happens m event) → GoesByItself here → IsOwed here m
+      → IsOwed next (happens m event)
+  owed_stays (Arriving (suc frames) ticks) next m event (drawn, route, is, to) may at room tie at_later tie_later none owed = subst (λ (q : Phase). IsOwed q (happens m event)) (sym to) tt
+  owed_stays (Giving (suc results) ticks) next m event (route, is, to) may at room tie at_later tie_later none owed = subst (λ (q : Phase). IsOwed q (happens m event)) (sym to) tt
+  owed_stays (Ticking_devices place (suc count) ticks) next m event (drawn, route, is, to) may at room tie at_later tie_later none owed = subst (λ (q : Phase). IsOwed q (happens m event)) (sym to) tt
+  owed_stays (Ticking_chip ticks) next m event (is, to) may at room tie at_later tie_later none owed = subst (λ (q : Phase). IsOwed q (happens m event)) (sym to) tt
+  owed_stays (Ticking_decoder ticks) next m event (is, to) may at room tie at_later tie_later none owed = subst (λ (q : Phase). IsOwed q (happens m event)) (sym to) tt
+  owed_stays (Ticking_host (first ∷ events) ticks) next m event (is, to) may at room tie at_later tie_later none owed = subst (λ (q : Phase). IsOwed q (happens m event)) (sym to) tt
+  owed_stays (Sleeping passes ticks) next m event (k, wants, is, to) may at room tie at_later tie_later none owed =
+      owed_to next (Sleeping passes ticks) m event (Host_does (no_more_event m.host.state k)) is to
+      (still_free m (no_more_event m.host.state k)
+      (no_more_is (λ e. (after m.host.state e).side.turn ≡ m.host.state.side.turn) (record { queues = λ j. refl; drops = λ j. refl }) m.host.state k) owed)
+  owed_stays (Submitting passes ticks) next m event goes may at room tie at_later tie_later none owed = absurd none
+  owed_stays (Moving passes ticks) next m event (rest, ways, is, to) may at room tie at_later tie_later none owed =
+      let line = subst (λ (e : Event). LineAt (Moved true passes ticks) (happens m e)) is (subst (λ (q : Phase). LineAt q (happens m event)) to at_later) in
+      let tied = subst (λ (e : Event). TieAt (Moved true passes ticks) (happens m e)) is (subst (λ (q : Phase). TieAt q (happens m event)) to tie_later) in
+      owed_to next (Moved true passes ticks) m event (Outside_does (Chip_takes (length m.outside.outer.to_chip.bytes) rest ways)) is to
+      (takes_free passes ticks m rest ways (subst (λ (e : Event). May m e) is may) at room tie line tied owed)
+  owed_stays (Moved b passes ticks) next m event (rest, items, done, is, to) may at room tie at_later tie_later none owed =
+      let line = subst (λ (e : Event). LineAt (Sleeping passes ticks) (happens m e)) is (subst (λ (q : Phase). LineAt q (happens m event)) to at_later) in
+      owed_to next (Sleeping passes ticks) m event (Host_takes (length m.outside.outer.to_host.bytes) rest items done) is to
+      (judges_free passes m (length m.outside.outer.to_host.bytes) rest items done line owed)
+  owed_stays (Ticked ticks) next m event goes may at room tie at_later tie_later none owed = absurd goes
+  owed_stays (Arriving zero ticks) next m event goes may at room tie at_later tie_later none owed = absurd goes
+  owed_stays (Giving zero ticks) next m event goes may at room tie at_later tie_later none owed = absurd goes
+  owed_stays (Ticking_devices place zero ticks) next m event goes may at room tie at_later tie_later none owed = absurd goes
+  owed_stays (Ticking_host [] ticks) next m event goes may at room tie at_later tie_later none owed = absurd goes
+  owed_stays here next m event goes may at room tie at_later tie_later none owed = absurd owed
+
+  -- at any, it is still to come, or the turn of the node has come nearer
   pub owed_on : (here next : Phase) (m : Machine) (event : Event) → Goes here m event next → May m event → LineAt here m → RoomAt here m → TieAt here m → LineAt next (happens m event) → TieAt next (happens m event) → m.host.state.requests.queue ≡ []
       → HostFacts m.host.state → ((k : ℕ) → next_of m.host.state.nodes m.host.state.served ≡ Some k → is_marked these k ≡ true) → HasTurn (node_of m.host.state n) → (node_of (happens m event).host.state n).series ≢ series.Running → IsOwed here m
       → IsOwed next (happens m event) ⊎ (turn_of these (happens m event).host.state.served n + 1 ≤ turn_of these m.host.state.served n)
   unfolding happens May
-  owed_on (Arriving (suc frames) ticks) next m event (drawn, route, is, to) may at room tie at_later tie_later empty facts workers turn later owed = inl (subst (λ (q : Phase). IsOwed q (happens m event)) (sym to) tt)
-  owed_on (Giving (suc results) ticks) next m event (route, is, to) may at room tie at_later tie_later empty facts workers turn later owed = inl (subst (λ (q : Phase). IsOwed q (happens m event)) (sym to) tt)
-  owed_on (Ticking_devices place (suc count) ticks) next m event (drawn, route, is, to) may at room tie at_later tie_later empty facts workers turn later owed = inl (subst (λ (q : Phase). IsOwed q (happens m event)) (sym to) tt)
-  owed_on (Ticking_chip ticks) next m event (is, to) may at room tie at_later tie_later empty facts workers turn later owed = inl (subst (λ (q : Phase). IsOwed q (happens m event)) (sym to) tt)
-  owed_on (Ticking_decoder ticks) next m event (is, to) may at room tie at_later tie_later empty facts workers turn later owed = inl (subst (λ (q : Phase). IsOwed q (happens m event)) (sym to) tt)
-  owed_on (Ticking_host (first ∷ events) ticks) next m event (is, to) may at room tie at_later tie_later empty facts workers turn later owed = inl (subst (λ (q : Phase). IsOwed q (happens m event)) (sym to) tt)
-  owed_on (Sleeping passes ticks) next m event (k, wants, is, to) may at room tie at_later tie_later empty facts workers turn later owed =
-      inl
-      (subst (λ (q : Phase). IsOwed q (happens m event)) (sym to)
-      (subst (λ (e : Event). IsFreeNow (happens m e)) (sym is)
-      (still_free m (no_more_event m.host.state k)
-      (no_more_is (λ e. (after m.host.state e).side.turn ≡ m.host.state.side.turn) (record { queues = λ j. refl; drops = λ j. refl }) m.host.state k) owed)))
   owed_on (Submitting passes ticks) next m event (asked, next_so, is, to) may at room tie at_later tie_later empty facts workers turn later owed =
       by
       (submits_free m asked next_so (subst (λ (e : Event). May m e) is may).0 tie.paid empty facts workers turn (subst (λ (e : Event). (node_of (happens m e).host.state n).series ≢ series.Running) is later) owed)
@@ -271,28 +282,10 @@ module _ (airs : Airs) (these : List Bool) (n : ℕ) (marked : is_marked these n
       by : Nearer m asked → IsOwed next (happens m event) ⊎ (turn_of these (happens m event).host.state.served n + 1 ≤ turn_of these m.host.state.served n)
       by (inl free) = inl (subst (λ (q : Phase). IsOwed q (happens m event)) (sym to) (subst (λ (e : Event). IsFreeNow (happens m e)) (sym is) free))
       by (inr nearer) = inr (subst (λ (e : Event). turn_of these (happens m e).host.state.served n + 1 ≤ turn_of these m.host.state.served n) (sym is) nearer)
-  owed_on (Moving passes ticks) next m event (rest, ways, is, to) may at room tie at_later tie_later empty facts workers turn later owed =
-      let takes : Event = Outside_does (Chip_takes (length m.outside.outer.to_chip.bytes) rest ways) in
-      let line = subst (λ (e : Event). LineAt (Moved true passes ticks) (happens m e)) is (subst (λ (q : Phase). LineAt q (happens m event)) to at_later) in
-      let tied = subst (λ (e : Event). TieAt (Moved true passes ticks) (happens m e)) is (subst (λ (q : Phase). TieAt q (happens m event)) to tie_later) in
-      inl
-      (subst (λ (q : Phase). IsOwed q (happens m event)) (sym to)
-      (subst (λ (e : Event). IsFreeNow (happens m e)) (sym is) (takes_free passes ticks m rest ways (subst (λ (e : Event). May m e) is may) at room tie line tied owed)))
-  owed_on (Moved b passes ticks) next m event (rest, items, done, is, to) may at room tie at_later tie_later empty facts workers turn later owed =
-      let takes : Event = Host_takes (length m.outside.outer.to_host.bytes) rest items done in
-      let line = subst (λ (e : Event). LineAt (Sleeping passes ticks) (happens m e)) is (subst (λ (q : Phase). LineAt q (happens m event)) to at_later) in
-      inl
-      (subst (λ (q : Phase). IsOwed q (happens m event)) (sym to)
-      (subst (λ (e : Event). IsFreeNow (happens m e)) (sym is) (judges_free passes m (length m.outside.outer.to_host.bytes) rest items done line owed)))
-  owed_on (Ticked ticks) next m event goes may at room tie at_later tie_later empty facts workers turn later owed = absurd goes
-  owed_on (Arriving zero ticks) next m event goes may at room tie at_later tie_later empty facts workers turn later owed = absurd goes
-  owed_on (Giving zero ticks) next m event goes may at room tie at_later tie_later empty facts workers turn later owed = absurd goes
-  owed_on (Ticking_devices place zero ticks) next m event goes may at room tie at_later tie_later empty facts workers turn later owed = absurd goes
-  owed_on (Ticking_host [] ticks) next m event goes may at room tie at_later tie_later empty facts workers turn later owed = absurd goes
-  owed_on here next m event goes may at room tie at_later tie_later empty facts workers turn later owed = absurd owed
+  owed_on here next m event goes may at room tie at_later tie_later empty facts workers turn later owed = inl (owed_stays here next m event goes may at room tie at_later tie_later tt owed)
 
   -- where a settling ends no node with work lacks its request
-  none_owed : (m : Machine) → IsTied these m → HasTurn (node_of m.host.state n) → IsFreeNow m → ⊥
+  pub none_owed : (m : Machine) → IsTied these m → HasTurn (node_of m.host.state n) → IsFreeNow m → ⊥
   none_owed m tied turn free = of (request_rests m tied).request
     where
       of : (HasNone m × HasNothing m.host.state) ⊎ IsTaken m → ⊥
@@ -301,23 +294,23 @@ module _ (airs : Airs) (these : List Bool) (n : ℕ) (marked : is_marked these n
           absurd (let wrong : true ≡ false = sym turn.1 ∙ idle in cc)
       of (inr taken) = absurd (let wrong = sym free.quiet ∙ taken.sending in cc)
 
-  -- and where a part is over
-  pub owed_turn : (here next : Phase) (m : Machine) → Turns here m next → LineAt here m → AwaitsAt here m → ((ticks : ℕ) → next ≡ To_tick ticks → IsTied these m) → HasTurn (node_of m.host.state n) → IsOwed here m → IsOwed next m
-  owed_turn (Ticked ticks) next m same at awaits tied turn owed = subst (λ (q : Phase). IsOwed q m) (sym same) tt
-  owed_turn (Arriving zero ticks) next m same at awaits tied turn owed = subst (λ (q : Phase). IsOwed q m) (sym same) tt
-  owed_turn (Giving zero ticks) next m same at awaits tied turn owed = subst (λ (q : Phase). IsOwed q m) (sym same) tt
-  owed_turn (Ticking_devices place zero ticks) next m same at awaits tied turn owed = subst (λ (q : Phase). IsOwed q m) (sym same) tt
-  owed_turn (Ticking_host [] ticks) next m same at awaits tied turn owed =
+  -- and where a part is over, if it cannot be so where a settling ends
+  pub owed_turn : (here next : Phase) (m : Machine) → Turns here m next → LineAt here m → AwaitsAt here m → ((ticks : ℕ) → next ≡ To_tick ticks → IsTied these m) → (IsTied these m → IsFreeNow m → ⊥) → IsOwed here m → IsOwed next m
+  owed_turn (Ticked ticks) next m same at awaits tied none owed = subst (λ (q : Phase). IsOwed q m) (sym same) tt
+  owed_turn (Arriving zero ticks) next m same at awaits tied none owed = subst (λ (q : Phase). IsOwed q m) (sym same) tt
+  owed_turn (Giving zero ticks) next m same at awaits tied none owed = subst (λ (q : Phase). IsOwed q m) (sym same) tt
+  owed_turn (Ticking_devices place zero ticks) next m same at awaits tied none owed = subst (λ (q : Phase). IsOwed q m) (sym same) tt
+  owed_turn (Ticking_host [] ticks) next m same at awaits tied none owed =
       subst (λ (q : Phase). IsOwed q m) (sym same) (record { quiet = no_sending m.outside.outer.chip.state.sending (sends_nothing m awaits); silent = ap on_line at.1.at_host.turn_is })
-  owed_turn (Sleeping passes ticks) next m (none, same) at awaits tied turn owed = subst (λ (q : Phase). IsOwed q m) (sym same) owed
-  owed_turn (Submitting zero ticks) next m (pumped, same) at awaits tied turn owed = absurd (none_owed m (tied ticks same) turn owed)
-  owed_turn (Submitting (suc passes) ticks) next m (pumped, same) at awaits tied turn owed = subst (λ (q : Phase). IsOwed q m) (sym same) owed
-  owed_turn (Moving passes ticks) next m (still, same) at awaits tied turn owed = subst (λ (q : Phase). IsOwed q m) (sym same) owed
-  owed_turn (Moved b passes ticks) next m (still, same) at awaits tied turn owed = subst (λ (q : Phase). IsOwed q m) (sym same) owed
-  owed_turn (Arriving (suc frames) ticks) next m turns at awaits tied turn owed = absurd turns
-  owed_turn (Giving (suc results) ticks) next m turns at awaits tied turn owed = absurd turns
-  owed_turn (Ticking_devices place (suc count) ticks) next m turns at awaits tied turn owed = absurd turns
-  owed_turn (Ticking_chip ticks) next m turns at awaits tied turn owed = absurd turns
-  owed_turn (Ticking_decoder ticks) next m turns at awaits tied turn owed = absurd turns
-  owed_turn (Ticking_host (first ∷ events) ticks) next m turns at awaits tied turn owed = absurd turns
-  owed_turn here next m turns at awaits tied turn owed = absurd owed
+  owed_turn (Sleeping passes ticks) next m (wanted, same) at awaits tied none owed = subst (λ (q : Phase). IsOwed q m) (sym same) owed
+  owed_turn (Submitting zero ticks) next m (pumped, same) at awaits tied none owed = absurd (none (tied ticks same) owed)
+  owed_turn (Submitting (suc passes) ticks) next m (pumped, same) at awaits tied none owed = subst (λ (q : Phase). IsOwed q m) (sym same) owed
+  owed_turn (Moving passes ticks) next m (still, same) at awaits tied none owed = subst (λ (q : Phase). IsOwed q m) (sym same) owed
+  owed_turn (Moved b passes ticks) next m (still, same) at awaits tied none owed = subst (λ (q : Phase). IsOwed q m) (sym same) owed
+  owed_turn (Arriving (suc frames) ticks) next m turns at awaits tied none owed = absurd turns
+  owed_turn (Giving (suc results) ticks) next m turns at awaits tied none owed = absurd turns
+  owed_turn (Ticking_devices place (suc count) ticks) next m turns at awaits tied none owed = absurd turns
+  owed_turn (Ticking_chip ticks) next m turns at awaits tied none owed = absurd turns
+  owed_turn (Ticking_decoder ticks) next m turns at awaits tied none owed = absurd turns
+  owed_turn (Ticking_host (first ∷ events) ticks) next m turns at awaits tied none owed = absurd turns
+  owed_turn here next m turns at awaits tied none owed = absurd owed

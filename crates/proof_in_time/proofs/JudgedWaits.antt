@@ -29,7 +29,7 @@ use Rattle.proof_answered.proofs.Followed.{FollowersAre, payload_all}
 use Rattle.proof_answered.proofs.Following.{kept}
 use Rattle.proof_answered.proofs.Judging.{AnyFrame, EachFollows, TieBy, each_follow, frame_are, one_more, unit_tied}
 use Rattle.proof_answered.proofs.Reading.{goods}
-use Rattle.proof_in_time.specs.Coming.{Has, IsKept, TellsEnd, brings, is_layered}
+use Rattle.proof_in_time.specs.Coming.{Has, IsKept, TellsEnd, brings, is_layered, is_listed}
 use Rattle.proof_in_time.specs.Reporting.{AwaitsReport, EndsSession, IsOver}
 use Rattle.proof_in_time.proofs.NodeWaits.{IsBeside, OnTable, beside_table}
 use Rattle.proof_in_time.proofs.Reported.{report_ends, session_over}
@@ -37,21 +37,21 @@ use Rattle.proof_in_time.proofs.InHand.{same_open}
 
 -- ---- what the chip tells makes no attempt start, and ticks for no node
 
-abbrev IsTold : HostEvent → Type 0
+abbrev pub IsTold : HostEvent → Type 0
 IsTold (Interviews n listens classes update) = ⊥
 IsTold (Starts n plan more payload) = ⊥
 IsTold (Node_ticks n) = ⊥
 IsTold Line_ticks = ⊥
 IsTold event = Unit {0}
 
-told_beside : (n : ℕ) (h : HostState) (event : HostEvent) → IsTold event → IsBeside n h event
+pub told_beside : (n : ℕ) (h : HostState) (event : HostEvent) → IsTold event → IsBeside n h event
 told_beside n h (Interviews k listens classes update) told = absurd told
 told_beside n h (Starts k plan more payload) told = absurd told
 told_beside n h (Node_ticks k) told = absurd told
 told_beside n h Line_ticks told = absurd told
 told_beside n h event told = tt
 
-told_followers : (n : ℕ) → FollowersAre IsTold n
+pub told_followers : (n : ℕ) → FollowersAre IsTold n
 told_followers n = record {
   unread = λ payload. tt;
   unkept = tt;
@@ -68,7 +68,7 @@ told_followers n = record {
   no_room = λ property. tt;
 }
 
-each_told : (joined : List Bool) → EachFollows IsTold AnyFrame joined
+pub each_told : (joined : List Bool) → EachFollows IsTold AnyFrame joined
 each_told joined = record {
   hears = λ item. tt;
   told = λ event told. tt;
@@ -89,28 +89,32 @@ pub record Runs (n session wait : ℕ) (Elsewhere : Type 0) (pending : List Fram
   pub bound : (wait ≡ 0) ⊎ (70 ≤ wait)
   pub report : Elsewhere ⊎ ((payload : List ℕ) × (TellsEnd session payload × Has (brings n payload) pending))
 
-pub record Judges (n session wait : ℕ) (Elsewhere : Type 0) (pending : List FrameParts) (h : HostState) : Type 0 where
+pub record Judges (whole : Bool) (n session wait : ℕ) (Elsewhere : Type 0) (pending : List FrameParts) (h : HostState) : Type 0 where
   pub places : length h.nodes ≡ 233
-  pub openly : is_layered (node_of h n).classes ≡ false
+  pub openly : is_listed whole (node_of h n).classes ≡ false
   pub runs : (node_of h n).series ≡ Running → Runs n session wait Elsewhere pending h
 
-unsecured : (classes : Option (List ℕ)) → is_layered classes ≡ false → is_secure classes ≡ false
-unsecured None openly = refl
-unsecured (Some classes) openly = (or_parts (is_secure (Some classes)) _ openly).0
+layered_secure : (classes : Option (List ℕ)) → is_layered classes ≡ false → is_secure classes ≡ false
+layered_secure None openly = refl
+layered_secure (Some classes) openly = (or_parts (is_secure (Some classes)) _ openly).0
+
+unsecured : (whole : Bool) (classes : Option (List ℕ)) → is_listed whole classes ≡ false → is_secure classes ≡ false
+unsecured true classes openly = layered_secure classes openly
+unsecured false classes openly = openly
 
 at_from : (session : ℕ) (old : NodeState) (new : NodeState) → new.book.commands ≡ old.book.commands → new.book.outcome ≡ old.book.outcome → open_session old.book ≡ Some session → begun_of old.book ≡ session
     → (open_session new.book ≡ Some session) × (begun_of new.book ≡ session)
 at_from session old new commands outcome opened begun = (same_open old.book new.book commands outcome ∙ opened, ap (λ (cs : List ℕ). length cs) commands ∙ begun)
 
-module _ (n : ℕ) (within : n < 233) (session wait : ℕ) (Elsewhere : Type 0) where
+module _ (whole : Bool) (n : ℕ) (within : n < 233) (session wait : ℕ) (Elsewhere : Type 0) where
   abbrev J : List FrameParts → HostState → Type 0
-  J pending h = Judges n session wait Elsewhere pending h
+  J pending h = Judges whole n session wait Elsewhere pending h
 
   -- an event that the chip tells
   event_judges : (pending : List FrameParts) (h : HostState) (event : HostEvent) → IsTold event → J pending h → J pending (after h event)
   event_judges pending h event told j = record {
     places = table.places;
-    openly = ap is_layered table.from.same ∙ j.openly;
+    openly = ap (is_listed whole) table.from.same ∙ j.openly;
     runs = λ run.
         let k = table.from.keeps run in
         let r = j.runs k.running in
@@ -150,7 +154,7 @@ module _ (n : ℕ) (within : n < 233) (session wait : ℕ) (Elsewhere : Type 0) 
           of : (events ≡ Finishes n session (wire_id session) ends.command ends.status ends.wakes ∷ []) ⊎ (events ≡ Is_unkept n ∷ []) → ⊥
           of (inl are) =
               let over : IsOver (node_of (after h (Finishes n session (wire_id session) ends.command ends.status ends.wakes)) n) =
-              session_over h n session ends.command ends.status ends.wakes (subst (λ (l : ℕ). n < l) (sym places) within) awaits in
+              session_over h n session ends.command ends.status ends.wakes (subst (λ (l : ℕ). n < l) (sym places) within) awaits.opened in
               let wrong : Idle ≡ Running = sym (ap (λ (l : List HostEvent). (node_of (after_all h l) n).series) are ∙ over.idle) ∙ run in
               absurd cc
           of (inr are) = (subst (AllByRecursion IsKept) are keeps).0
@@ -169,7 +173,7 @@ module _ (n : ℕ) (within : n < 233) (session wait : ℕ) (Elsewhere : Type 0) 
           of (inl is) = inl is
           of (inr (payload, (tells, inr has))) = inr (payload, (tells, has))
           of (inr (payload, (tells, inl is))) =
-              absurd (report_ended h payload events node tells (subst (λ (f : FrameParts). FrameFollows h f events) (sym is) follows) keeps j.places (record { opened = was.at.opened; openly = unsecured (node_of h n).classes j.openly }) run)
+              absurd (report_ended h payload events node tells (subst (λ (f : FrameParts). FrameFollows h f events) (sym is) follows) keeps j.places (record { opened = was.at.opened; openly = unsecured whole (node_of h n).classes j.openly }) run)
 
   module _ (s : ChipState) where
     unit_judges : (h : HostState) (unit : LineUnit) (rest : List FrameParts) (events : List HostEvent) → IsNode n → IsPlain unit → IsJudged h (Good unit) events → TieBy true (kept h) s (frames_in (unit ∷ []) ++ rest) [] → AllByRecursion IsKept events

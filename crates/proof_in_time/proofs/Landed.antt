@@ -1,6 +1,6 @@
 -- What a frame that arrives brings: a report to the chip, and a message to a device, whose answer goes on the air.
-use Rattle.std.proofs.Common.{◌≡◌, ◌≤◌, ◌<◌, ℕ, nat_lt, inl, inr, Bool, true, List, [], ◌∷◌, ◌++◌, length, refl, sym, ap, ◌∙◌, subst}
-use Rattle.std.specs.Prelude.{◌⊎◌, ◌||◌, Option, Some, option_map, slice_get}
+use Rattle.std.proofs.Common.{◌≡◌, ◌≤◌, ◌<◌, ℕ, nat_lt, inl, inr, Bool, true, false, if◌then◌else◌, List, [], ◌∷◌, ◌++◌, length, refl, sym, ap, ◌∙◌, subst}
+use Rattle.std.specs.Prelude.{◌⊎◌, ◌||◌, Option, Some, None, option_map, slice_get}
 use Rattle.std.specs.Option.{is_none, unwrap_or}
 use Rattle.serial_frame.specs.Frame.{FrameParts}
 use Rattle.route_table.specs.declared.route.Route.{Route}
@@ -8,15 +8,16 @@ use Rattle.air_frames.specs.Flown.{Flown}
 use Rattle.air_frames.specs.Frames.{next_of}
 use Rattle.air_frames.specs.History.{Mark, Goes as goes_mark}
 use Rattle.air_frames.specs.declared.frame.Departure.{Departure}
+use Rattle.air_frames.specs.declared.frame.Heading.{Heading}
 use Rattle.air_frames.specs.declared.frame.Heading.TheVariants.{Homeward}
 use Rattle.device_sim.specs.Event.{Hears, Ticks, device_replies}
 use Rattle.device_sim.specs.State.{State}
 use Rattle.mesh_sim.specs.Air.{AirState, departing, is_joined, no_route}
-use Rattle.mesh_sim.specs.Fates.{Mesh, fate_of}
+use Rattle.mesh_sim.specs.Fates.{Mesh, fate_by, fate_of}
 use Rattle.mesh_sim.specs.Routes.{backwards}
 use Rattle.mesh_sim.specs.Steps.{acknowledged, answered, answered_if, arriving, arriving_as, heard_at, landed, mesh_after}
 use Rattle.mesh_sim.specs.declared.fate.Fate.{Fate}
-use Rattle.mesh_sim.specs.declared.fate.Fate.TheVariants.{AtDevice}
+use Rattle.mesh_sim.specs.declared.fate.Fate.TheVariants.{AtChip, AtDevice, Lost}
 use Rattle.outside_model.specs.State.{Outside}
 use Rattle.outside_model.specs.Devices.{acts_at}
 use Rattle.outside_model.specs.Events.{Arrives, Device_ticks, mesh_of, outcome, happens as happens_outside}
@@ -70,6 +71,9 @@ module _ (x : FrameParts) where
 
 -- ---- a report arrives
 
+pub home_so : (lost : Bool) (dead : Option (ℕ × ℕ)) (heading : Heading) (listener : Option ℕ) → lost ≡ false → dead ≡ None → heading ≡ Homeward → (if lost then Lost else fate_by dead heading listener) ≡ AtChip
+home_so lost dead heading listener kept live home = rw kept (rw live (rw home refl))
+
 pub report_comes : (m : Machine) (drawn : List ℕ) (route : Option Route) (frame : Flown) → next_of m.outside.outer.air.frames ≡ Some frame → frame.heading ≡ Homeward → IsLive m.outside.outer.air.network frame → 1 ≤ length frame.payload
     → length frame.payload ≤ 46 → IsGiven 0 m → IsGiven 0 (happens m (Outside_does (Arrives drawn route))) → length m.outside.outer.chip.state.port.waiting ≤ 31
     → Has (brings frame.node frame.payload) (unheard (happens m (Outside_does (Arrives drawn route))).outside.outer)
@@ -79,22 +83,27 @@ report_comes m drawn route frame next home live some few given later room =
 
 -- ---- a message arrives
 
-reply_air : (w : Outside) (drawn : List ℕ) (route : Option Route) (frame : Flown) (place : ℕ) (device : State) (reply : List ℕ) → next_of w.outer.air.frames ≡ Some frame → fate_of w.outer.air.network w.devices frame ≡ AtDevice place
-    → slice_get w.devices place ≡ Some device → is_joined w.outer.air frame.node ≡ true → device_replies device (Hears frame.payload drawn) ≡ reply ∷ []
-    → (happens_outside w (Arrives drawn route)).outer.air ≡ departing (landed (acknowledged w.outer.air)) frame.node Homeward (option_map backwards route) reply
+pub replies_air : (w : Outside) (drawn : List ℕ) (route : Option Route) (frame : Flown) (place : ℕ) (device : State) → next_of w.outer.air.frames ≡ Some frame → fate_of w.outer.air.network w.devices frame ≡ AtDevice place
+    → slice_get w.devices place ≡ Some device → is_joined w.outer.air frame.node ≡ true
+    → (happens_outside w (Arrives drawn route)).outer.air ≡ answered (landed (acknowledged w.outer.air)) frame.node (option_map backwards route) (device_replies device (Hears frame.payload drawn))
 unfolding mesh_after
-reply_air w drawn route frame place device reply next fate there joined replies =
+replies_air w drawn route frame place device next fate there joined =
     let at : Mesh = mesh_of w in
     let a : AirState = landed (acknowledged w.outer.air) in
     arrived_air w drawn route ∙ (ap (λ (f : Option Flown). (arriving at f drawn route).air) next ∙ (ap (λ (x : Fate). (arriving_as at frame x drawn route).air) fate
     ∙ (ap (λ (d : Option State). (heard_at (record at { air = a }) place d frame.node route (Hears frame.payload drawn)).air) there
-    ∙ (ap (λ (b : Bool). answered_if b a frame.node (option_map backwards route) (device_replies device (Hears frame.payload drawn))) joined
-    ∙ ap (λ (rs : List (List ℕ)). answered a frame.node (option_map backwards route) rs) replies))))
+    ∙ ap (λ (b : Bool). answered_if b a frame.node (option_map backwards route) (device_replies device (Hears frame.payload drawn))) joined)))
 
--- a report that a device sends is the last of the frames on the air
-report_stands : (airs : Airs) (log : List Mark) (flights : List Flown) (a later : AirState) (n session : ℕ) (way : Option Route) (reply : List ℕ) → n < 233 → Fly log flights a.frames → later ≡ departing a n Homeward way reply → TellsEnd session reply
-    → Stands (IsReport n session) (on_air later.frames)
-report_stands airs log flights a later n session way reply within fly air_is tells =
+reply_air : (w : Outside) (drawn : List ℕ) (route : Option Route) (frame : Flown) (place : ℕ) (device : State) (reply : List ℕ) → next_of w.outer.air.frames ≡ Some frame → fate_of w.outer.air.network w.devices frame ≡ AtDevice place
+    → slice_get w.devices place ≡ Some device → is_joined w.outer.air frame.node ≡ true → device_replies device (Hears frame.payload drawn) ≡ reply ∷ []
+    → (happens_outside w (Arrives drawn route)).outer.air ≡ departing (landed (acknowledged w.outer.air)) frame.node Homeward (option_map backwards route) reply
+reply_air w drawn route frame place device reply next fate there joined replies =
+    replies_air w drawn route frame place device next fate there joined ∙ ap (λ (rs : List (List ℕ)). answered (landed (acknowledged w.outer.air)) frame.node (option_map backwards route) rs) replies
+
+-- a payload that a device sends is the last of the frames on the air
+sent_stands : (airs : Airs) (log : List Mark) (flights : List Flown) (a later : AirState) (n : ℕ) (Is : Flown → Type 0) (way : Option Route) (reply : List ℕ) → n < 233 → Fly log flights a.frames → later ≡ departing a n Homeward way reply
+    → ((frame : Flown) → frame.node ≡ n → frame.heading ≡ Homeward → frame.payload ≡ reply → Is frame) → Stands Is (on_air later.frames)
+sent_stands airs log flights a later n Is way reply within fly air_is so =
     let d : Departure = record { node = n; heading = Homeward; route = unwrap_or way no_route; lost = nat_lt 0 a.losing || is_none way; payload = reply } in
     let flown : Fly (log ++ goes_mark d ∷ []) (flights ++ flown_now log d ∷ []) (departing a n Homeward way reply).frames = airs.goes log flights a.frames d within fly in
     record {
@@ -102,19 +111,30 @@ report_stands airs log flights a later n session way reply within fly air_is tel
       frame = flown_now log d;
       behind = [];
       are = ap (λ (air : AirState). on_air air.frames) air_is ∙ sym (flights_are (log ++ goes_mark d ∷ []) (flights ++ flown_now log d ∷ []) (departing a n Homeward way reply).frames flown);
-      is = record { node = refl; home = refl; tells = tells };
+      is = so (flown_now log d) refl refl refl;
     }
+
+report_of_end : (n session : ℕ) (reply : List ℕ) → TellsEnd session reply → (frame : Flown) → frame.node ≡ n → frame.heading ≡ Homeward → frame.payload ≡ reply → IsReport n session frame
+report_of_end n session reply tells frame node home same = record { node = node; home = home; tells = subst (TellsEnd session) (sym same) tells }
+
+-- its answer to what it hears
+pub reply_flies : (airs : Airs) (m : Machine) (is : Awaits m) (drawn : List ℕ) (route : Option Route) (at : Arrived airs m is drawn route) (Is : Flown → Type 0) (place : ℕ) (device : State) (reply : List ℕ)
+    → fate_of m.outside.outer.air.network m.outside.devices at.frame ≡ AtDevice place → slice_get m.outside.devices place ≡ Some device → is_joined m.outside.outer.air at.frame.node ≡ true → at.frame.node < 233
+    → device_replies device (Hears at.frame.payload drawn) ≡ reply ∷ [] → ((frame : Flown) → frame.node ≡ at.frame.node → frame.heading ≡ Homeward → frame.payload ≡ reply → Is frame)
+    → Stands Is (on_air (happens m (Outside_does (Arrives drawn route))).outside.outer.air.frames)
+unfolding happens
+reply_flies airs m is drawn route at Is place device reply fate there joined within replies so =
+    let a : AirState = landed (acknowledged m.outside.outer.air) in
+    sent_stands airs is.log at.rest a (happens_outside m.outside (Arrives drawn route)).outer.air at.frame.node Is (option_map backwards route) reply within (airs.lands is.log at.frame at.rest m.outside.outer.air.frames at.fly_there)
+    (reply_air m.outside drawn route at.frame place device reply at.next fate there joined replies) so
 
 -- its answer to a message
 pub answer_flies : (airs : Airs) (m : Machine) (is : Awaits m) (drawn : List ℕ) (route : Option Route) (at : Arrived airs m is drawn route) (session place : ℕ) (device : State) (reply : List ℕ)
     → fate_of m.outside.outer.air.network m.outside.devices at.frame ≡ AtDevice place → slice_get m.outside.devices place ≡ Some device → is_joined m.outside.outer.air at.frame.node ≡ true → at.frame.node < 233
     → device_replies device (Hears at.frame.payload drawn) ≡ reply ∷ [] → TellsEnd session reply
     → Stands (IsReport at.frame.node session) (on_air (happens m (Outside_does (Arrives drawn route))).outside.outer.air.frames)
-unfolding happens
 answer_flies airs m is drawn route at session place device reply fate there joined within replies tells =
-    let a : AirState = landed (acknowledged m.outside.outer.air) in
-    report_stands airs is.log at.rest a (happens_outside m.outside (Arrives drawn route)).outer.air at.frame.node session (option_map backwards route) reply within (airs.lands is.log at.frame at.rest m.outside.outer.air.frames at.fly_there)
-    (reply_air m.outside drawn route at.frame place device reply at.next fate there joined replies) tells
+    reply_flies airs m is drawn route at (IsReport at.frame.node session) place device reply fate there joined within replies (report_of_end at.frame.node session reply tells)
 
 -- the end of its work, as it ticks
 tick_air : (w : Outside) (place : ℕ) (device : State) (drawn : List ℕ) (route : Option Route) (reply : List ℕ) → slice_get w.devices place ≡ Some device → is_joined w.outer.air device.node ≡ true → device_replies device (Ticks drawn) ≡ reply ∷ []
@@ -131,5 +151,5 @@ pub tick_flies : (airs : Airs) (m : Machine) (is : Awaits m) (place : ℕ) (devi
     → Stands (IsReport device.node session) (on_air (happens m (Outside_does (Device_ticks place drawn route))).outside.outer.air.frames)
 unfolding happens
 tick_flies airs m is place device drawn route session reply there joined within replies tells =
-    report_stands airs is.log (on_air m.outside.outer.air.frames) m.outside.outer.air (happens_outside m.outside (Device_ticks place drawn route)).outer.air device.node session (option_map backwards route) reply within is.follows.fly
-    (tick_air m.outside place device drawn route reply there joined replies) tells
+    sent_stands airs is.log (on_air m.outside.outer.air.frames) m.outside.outer.air (happens_outside m.outside (Device_ticks place drawn route)).outer.air device.node (IsReport device.node session) (option_map backwards route) reply within is.follows.fly
+    (tick_air m.outside place device drawn route reply there joined replies) (report_of_end device.node session reply tells)

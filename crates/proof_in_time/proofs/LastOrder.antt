@@ -54,7 +54,7 @@ waited_both : (ticks : ℕ) (first later : List Line) → waited_by ticks (first
 waited_both ticks [] later = refl
 waited_both ticks (one ∷ first) later = waited_both (waited_step ticks one) first later
 
-pub ticks_most : (these : List Bool) (sessions : ℕ) → marked_to these 232 ≤ 16 → ticks_of_all these sessions ≤ 23 * sessions
+pub ticks_most : (these : List Bool) (sessions : ℕ) → marked_to these 232 ≤ 16 → ticks_of_all 6 these sessions ≤ 23 * sessions
 ticks_most these zero few = omega arith
 ticks_most these (suc sessions) few = let rest = ticks_most these sessions few in omega (arith, few, rest)
 
@@ -73,12 +73,20 @@ one_marked (false ∷ marks) n only zero = omega arith
 one_marked (false ∷ marks) zero only (suc k) = let rest = none_marked marks (λ j is. let there = only (suc j) is in absurd (omega (arith, there))) k in omega (arith, rest)
 one_marked (false ∷ marks) (suc n) only (suc k) = let rest = one_marked marks n (λ j is. let there = only (suc j) is in omega (arith, there)) k in omega (arith, rest)
 
-ticks_fewer : (these : List Bool) (sessions : ℕ) → marked_to these 232 ≤ 1 → ticks_of_all these sessions ≤ 8 * sessions
+ticks_fewer : (these : List Bool) (sessions : ℕ) → marked_to these 232 ≤ 1 → ticks_of_all 6 these sessions ≤ 8 * sessions
 ticks_fewer these zero few = omega arith
 ticks_fewer these (suc sessions) few = let rest = ticks_fewer these sessions few in omega (arith, few, rest)
 
-pub ticks_alone : (these : List Bool) (n sessions : ℕ) → ((k : ℕ) → is_marked these k ≡ true → k ≡ n) → ticks_of_all these sessions ≤ 8 * sessions
+pub ticks_alone : (these : List Bool) (n sessions : ℕ) → ((k : ℕ) → is_marked these k ≡ true → k ≡ n) → ticks_of_all 6 these sessions ≤ 8 * sessions
 ticks_alone these n sessions only = ticks_fewer these sessions (one_marked these n only 232)
+
+-- or whose messages may go in segments
+ticks_parted : (these : List Bool) (sessions : ℕ) → marked_to these 232 ≤ 1 → ticks_of_all 23 these sessions ≤ 25 * sessions
+ticks_parted these zero few = omega arith
+ticks_parted these (suc sessions) few = let rest = ticks_parted these sessions few in omega (arith, few, rest)
+
+pub ticks_openly : (these : List Bool) (n sessions : ℕ) → ((k : ℕ) → is_marked these k ≡ true → k ≡ n) → ticks_of_all 23 these sessions ≤ 25 * sessions
+ticks_openly these n sessions only = ticks_parted these sessions (one_marked these n only 232)
 
 -- the ticks that lines ask for, of both
 pub ticks_both : (m : Machine) (first later : List Spoken) → ticks_asked (lines_run (transcript_of m (first ++ later))) ≡ ticks_asked (lines_run (transcript_of m first)) + ticks_asked (lines_run (transcript_of (after_all m first) later))

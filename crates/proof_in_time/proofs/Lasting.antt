@@ -20,7 +20,7 @@ use Rattle.host_requests.specs.Frames.{frame_of}
 use Rattle.host_requests.specs.declared.under_way.UnderWay.{UnderWay}
 use Rattle.host_node.specs.Facts.{NodeFacts}
 use Rattle.device_sim.specs.State.{State}
-use Rattle.host_model.specs.Events.{Node_ticks}
+use Rattle.host_model.specs.Events.{HostEvent, Node_ticks}
 use Rattle.host_node.specs.declared.series.Series.TheVariants as series
 use Rattle.host_model.specs.State.{node_of}
 use Rattle.outside_model.specs.Events.{Chip_takes}
@@ -55,8 +55,9 @@ use Rattle.proof_answered.proofs.Staffing.{sent_on}
 use Rattle.proof_answered.proofs.Walking.{none_given}
 use Rattle.proof_answered.proofs.Speaking.{either_mark}
 use Rattle.proof_answered.proofs.Tying.{rests_unheard}
-use Rattle.proof_in_time.specs.Coming.{AllWaitFor, AreInAir, AreWaiting, AsksFor, Asked, At_work, Coming, Flies, GoWhole, Has, IsAsking, IsBusy, IsKept, IsKeptFor, KnowPlainly, KnowWaits, Sent, Told, WaitsFor, brings, has_ticked, one_later, ticks_left}
-use Rattle.proof_in_time.specs.InStep.{IsPlainly}
+pub use Rattle.proof_in_time.specs.Coming.{most_then}
+use Rattle.proof_in_time.specs.Coming.{AllWaitFor, AreInAir, AreWaiting, Asked, At_work, Coming, Flies, Has, IsAsking, IsBusy, IsKept, IsKeptFor, IsPlainStart, KnowPlainly, KnowWaits, Sent, Told, WaitsFor, brings, has_ticked, one_later, ticks_left}
+use Rattle.proof_in_time.specs.InStep.{HasInStep}
 use Rattle.proof_in_time.specs.Sleeping.{IsPlainlyUp}
 use Rattle.proof_in_time.proofs.Aired.{request_airs}
 use Rattle.proof_in_time.proofs.Bounded.{Devices, NoMore, arrives_wait, begins_waits, busy_still, chip_waits, effect_waits, idle_lasts, lasts_of, later_waits, line_waits, session_of, still_fits, tick_event, ticks_wait, turn_waits, unfinished_waits}
@@ -83,7 +84,7 @@ no_call joined id status (Answers is) = no_answer id status is
 no_call joined id status (Brings n payload member some is) = no_payload id status n payload is
 no_call joined id status (Informs update is) = no_update id status update is
 
-not_both_ways : (m : Machine) (u : UnderWay) (frame : FrameParts) → IsOf u (ends_of m.host.state m.outside.outer.chip.state) → IsOnWay u (ends_of m.host.state m.outside.outer.chip.state) (unheard m.outside.outer) (frame ∷ [])
+pub not_both_ways : (m : Machine) (u : UnderWay) (frame : FrameParts) → IsOf u (ends_of m.host.state m.outside.outer.chip.state) → IsOnWay u (ends_of m.host.state m.outside.outer.chip.state) (unheard m.outside.outer) (frame ∷ [])
     → Tied true (ends_of m.host.state m.outside.outer.chip.state) (unheard m.outside.outer) [] → ⊥
 not_both_ways m u frame of way (Nowhere is) = absurd (let wrong : Some u ≡ None = sym of.under_way ∙ is.none in cc)
 not_both_ways m u frame of way (On_way v of_v fresh is) = absurd (let wrong = is.asked in cc)
@@ -93,14 +94,14 @@ not_both_ways m u frame of way (Called v of_v fresh is) =
     let parts = subst (LeaveIt s.joined) is.are way.leave in
     no_call s.joined m.host.state.requests.last_id is.status (all-right (LeavesIt s.joined) is.before (notice_frame (SendData m.host.state.requests.last_id is.status) ∷ is.behind) parts).0
 
-none_asked : (n session : ℕ) (m : Machine) → AsksFor n session m.host.state → TieOf true m (on_line m.host.state.side.turn) → TieOf true m [] → ⊥
-none_asked n session m asks tie later = by (subst (λ (fs : List FrameParts). TieOf true m fs) asks.frame tie).tied
+pub none_asked : (m : Machine) (request : UnderWay) → m.host.state.requests.under_way ≡ Some request → on_line m.host.state.side.turn ≡ frame_of request.purpose m.host.state.requests.last_id ∷ [] → TieOf true m (on_line m.host.state.side.turn) → TieOf true m [] → ⊥
+none_asked m request under_way line tie later = by (subst (λ (fs : List FrameParts). TieOf true m fs) line tie).tied
   where
-    by : Tied true (ends_of m.host.state m.outside.outer.chip.state) (unheard m.outside.outer) (frame_of asks.request.purpose m.host.state.requests.last_id ∷ []) → ⊥
+    by : Tied true (ends_of m.host.state m.outside.outer.chip.state) (unheard m.outside.outer) (frame_of request.purpose m.host.state.requests.last_id ∷ []) → ⊥
     by (Nowhere is) = absurd (let wrong = is.nothing in cc)
     by (At_chip u of fresh is) = absurd (let wrong = is.nothing in cc)
     by (Called u of fresh is) = absurd (let wrong = is.nothing in cc)
-    by (On_way u of fresh is) = not_both_ways m u (frame_of asks.request.purpose m.host.state.requests.last_id) of is later.tied
+    by (On_way u of fresh is) = not_both_ways m u (frame_of request.purpose m.host.state.requests.last_id) of is later.tied
 
 -- ---- where a frame arrives
 
@@ -131,12 +132,7 @@ pub node_within : (these : List Bool) → length these ≡ 233 → is_marked the
 node_within these many none zero marked = absurd (let wrong : true ≡ false = sym marked ∙ none in cc)
 node_within these many none (suc n) marked = let less = marked_within these (suc n) marked in (omega arith, omega (arith, less, many))
 
--- as a tick begins one fewer is to begin
-abbrev pub most_then : ℕ → Phase → ℕ
-most_then most (To_tick (suc ticks)) = most - 1
-most_then most here = most
-
-module _ (airs : Airs) (these : List Bool) (many : length these ≡ 233) (laws : Devices) (n most : ℕ) (marked : is_marked these n ≡ true) (node : IsNode n) where
+module _ (airs : Airs) (these : List Bool) (many : length these ≡ 233) (laws : Devices) (whole : Bool) (n most : ℕ) (marked : is_marked these n ≡ true) (node : IsNode n) where
   below : n < 233
   below = let few = node.1 in omega (arith, few)
 
@@ -144,7 +140,7 @@ module _ (airs : Airs) (these : List Bool) (many : length these ≡ 233) (laws :
 
   -- then it is within these, or an attempt of it that was due has started
   abbrev pub LaterOn : ℕ → Phase → Machine → Event → Type 0
-  LaterOn few next m event = WaitsFor n few next (happens m event) ⊎ (((node_of m.host.state n).series ≡ series.Due) × WaitsFor n 6 next (happens m event))
+  LaterOn few next m event = WaitsFor whole n few next (happens m event) ⊎ (((node_of m.host.state n).series ≡ series.Due) × WaitsFor whole n 6 next (happens m event))
 
   abbrev Leads : ℕ → Phase → Machine → Event → Type 0
   Leads few next m event = LineAt next (happens m event) → LaterOn few next m event
@@ -152,66 +148,70 @@ module _ (airs : Airs) (these : List Bool) (many : length these ≡ 233) (laws :
   as_is : (few : ℕ) (next to : Phase) (m : Machine) (event is : Event) → event ≡ is → next ≡ to → Leads few to m is → Leads few next m event
   as_is few next to m event is event_is next_is leads = subst (λ (e : Event). Leads few next m e) (sym event_is) (subst (λ (q : Phase). Leads few q m is) (sym next_is) leads)
 
-  pub event_waits : (here next : Phase) (m : Machine) (event : Event) → Goes here m event next → May m event → IsPlainly these m event → KeepsAll event → GoWhole these m.host.state.commands → LineAt here m → AwaitsAt here m → RoomAt here m → IsRouted m.outside.outer → TieAt here m → IsPeopled these m
-      → IsHeardThen m event → IsSentTo these m event → AreInAir these m → WaitsFor n most here m → Leads (most_then most here) next m event
-  event_waits (Said_line line) next m event (is, to) may plainly keeps go line_at awaits room routed tie peopled hears sent joined w = as_is most next (Begun line) m event _ is to (λ later. inl (line_waits airs these many laws n most marked node line m w))
-  event_waits (Doing line (first ∷ left)) next m event (is, to) may plainly keeps go line_at awaits room routed tie peopled hears sent joined w =
-      as_is most next (Doing line left) m event first is to (λ later. inl (effect_waits airs these many laws n most marked node line left m first line_at.0.0 awaits peopled.facts.nodes.places w))
-  event_waits (To_tick (suc ticks)) next m event (is, to) may plainly keeps go line_at awaits room routed tie peopled hears sent joined w = as_is (most - 1) next (Ticked ticks) m event _ is to (λ later. inl (begins_waits airs these many laws n most marked node ticks m w))
-  event_waits (Arriving (suc frames) ticks) next m event (drawn, route, is, to) may plainly keeps go line_at awaits room routed tie peopled hears sent joined w =
+  -- an attempt that starts gives a message whole
+  abbrev pub Starts_plainly : Machine → Event → Type 0
+  Starts_plainly m event = (asked : HostEvent) → event ≡ Host_does asked → IsPlainStart these m.host.state asked
+
+  pub event_waits : (here next : Phase) (m : Machine) (event : Event) → Goes here m event next → May m event → HasInStep n m → KeepsAll event → Starts_plainly m event → LineAt here m → AwaitsAt here m → RoomAt here m → IsRouted m.outside.outer → TieAt here m → IsPeopled these m
+      → IsHeardThen m event → IsSentTo these m event → AreInAir these m → WaitsFor whole n most here m → Leads (most_then most here) next m event
+  event_waits (Said_line line) next m event (is, to) may step keeps starts line_at awaits room routed tie peopled hears sent joined w = as_is most next (Begun line) m event _ is to (λ later. inl (line_waits airs these many laws whole n most marked node line m w))
+  event_waits (Doing line (first ∷ left)) next m event (is, to) may step keeps starts line_at awaits room routed tie peopled hears sent joined w =
+      as_is most next (Doing line left) m event first is to (λ later. inl (effect_waits airs these many laws whole n most marked node line left m first line_at.0.0 awaits peopled.facts.nodes.places w))
+  event_waits (To_tick (suc ticks)) next m event (is, to) may step keeps starts line_at awaits room routed tie peopled hears sent joined w = as_is (most - 1) next (Ticked ticks) m event _ is to (λ later. inl (begins_waits airs these many laws whole n most marked node ticks m w))
+  event_waits (Arriving (suc frames) ticks) next m event (drawn, route, is, to) may step keeps starts line_at awaits room routed tie peopled hears sent joined w =
       as_is most next (Arriving frames ticks) m event _ is to
       (λ later.
-      inl (arrives_wait airs these many laws n most marked node frames ticks m drawn route (subst (May m) is may) (plainly n marked).step (joined n marked) (peopled.facts.nodes.facts n) awaits.awaits (subst (IsHeardThen m) is hears) peopled.live line_at later
+      inl (arrives_wait airs these many laws whole n most marked node frames ticks m drawn route (subst (May m) is may) step (joined n marked) (peopled.facts.nodes.facts n) awaits.awaits (subst (IsHeardThen m) is hears) peopled.live line_at later
       (omega (arith, room)) w))
-  event_waits (Giving (suc results) ticks) next m event (route, is, to) may plainly keeps go line_at awaits room routed tie peopled hears sent joined w = absurd (none_given m results routed awaits.many)
-  event_waits (Ticking_devices place (suc count) ticks) next m event (drawn, route, is, to) may plainly keeps go line_at awaits room routed tie peopled hears sent joined w =
-      as_is most next (Ticking_devices (place + 1) count ticks) m event _ is to (λ later. inl (ticks_wait airs these many laws n most marked node place count ticks m drawn route (plainly n marked).step (joined n marked) awaits.awaits w))
-  event_waits (Ticking_chip ticks) next m event (is, to) may plainly keeps go line_at awaits room routed tie peopled hears sent joined w =
-      as_is most next (Ticking_decoder ticks) m event _ is to (λ later. inl (chip_waits airs these many laws n most marked node ticks m line_at later w))
-  event_waits (Ticking_decoder ticks) next m event (is, to) may plainly keeps go line_at awaits room routed tie peopled hears sent joined w = as_is most next (Ticking_host _ ticks) m event _ is to (λ later. inl (unfinished_waits airs these many laws n most marked node ticks m w))
-  event_waits (Ticking_host (first ∷ events) ticks) next m event (is, to) may plainly keeps go line_at awaits room routed tie peopled hears sent joined w =
+  event_waits (Giving (suc results) ticks) next m event (route, is, to) may step keeps starts line_at awaits room routed tie peopled hears sent joined w = absurd (none_given m results routed awaits.many)
+  event_waits (Ticking_devices place (suc count) ticks) next m event (drawn, route, is, to) may step keeps starts line_at awaits room routed tie peopled hears sent joined w =
+      as_is most next (Ticking_devices (place + 1) count ticks) m event _ is to (λ later. inl (ticks_wait airs these many laws whole n most marked node place count ticks m drawn route step (joined n marked) awaits.awaits w))
+  event_waits (Ticking_chip ticks) next m event (is, to) may step keeps starts line_at awaits room routed tie peopled hears sent joined w =
+      as_is most next (Ticking_decoder ticks) m event _ is to (λ later. inl (chip_waits airs these many laws whole n most marked node ticks m line_at later w))
+  event_waits (Ticking_decoder ticks) next m event (is, to) may step keeps starts line_at awaits room routed tie peopled hears sent joined w = as_is most next (Ticking_host _ ticks) m event _ is to (λ later. inl (unfinished_waits airs these many laws whole n most marked node ticks m w))
+  event_waits (Ticking_host (first ∷ events) ticks) next m event (is, to) may step keeps starts line_at awaits room routed tie peopled hears sent joined w =
       as_is most next (Ticking_host events ticks) m event _ is to
       (λ later.
-      inl (tick_event airs these many laws n most marked node first events ticks m line_at.0.0 line_at.1.at_host.turn_is peopled.facts.nodes.places
-      (lasts_of n most (Ticking_host (first ∷ events) ticks) m (peopled.facts.nodes.facts n) w) w))
-  event_waits (Sleeping passes ticks) next m event (k, wants, is, to) may plainly keeps go line_at awaits room routed tie peopled hears sent joined w =
-      as_is most next (Sleeping passes ticks) m event _ is to (λ later. inl (sleeps_wait airs these many n most marked node below passes ticks m k peopled.facts.nodes.places w))
-  event_waits (Submitting passes ticks) next m event (asked, next_is, is, to) may plainly keeps go line_at awaits room routed tie peopled hears sent joined w =
+      inl (tick_event airs these many laws whole n most marked node first events ticks m line_at.0.0 line_at.1.at_host.turn_is peopled.facts.nodes.places
+      (lasts_of whole n most (Ticking_host (first ∷ events) ticks) m (peopled.facts.nodes.facts n) w) w))
+  event_waits (Sleeping passes ticks) next m event (k, wants, is, to) may step keeps starts line_at awaits room routed tie peopled hears sent joined w =
+      as_is most next (Sleeping passes ticks) m event _ is to (λ later. inl (sleeps_wait airs these many whole n most marked node below passes ticks m k peopled.facts.nodes.places w))
+  event_waits (Submitting passes ticks) next m event (asked, next_is, is, to) may step keeps starts line_at awaits room routed tie peopled hears sent joined w =
       as_is most next (Submitting passes ticks) m event _ is to
       (λ later.
-      submits_wait airs these many n most marked node below passes ticks m asked next_is (subst (May m) is may) (plain_start these m asked (subst (May m) is may) peopled.facts go) peopled.facts.nodes.places
+      submits_wait airs these many whole n most marked node below passes ticks m asked next_is (subst (May m) is may) (starts asked is) peopled.facts.nodes.places
       (peopled.facts.nodes.facts n) w)
-  event_waits (Moving passes ticks) next m event (rest, ways, is, to) may plainly keeps go line_at awaits room routed tie peopled hears sent joined w =
+  event_waits (Moving passes ticks) next m event (rest, ways, is, to) may step keeps starts line_at awaits room routed tie peopled hears sent joined w =
       let takes : Event = Outside_does (Chip_takes (length m.outside.outer.to_chip.bytes) rest ways) in
       as_is most next (Moved true passes ticks) m event _ is to
       (λ later.
-      inl (takes_wait airs these many n most marked node below passes ticks m rest ways awaits (subst (May m) is may) line_at room tie later (subst (IsSentTo these m) is sent)
+      inl (takes_wait airs these many whole n most marked node below passes ticks m rest ways awaits (subst (May m) is may) line_at room tie later (subst (IsSentTo these m) is sent)
       (λ asks. request_airs airs m awaits n (session_of n m) below asks these marked passes rest ways (subst (May m) is may) line_at room tie peopled) w))
-  event_waits (Moved b passes ticks) next m event (rest, items, done, is, to) may plainly keeps go line_at awaits room routed tie peopled hears sent joined w =
+  event_waits (Moved b passes ticks) next m event (rest, items, done, is, to) may step keeps starts line_at awaits room routed tie peopled hears sent joined w =
       let takes : Event = Host_takes (length m.outside.outer.to_host.bytes) rest items done in
       as_is most next (Sleeping passes ticks) m event _ is to
       (λ later.
-      inl (judges_wait airs these many n most marked node below b passes ticks m rest items done (subst (May m) is may) line_at tie (subst KeepsAll is keeps) peopled.facts.nodes.places (peopled.facts.nodes.facts n) w))
-  event_waits here next m event goes may plainly keeps go line_at awaits room routed tie peopled hears sent joined w = absurd goes
+      inl (judges_wait airs these many whole n most marked node below b passes ticks m rest items done (subst (May m) is may) line_at tie (subst KeepsAll is keeps) peopled.facts.nodes.places (peopled.facts.nodes.facts n) w))
+  event_waits here next m event goes may step keeps starts line_at awaits room routed tie peopled hears sent joined w = absurd goes
 
   -- ---- and with no event
 
   stays : (here next : Phase) (m : Machine) → NoMore n here next → (IsAsking here → ⊥) → ((left : ℕ) → Fits n (many_on_air m) here left next left)
-      → ((left : ℕ) (at : IsBusy n (session_of n m) m.outside.devices) → IsNearEnd n (session_of n m) left here m.outside.devices at → Coming n (session_of n m) left next m) → WaitsFor n most here m → WaitsFor n most next m
+      → ((left : ℕ) (at : IsBusy n (session_of n m) m.outside.devices) → IsNearEnd n (session_of n m) left here m.outside.devices at → Coming n (session_of n m) left next m) → WaitsFor whole n most here m → WaitsFor whole n most next m
   stays here next m less none fits works w =
-      turn_waits n most here next less m
+      turn_waits whole n most here next less m
       (λ left comes. carry n (session_of n m) left left here next m m (λ asking asks six. absurd (none asking)) (works left) (same_adds m.outside.outer m.outside.outer refl) (λ x has. has) (fits left) comes) w
 
-  to_is : (next to : Phase) (m : Machine) → next ≡ to → WaitsFor n most to m → WaitsFor n most next m
-  to_is next to m same w = subst (λ (q : Phase). WaitsFor n most q m) (sym same) w
+  to_is : (next to : Phase) (m : Machine) → next ≡ to → WaitsFor whole n most to m → WaitsFor whole n most next m
+  to_is next to m same w = subst (λ (q : Phase). WaitsFor whole n most q m) (sym same) w
 
   simply : (here next : Phase) (m : Machine) → (IsAsking here → ⊥) → ((place : ℕ) → ticks_left next + one_later next place ≤ ticks_left here + one_later here place) → ticks_left next ≤ ticks_left here
-      → ((place : ℕ) → ticks_left next + has_ticked next place ≤ ticks_left here + has_ticked here place) → NoMore n here next → WaitsFor n most here m → WaitsFor n most next m
+      → ((place : ℕ) → ticks_left next + has_ticked next place ≤ ticks_left here + has_ticked here place) → NoMore n here next → WaitsFor whole n most here m → WaitsFor whole n most next m
   simply here next m none joint alone near less w = stays here next m less none (λ left. still_fits n (many_on_air m) left here next joint alone) (λ left. busy_still n (session_of n m) left here next m m refl near) w
 
   -- a settling is over, and the line rests
-  pumped_waits : (passes ticks : ℕ) (m : Machine) → LineAt (after_pump passes ticks) m → WaitsFor n most (Submitting passes ticks) m → WaitsFor n most (after_pump passes ticks) m
-  pumped_waits zero ticks m rests w = turn_waits n most (Submitting zero ticks) (To_tick ticks) (omega arith) m goes w
+  pumped_waits : (passes ticks : ℕ) (m : Machine) → LineAt (after_pump passes ticks) m → WaitsFor whole n most (Submitting passes ticks) m → WaitsFor whole n most (after_pump passes ticks) m
+  pumped_waits zero ticks m rests w = turn_waits whole n most (Submitting zero ticks) (To_tick ticks) (omega arith) m goes w
     where
       goes : (left : ℕ) → Coming n (session_of n m) left (Submitting zero ticks) m → Coming n (session_of n m) left (To_tick ticks) m
       goes left (Asked asking asks six) = absurd (let wrong = sym (ap on_line rests.at_host.turn_is) ∙ asks.frame in cc)
@@ -220,23 +220,23 @@ module _ (airs : Airs) (these : List Bool) (many : length these ≡ 233) (laws :
       goes left (At_work at few) = At_work at (omega (arith, few))
       goes left (Told payload tells has few) = absurd (subst (Has (brings n payload)) (rests_unheard m rests) has)
   pumped_waits (suc passes) ticks m rests w =
-      turn_waits n most (Submitting (suc passes) ticks) (Moving passes ticks) (omega arith) m
+      turn_waits whole n most (Submitting (suc passes) ticks) (Moving passes ticks) (omega arith) m
       (λ left comes.
       carry n (session_of n m) left left (Submitting (suc passes) ticks) (Moving passes ticks) m m (λ asking asks six. Asked tt asks six)
       (busy_still n (session_of n m) left (Submitting (suc passes) ticks) (Moving passes ticks) m m refl (λ place. omega arith)) (same_adds m.outside.outer m.outside.outer refl) (λ x has. has)
       (still_fits n (many_on_air m) left (Submitting (suc passes) ticks) (Moving passes ticks) (λ place. omega arith) (omega arith)) comes)
       w
 
-  still_waits : (passes ticks : ℕ) (m : Machine) → TieOf true m (on_line m.host.state.side.turn) → TieOf true m [] → WaitsFor n most (Moving passes ticks) m → WaitsFor n most (Moved false passes ticks) m
+  still_waits : (passes ticks : ℕ) (m : Machine) → TieOf true m (on_line m.host.state.side.turn) → TieOf true m [] → WaitsFor whole n most (Moving passes ticks) m → WaitsFor whole n most (Moved false passes ticks) m
   still_waits passes ticks m tie later w =
-      turn_waits n most (Moving passes ticks) (Moved false passes ticks) (omega arith) m
+      turn_waits whole n most (Moving passes ticks) (Moved false passes ticks) (omega arith) m
       (λ left comes.
-      carry n (session_of n m) left left (Moving passes ticks) (Moved false passes ticks) m m (λ asking asks six. absurd (none_asked n (session_of n m) m asks tie later))
+      carry n (session_of n m) left left (Moving passes ticks) (Moved false passes ticks) m m (λ asking asks six. absurd (none_asked m asks.request asks.under_way asks.frame tie later))
       (busy_still n (session_of n m) left (Moving passes ticks) (Moved false passes ticks) m m refl (λ place. omega arith)) (same_adds m.outside.outer m.outside.outer refl) (λ x has. has)
       (still_fits n (many_on_air m) left (Moving passes ticks) (Moved false passes ticks) (λ place. omega arith) (omega arith)) comes)
       w
 
-  arriving_waits : (ticks : ℕ) (m : Machine) → Awaits m → WaitsFor n most (Ticked ticks) m → WaitsFor n most (Arriving (m.outside.outer.air.frames.sent - m.outside.outer.air.frames.landed) ticks) m
+  arriving_waits : (ticks : ℕ) (m : Machine) → Awaits m → WaitsFor whole n most (Ticked ticks) m → WaitsFor whole n most (Arriving (m.outside.outer.air.frames.sent - m.outside.outer.air.frames.landed) ticks) m
   arriving_waits ticks m is w =
       stays (Ticked ticks) (Arriving (m.outside.outer.air.frames.sent - m.outside.outer.air.frames.landed) ticks) m (omega arith) (λ a. a)
       (λ left. record {
@@ -248,20 +248,20 @@ module _ (airs : Airs) (these : List Bool) (many : length these ≡ 233) (laws :
       })
       (λ left. busy_still n (session_of n m) left (Ticked ticks) (Arriving (m.outside.outer.air.frames.sent - m.outside.outer.air.frames.landed) ticks) m m refl (λ place. omega arith)) w
 
-  giving_waits : (results ticks : ℕ) (m : Machine) → WaitsFor n most (Arriving zero ticks) m → WaitsFor n most (Giving results ticks) m
+  giving_waits : (results ticks : ℕ) (m : Machine) → WaitsFor whole n most (Arriving zero ticks) m → WaitsFor whole n most (Giving results ticks) m
   giving_waits results ticks m w =
       stays (Arriving zero ticks) (Giving results ticks) m (omega arith) (λ a. a) (λ left. record { joint = λ place less. let late = never_sooner place in omega (arith, late); alone = omega arith })
       (λ left. busy_still n (session_of n m) left (Arriving zero ticks) (Giving results ticks) m m refl (λ place. omega arith)) w
 
   -- the devices are to tick
-  devices_wait : (ticks : ℕ) (m : Machine) → WaitsFor n most (Giving zero ticks) m → WaitsFor n most (Ticking_devices 0 (length m.outside.devices) ticks) m
+  devices_wait : (ticks : ℕ) (m : Machine) → WaitsFor whole n most (Giving zero ticks) m → WaitsFor whole n most (Ticking_devices 0 (length m.outside.devices) ticks) m
   devices_wait ticks m w =
       stays (Giving zero ticks) (Ticking_devices 0 (length m.outside.devices) ticks) m (omega arith) (λ a. a)
       (λ left. still_fits n (many_on_air m) left (Giving zero ticks) (Ticking_devices 0 (length m.outside.devices) ticks) (λ place. omega arith) (omega arith)) (λ left at few.
       At_work at
       (to_tick (unless_ticking (nat_le 0 at.place && nat_lt at.place (0 + length m.outside.devices))) at.device.work_left left (none_ticked (length m.outside.devices) at.place (place_within m.outside.devices at.place at.device at.stands)) few)) w
 
-  pub turns_wait : (here next : Phase) (m : Machine) → Turns here m next → AwaitsAt here m → TieAt here m → LineAt next m → TieAt next m → WaitsFor n most here m → WaitsFor n most next m
+  pub turns_wait : (here next : Phase) (m : Machine) → Turns here m next → AwaitsAt here m → TieAt here m → LineAt next m → TieAt next m → WaitsFor whole n most here m → WaitsFor whole n most next m
   turns_wait (Begun line) next m (inl (events, is, same)) awaits tie line_next tie_next w = to_is next (Doing line events) m same (simply (Begun line) (Doing line events) m (λ a. a) (λ place. omega arith) (omega arith) (λ place. omega arith) (omega arith) w)
   turns_wait (Begun line) next m (inr (ticks, is, same)) awaits tie line_next tie_next w = to_is next (To_tick ticks) m same (simply (Begun line) (To_tick ticks) m (λ a. a) (λ place. omega arith) (omega arith) (λ place. omega arith) (omega arith) w)
   turns_wait (Doing line []) next m same awaits tie line_next tie_next w = to_is next (Sleeping 64 0) m same (simply (Doing line []) (Sleeping 64 0) m (λ a. a) (λ place. omega arith) (omega arith) (λ place. omega arith) (omega arith) w)
@@ -282,13 +282,13 @@ module _ (airs : Airs) (these : List Bool) (many : length these ≡ 233) (laws :
       to_is next (Sleeping (passes_after b passes) ticks) m same (simply (Moved b passes ticks) (Sleeping (passes_after b passes) ticks) m (λ a. a) (λ place. omega arith) (omega arith) (λ place. omega arith) (omega arith) w)
   turns_wait here next m turns awaits tie line_next tie_next w = absurd turns
 
-  pub said_waits : (line : Line) (m : Machine) → WaitsFor n most Between m → WaitsFor n most (Said_line line) m
+  pub said_waits : (line : Line) (m : Machine) → WaitsFor whole n most Between m → WaitsFor whole n most (Said_line line) m
   said_waits line m w = simply Between (Said_line line) m (λ a. a) (λ place. omega arith) (omega arith) (λ place. omega arith) (omega arith) w
 
 -- ---- the walk
 
 node_in_time : (these : List Bool) (here : Phase) (m : Machine) (n : ℕ) → NodeFacts (node_of m.host.state n) → AllWaitFor these here m → KnowsWorkers these m.host.state → (is_marked these n ≡ true) ⊎ (is_marked these n ≡ false) → (node_of m.host.state n).attempt_wait ≢ 1
-node_in_time these here m n facts all knows (inl marked) = lasts_of n 6 here m facts (all n marked)
+node_in_time these here m n facts all knows (inl marked) = lasts_of true n 6 here m facts (all n marked)
 node_in_time these here m n facts all knows (inr other) = idle_lasts (node_of m.host.state n) facts (knows.others n other).idle
 
 pub in_time : (these : List Bool) (here : Phase) (past : List Entry) (m : Machine) (event : Event) → IsKeptFor these past → KnowWaits these here past m → IsInTime m event
@@ -313,18 +313,19 @@ pub record Hearing (these : List Bool) : Type 0 where
       → (is : HasSleeper n m.outside.devices) → (later : HasSleeper n (happens m event).outside.devices) → SleeperAt n is.device here past m → SleeperAt n later.device next (past ++ entries m event) (happens m event)
   pub stays : (n : ℕ) (m : Machine) (event : Event) → HasSleeper n m.outside.devices → HasSleeper n (happens m event).outside.devices
 
-module _ (airs : Airs) (these : List Bool) (many : length these ≡ 233) (none : is_marked these 0 ≡ false) (laws : Devices) (ears : Hearing these) (staff : WalkWhere IsHeardThen AsksNothing (KnowStaff these)) where
-  joined_on : (here next : Phase) (m : Machine) (event : Event) → Goes here m event next → LineAt here m → May m event → AreInAir these m → AreInAir these (happens m event)
-  joined_on here next m event goes at may joined n marked =
-      let same : members (happens m event).outside.outer ≡ members m.outside.outer = event_members (members m.outside.outer) m event (covers_of here next m event goes at) may refl in
-      ap (λ (ms : Members). slice_index_or ms.in_air n false) same ∙ joined n marked
+-- each of these stays joined in the air
+pub joined_on : (these : List Bool) (here next : Phase) (m : Machine) (event : Event) → Goes here m event next → LineAt here m → May m event → AreInAir these m → AreInAir these (happens m event)
+joined_on these here next m event goes at may joined n marked =
+    let same : members (happens m event).outside.outer ≡ members m.outside.outer = event_members (members m.outside.outer) m event (covers_of here next m event goes at) may refl in
+    ap (λ (ms : Members). slice_index_or ms.in_air n false) same ∙ joined n marked
 
+module _ (airs : Airs) (these : List Bool) (many : length these ≡ 233) (none : is_marked these 0 ≡ false) (laws : Devices) (ears : Hearing these) (staff : WalkWhere IsHeardThen AsksNothing (KnowStaff these)) where
   six_most : (here : Phase) → most_then 6 here ≤ 6
   six_most (To_tick (suc ticks)) = omega arith
   six_most here = omega arith
 
-  with_six : (n : ℕ) (here next : Phase) (m : Machine) (event : Event) → WaitsFor n (most_then 6 here) next (happens m event) ⊎ (((node_of m.host.state n).series ≡ series.Due) × WaitsFor n 6 next (happens m event)) → WaitsFor n 6 next (happens m event)
-  with_six n here next m event (inl w) = later_waits n (most_then 6 here) 6 next (happens m event) (six_most here) w
+  with_six : (n : ℕ) (here next : Phase) (m : Machine) (event : Event) → WaitsFor true n (most_then 6 here) next (happens m event) ⊎ (((node_of m.host.state n).series ≡ series.Due) × WaitsFor true n 6 next (happens m event)) → WaitsFor true n 6 next (happens m event)
+  with_six n here next m event (inl w) = later_waits true n (most_then 6 here) 6 next (happens m event) (six_most here) w
   with_six n here next m event (inr (due, w)) = w
 
   -- ---- what is known at an event
@@ -402,10 +403,11 @@ module _ (airs : Airs) (these : List Bool) (many : length these ≡ 233) (none :
       record {
         waits = λ n marked.
             with_six n here next m event
-            (event_waits airs these many laws n 6 marked (node_within these many none n marked) here next m event goes may has.0 (keeps m event (told_kept these past (entries m event) is)) was.whole tied.0 tied.1 tied.2 tied.3 tied.6 tied.7
+            (event_waits airs these many laws true n 6 marked (node_within these many none n marked) here next m event goes may (has.0 n marked).step (keeps m event (told_kept these past (entries m event) is))
+            (λ asked same. plain_start these m asked (subst (May m) same may) tied.7.facts was.whole) tied.0 tied.1 tied.2 tied.3 tied.6 tied.7
             (heard_then here past m event before known) sent was.joined (was.waits n marked) next_tied.0);
         whole = on_whole these here next m event goes tied.0 may (λ n marked. (was.waits n marked).openly) has.0 was.whole;
-        joined = joined_on here next m event goes tied.0 may was.joined;
+        joined = joined_on these here next m event goes tied.0 may was.joined;
         hears = hears_on here next past m event goes may has is known was.hears;
       }
 
@@ -417,7 +419,7 @@ module _ (airs : Airs) (these : List Bool) (many : length these ≡ 233) (none :
           let was = known (kept_before these past (entry.Said words ∷ []) is) in (
             (staff.said past m words line read (λ worked. was.0)).1 is.worked,
             record {
-              waits = λ n marked. said_waits airs these many laws n 6 marked (node_within these many none n marked) line m (was.1.waits n marked);
+              waits = λ n marked. said_waits airs these many laws true n 6 marked (node_within these many none n marked) line m (was.1.waits n marked);
               whole = was.1.whole;
               joined = was.1.joined;
               hears = hears_said past m words line read is was.1.hears;
@@ -438,7 +440,7 @@ module _ (airs : Airs) (these : List Bool) (many : length these ≡ 233) (none :
         let next_tied = (later.0.0 stretched).0.tied stretched.quiet in (
           later,
           record {
-            waits = λ n marked. turns_wait airs these many laws n 6 marked (node_within these many none n marked) here next m turns tied.1 tied.6 next_tied.0 next_tied.6 (was.1.waits n marked);
+            waits = λ n marked. turns_wait airs these many laws true n 6 marked (node_within these many none n marked) here next m turns tied.1 tied.6 next_tied.0 next_tied.6 (was.1.waits n marked);
             whole = was.1.whole;
             joined = was.1.joined;
             hears = hears_turn here next past m turns tied.0 was.1.hears;

@@ -1,9 +1,57 @@
+mod Untold
 mod Stepping
 mod Answered
 mod Sleepers
+mod Completes
 mod StayingUp
 mod PartsAnswered
+mod PartsHeard
+mod PartsLanded
+mod PartsCarried
+mod PartsFlying
+mod PartsArrived
+mod PartsTaken
+mod PartsGiven
+mod PartsArriving
+mod PartsBegun
+mod PartsKept
+mod PartsPhases
+mod PartsSteps
+mod PartsHosted
+mod PartsSubmitted
+mod PartsStarted
+mod PartsMoved
+mod PartsCalm
+mod PartsJudged
+mod PartsInStep
+mod PartsDue
+mod PartsAround
+mod PartsRuns
+mod PartsGoing
+mod RunsStill
+mod PartsWaits
+mod PartsSupplied
+mod PartsBegins
+mod TrailDevices
+mod OpenSpeaks
+mod OpenBeside
+mod TrailOut
+mod TrailQuiet
+mod TrailAsked
+mod OpenSteps
+mod TrailSteps
+mod OpenWaits
 mod Reported
+mod SealedReports
+mod SealedHosts
+mod ExchangeHosts
+mod JudgedAmong
+mod ExchangeOwedHost
+mod ExchangeJudged
+mod ExchangeOwed
+mod FarWaits
+mod ExchangeRuns
+mod ExchangeWalk
 mod NodeWaits
 mod Grown
 mod Landed
@@ -12,13 +60,21 @@ mod Busy
 mod Carried
 mod Bounded
 mod Settled
+mod ExchangeWaysAround
+mod ExchangeHome
+mod ExchangeAlone
 mod Aired
 mod QuietPhases
 pub mod Commands
 mod GoingWhole
+mod GoingSealed
+mod SealedOrders
 mod PlainKinds
 mod Keeping
 mod Lasting
+mod ExchangeKept
+mod ExchangeOut
+mod ExchangeWays
 pub mod Spoken
 mod InHand
 mod Retried
@@ -26,9 +82,13 @@ mod Served
 mod InTurn
 mod Plainly
 mod Queued
+mod ExchangeRests
 mod Rising
 mod Rousing
 mod Serving
+mod Counting
+mod PlainGround
+mod OpenGround
 mod Nearing
 mod RequestStays
 mod AskedSo
@@ -36,6 +96,7 @@ pub mod Lively
 pub mod Until
 pub mod Asking
 mod Accepted
+mod Counted
 pub mod Endings
 mod LastOrder
 mod BegunBefore
@@ -44,6 +105,15 @@ mod FromFirst
 mod JudgedSessions
 mod JudgedCourses
 mod LockSteps
+mod LockAnswers
+mod LockLabels
+mod ExchangeSteps
+mod ExchangeFits
+mod ExchangeGiven
+mod ExchangeStays
+mod LockWaits
+mod LockWalk
+mod LockGround
 mod JudgedRuns
 pub mod JudgedOutcomes
 mod HandFree

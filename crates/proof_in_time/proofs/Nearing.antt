@@ -1,5 +1,5 @@
 -- From phase to phase an open session comes nearer to its end, with each tick that begins.
-use Rattle.std.proofs.Common.{◌≡◌, ◌≢◌, ◌≤◌, ◌<◌, ℕ, suc, ◌+◌, ◌-◌, inl, inr, Bool, true, false, if◌then◌else◌, List, [], ◌∷◌, ◌++◌, length, refl, sym, ap, ◌∙◌, subst, arith}
+use Rattle.std.proofs.Common.{◌≡◌, ◌≢◌, ◌≤◌, ◌<◌, ℕ, suc, ◌+◌, ◌-◌, inl, inr, Bool, true, false, if◌then◌else◌, List, [], ◌∷◌, ◌++◌, length, refl, sym, ap, subst, arith}
 use Rattle.std.specs.Prelude.{◌⊎◌, Option, Some, None, IsSome}
 use Rattle.std.specs.List.{AllByRecursion}
 use Rattle.zw_text.specs.declared.entry.Entry.{Entry}
@@ -8,7 +8,7 @@ use Rattle.zw_text.specs.declared.line.Line.{Line}
 use Rattle.zw_text.specs.Transcript.{line_of}
 use Rattle.serial_frame.specs.Stream.{Rest}
 use Rattle.serial_frame.specs.declared.item.Item.{Item}
-use Rattle.supervision.specs.Host.{begun_of, open_session}
+use Rattle.supervision.specs.Host.{open_session}
 use Rattle.chip_functions.specs.Field.{IsNode}
 use Rattle.chip_sim.specs.Nodes.{is_marked}
 use Rattle.host_node.specs.Search.{next_of}
@@ -35,48 +35,42 @@ use Rattle.proof_answered.specs.proof_calm.Routed.{IsRouted}
 use Rattle.proof_answered.specs.proof_calm.Tied.{IsPeopled, IsTied, PumpedAt, RoomAt, TieAt, unheard}
 use Rattle.proof_answered.specs.FirstAttempts.{IsInTime}
 use Rattle.proof_answered.specs.Heard.{AllSayHeard}
-use Rattle.proof_answered.proofs.AwakeNodes.{all_heard}
 use Rattle.proof_answered.proofs.FirstWalk.{first_on}
-use Rattle.proof_answered.proofs.Outwards.{awaits_of}
 use Rattle.proof_answered.proofs.Peopled.{takes_are}
 use Rattle.proof_answered.proofs.TurnOrder.{comes_no_later, turn_least, turn_most}
 use Rattle.proof_answered.proofs.Unmarked.{nothing_asked}
 use Rattle.proof_answered.proofs.proof_traffic_Parts.{Airs}
-use Rattle.proof_answered.proofs.Speaking.{Same}
-use Rattle.proof_answered.proofs.Staffing.{sent_on}
 use Rattle.proof_answered.specs.Turns.{turn_of}
-use Rattle.proof_answered.specs.Outward.{IsSentTo}
-use Rattle.proof_answered.specs.Workers.{IsFromSaying, KnowWorkers, KnowsWorkers, Staffed}
-use Rattle.proof_messages.specs.Reporting.{TellsPlainly}
+use Rattle.proof_answered.specs.Workers.{AllFrom, IsFrom, KnowWorkers, KnowsWorkers, Staffed}
 use Rattle.proof_spoken.proofs.Keeping.{GivesNoPart}
-use Rattle.proof_in_time.specs.Coming.{AreWaiting, IsKeptFor, WaitsFor}
-use Rattle.proof_in_time.specs.Plainly.{SpeakPlainly}
-use Rattle.proof_in_time.specs.Sleeping.{ComesUp, IsPlainlyUp}
-use Rattle.proof_in_time.specs.InHand.{ComesAfter, HasEnded, IsInHand, Opened, RestsBefore, Serves, Unopened, ticks_begun, ticks_blocked, ticks_enough, ticks_of_all}
-use Rattle.proof_in_time.proofs.Bounded.{Devices, either_node, some_left}
-use Rattle.proof_in_time.proofs.InHand.{Due, Ended, EndsLater, Goes_on, HandAt, HasTurn, Idles, KeptLaws, Rests, Runs, Sleeps_on, event_hand, later_hand_as, later_kept, turn_left}
-use Rattle.proof_in_time.proofs.InTurn.{ComesTo, In_turn, IsOwed, Owed, no_part, owed_on, owed_turn, seven_left}
+use Rattle.proof_in_time.specs.Coming.{IsKeptFor}
+use Rattle.proof_in_time.specs.Sleeping.{ComesUp}
+use Rattle.proof_in_time.specs.InHand.{ComesAfter, HasEnded, IsInHand, Opened, RestsBefore, Unopened, ticks_begun, ticks_blocked, ticks_enough, ticks_of_all}
+use Rattle.proof_in_time.proofs.Bounded.{either_node}
+use Rattle.proof_in_time.proofs.InHand.{Due, Ended, EndsLater, Goes_on, HandAt, HasTurn, Idles, KeptLaws, Rests, Runs, Sleeps_on, event_hand, later_hand_as, later_kept}
+use Rattle.proof_in_time.specs.Owed.{IsOwed}
+use Rattle.proof_in_time.proofs.InTurn.{ComesTo, In_turn, Owed, no_part, none_owed, owed_on, owed_turn, turn_ticks}
 use Rattle.proof_in_time.proofs.Keeping.{kept_before, none_unkept, told_kept}
-use Rattle.proof_in_time.proofs.Lasting.{LaterOn, event_waits, in_time, keeps, most_then, said_waits, turns_wait}
+use Rattle.proof_in_time.proofs.Lasting.{most_then}
 use Rattle.proof_in_time.proofs.Retried.{held_on, own_tick_left, rests_on, rests_turn, ticks_then}
-use Rattle.proof_in_time.proofs.Rising.{HasRisen, IsServed, Risen, rests_at, serves_now}
-use Rattle.proof_in_time.proofs.Rousing.{come_on, some_up, up_said, up_turn}
+use Rattle.proof_in_time.proofs.Rising.{HasRisen, IsServed, Risen}
+use Rattle.proof_in_time.proofs.Rousing.{some_up, up_said}
+use Rattle.proof_in_time.proofs.Counting.{Ground, IsStep, IsTurn}
 use Rattle.proof_in_time.proofs.Served.{BeginsNone, BeginsNoTick, IsPartOf, ServesNext, each_no_part, event_clock, events_served, served_now, tick_clock}
-use Rattle.proof_in_time.proofs.Serving.{KnowServed, risen_on, risen_said, risen_turn}
 
--- an attempt of the node runs, and what it waits for comes within so many ticks
-pub record RunsOn (n ticks : ℕ) (here : Phase) (m : Machine) : Type 0 where
+-- an attempt of the node runs, and has its end within so many ticks
+pub record RunsOn (Within : ℕ → Phase → Machine → Type 0) (ticks : ℕ) (here : Phase) (m : Machine) : Type 0 where
   pub most : ℕ
-  pub waits : WaitsFor n most here m
+  pub waits : Within most here m
   pub few : most + 1 ≤ ticks
 
 -- the wait after a series is over, and the next one can begin, with ticks enough for its session and those that follow
-abbrev pub IsOverSoon : List Bool → ℕ → ℕ → ℕ → ℕ → Phase → Type 0
-IsOverSoon these n ticks more wait here = suc wait + (1 + ticks_of_all these (suc (suc more))) ≤ ticks + own_tick_left n here
+abbrev pub IsOverSoon : ℕ → List Bool → ℕ → ℕ → ℕ → ℕ → Phase → Type 0
+IsOverSoon long these n ticks more wait here = suc wait + (1 + ticks_of_all long these (suc (suc more))) ≤ ticks + own_tick_left n here
 
 -- the node is blocked until its tick, and then ticks enough are left for the sessions up to its own
-abbrev pub IsHeldSoon : List Bool → ℕ → ℕ → ℕ → Phase → Type 0
-IsHeldSoon these n ticks more here = 1 + ticks_of_all these (suc more) ≤ ticks + own_tick_left n here
+abbrev pub IsHeldSoon : ℕ → List Bool → ℕ → ℕ → ℕ → Phase → Type 0
+IsHeldSoon long these n ticks more here = 1 + ticks_of_all long these (suc more) ≤ ticks + own_tick_left n here
 
 abbrev pub Never : ℕ → Type 0
 Never more = ⊥
@@ -85,38 +79,38 @@ abbrev pub NeverRests : ℕ → ℕ → Type 0
 NeverRests more wait = ⊥
 
 -- the session of the command is over within so many ticks: those of the sessions that are to follow the one that is to begin or is open come after that
-abbrev pub EndsSoon : List Bool → ℕ → ℕ → ℕ → Phase → Machine → Type 0
-EndsSoon these n command ticks here m =
-    EndsLater command (λ (more : ℕ). ComesTo these n (ticks - ticks_of_all these more) here m) (λ (more : ℕ). RunsOn n (ticks - ticks_of_all these more) here m) (λ (more : ℕ). IsHeldSoon these n ticks more here)
-    (λ (more wait : ℕ). IsOverSoon these n ticks more wait here) Never (node_of m.host.state n)
+abbrev pub EndsSoon : (ℕ → Phase → Machine → Type 0) → ℕ → List Bool → ℕ → ℕ → ℕ → Phase → Machine → Type 0
+EndsSoon Within long these n command ticks here m =
+    EndsLater command (λ (more : ℕ). ComesTo long these n (ticks - ticks_of_all long these more) here m) (λ (more : ℕ). RunsOn Within (ticks - ticks_of_all long these more) here m) (λ (more : ℕ). IsHeldSoon long these n ticks more here)
+    (λ (more wait : ℕ). IsOverSoon long these n ticks more wait here) Never (node_of m.host.state n)
 
 -- so many ticks are enough for those sessions, once so many others have begun
-abbrev pub Enough : List Bool → ℕ → ℕ → ℕ → Type 0
-Enough these late ticks more = late + ticks_of_all these (suc more) ≤ ticks
+abbrev pub Enough : ℕ → List Bool → ℕ → ℕ → ℕ → Type 0
+Enough long these late ticks more = late + ticks_of_all long these (suc more) ≤ ticks
 
 -- whatever becomes of the node until then
-abbrev pub WaitsOn : List Bool → ℕ → ℕ → ℕ → NodeState → Type 0
-WaitsOn these command late ticks x = EndsLater command (Enough these late ticks) (Enough these late ticks) (Enough these late ticks) NeverRests (λ (more : ℕ). Enough these late ticks (suc more)) x
+abbrev pub WaitsOn : ℕ → List Bool → ℕ → ℕ → ℕ → NodeState → Type 0
+WaitsOn long these command late ticks x = EndsLater command (Enough long these late ticks) (Enough long these late ticks) (Enough long these late ticks) NeverRests (λ (more : ℕ). Enough long these late ticks (suc more)) x
 
 -- so it is; or the node was woken, and its Notification comes to the host within so many ticks, and one before that
-pub data Soon (listening : Bool) (these : List Bool) (n command ticks : ℕ) (here : Phase) (past : List Entry) (m : Machine) : Type 0 where
-  Wakes_soon : listening ≡ false → (left : ℕ) → ComesUp n left here m → WaitsOn these command (left + 1) ticks (node_of m.host.state n) → Soon listening these n command ticks here past m
-  Ends_soon : Risen listening n here past m → EndsSoon these n command ticks here m → Soon listening these n command ticks here past m
+pub data Soon (Within : ℕ → Phase → Machine → Type 0) (listening : Bool) (long : ℕ) (these : List Bool) (n command ticks : ℕ) (here : Phase) (past : List Entry) (m : Machine) : Type 0 where
+  Wakes_soon : listening ≡ false → (left : ℕ) → ComesUp n left here m → WaitsOn long these command (left + 1) ticks (node_of m.host.state n) → Soon Within listening long these n command ticks here past m
+  Ends_soon : Risen listening n here past m → EndsSoon Within long these n command ticks here m → Soon Within listening long these n command ticks here past m
 
 -- what is known beside: the session of the command is over within as many ticks as are left
-abbrev pub KnowSoon : Bool → List Bool → ℕ → ℕ → ℕ → Phase → List Entry → Machine → Type 0
-KnowSoon listening these n command most here past m = KnowServed listening these here past m × (IsKeptFor these past → Soon listening these n command (most - ticks_begun m) here past m)
+abbrev pub KnowSoon : (Phase → List Entry → Machine → Type 0) → (ℕ → Phase → Machine → Type 0) → Bool → ℕ → List Bool → ℕ → ℕ → ℕ → Phase → List Entry → Machine → Type 0
+KnowSoon Know Within listening long these n command most here past m = Know here past m × (IsKeptFor these past → Soon Within listening long these n command (most - ticks_begun m) here past m)
 
 -- ---- where the node may still be woken
 
-module _ (these : List Bool) (command late ticks : ℕ) where
-  pub waiting_kept : KeptLaws (WaitsOn these command late ticks)
+module _ (long : ℕ) (these : List Bool) (command late ticks : ℕ) where
+  pub waiting_kept : KeptLaws (WaitsOn long these command late ticks)
   waiting_kept =
-      later_kept command (Enough these late ticks) (Enough these late ticks) (Enough these late ticks) (λ more q. q) (λ more q. omega (arith, q)) (λ more q. omega (arith, q)) (λ more q. omega (arith, q)) (λ more q. q) NeverRests
-      (λ more wait w. w) (λ more wait w. absurd w) (λ more wait w. absurd w) (λ more wait w. absurd w) (λ (more : ℕ). Enough these late ticks (suc more)) (λ more s. s) (λ more s. s)
+      later_kept command (Enough long these late ticks) (Enough long these late ticks) (Enough long these late ticks) (λ more q. q) (λ more q. omega (arith, q)) (λ more q. omega (arith, q)) (λ more q. omega (arith, q)) (λ more q. q) NeverRests
+      (λ more wait w. w) (λ more wait w. absurd w) (λ more wait w. absurd w) (λ more wait w. absurd w) (λ (more : ℕ). Enough long these late ticks (suc more)) (λ more s. s) (λ more s. s)
 
   -- with other ticks, where these are enough
-  pub waiting_as : (then_late then_ticks : ℕ) (x : NodeState) → ((more : ℕ) → Enough these late ticks more → Enough these then_late then_ticks more) → WaitsOn these command late ticks x → WaitsOn these command then_late then_ticks x
+  pub waiting_as : (then_late then_ticks : ℕ) (x : NodeState) → ((more : ℕ) → Enough long these late ticks more → Enough long these then_late then_ticks more) → WaitsOn long these command late ticks x → WaitsOn long these command then_late then_ticks x
   waiting_as then_late then_ticks x with_more (Goes_on (Ended is)) = Goes_on (Ended is)
   waiting_as then_late then_ticks x with_more (Goes_on (Idles more none idle at d v)) = Goes_on (Idles more none idle at (λ is_free. with_more more (d is_free)) (λ is_blocked. with_more more (v is_blocked)))
   waiting_as then_late then_ticks x with_more (Goes_on (Due more session opened so at d v)) = Goes_on (Due more session opened so at (with_more more d) (λ is_blocked. with_more more (v is_blocked)))
@@ -125,17 +119,18 @@ module _ (these : List Bool) (command late ticks : ℕ) where
   waiting_as then_late then_ticks x with_more (Sleeps_on more down idle at s) = Sleeps_on more down idle at (with_more (suc more) s)
 
   -- once it has risen, its turn comes
-  pub waiting_ends : (n : ℕ) (here : Phase) (m : Machine) → IsNode n → 1 ≤ late → IsServed n m.host.state → WaitsFor n 6 here m → WaitsOn these command late ticks (node_of m.host.state n) → EndsSoon these n command ticks here m
-  waiting_ends n here m node some served six waits =
-      later_hand_as command (Enough these late ticks) (Enough these late ticks) (Enough these late ticks) (λ (more : ℕ). ComesTo these n (ticks - ticks_of_all these more) here m) (λ (more : ℕ). RunsOn n (ticks - ticks_of_all these more) here m)
-      (λ (more : ℕ). IsHeldSoon these n ticks more here) NeverRests (λ (more wait : ℕ). IsOverSoon these n ticks more wait here) (λ (more : ℕ). Enough these late ticks (suc more)) Never (node_of m.host.state n) (λ left. (served left).0)
-      (λ more has q. let most = turn_most these m.host.state.served n node.1 in In_turn (omega (arith, q, most))) (λ more so q. record { most = 6; waits = six; few = omega (arith, q) }) (λ more blocked q. omega (arith, q, some))
+  pub waiting_ends : (Within : ℕ → Phase → Machine → Type 0) (n : ℕ) (here : Phase) (m : Machine) → IsNode n → 1 ≤ late → IsServed n m.host.state → Within long here m → WaitsOn long these command late ticks (node_of m.host.state n)
+      → EndsSoon Within long these n command ticks here m
+  waiting_ends Within n here m node some served all waits =
+      later_hand_as command (Enough long these late ticks) (Enough long these late ticks) (Enough long these late ticks) (λ (more : ℕ). ComesTo long these n (ticks - ticks_of_all long these more) here m) (λ (more : ℕ). RunsOn Within (ticks - ticks_of_all long these more) here m)
+      (λ (more : ℕ). IsHeldSoon long these n ticks more here) NeverRests (λ (more wait : ℕ). IsOverSoon long these n ticks more wait here) (λ (more : ℕ). Enough long these late ticks (suc more)) Never (node_of m.host.state n) served.up
+      (λ more has q. let most = turn_most these m.host.state.served n node.1 in In_turn (omega (arith, q, most))) (λ more so q. record { most = long; waits = all; few = omega (arith, q) }) (λ more blocked q. omega (arith, q, some))
       (λ more wait idle again w. absurd w) waits
 
 -- ---- from phase to phase
 
-module _ (airs : Airs) (these : List Bool) (many : length these ≡ 233) (laws : Devices) (workers : (h : HostState) (k : ℕ) → KnowsWorkers these h → next_of h.nodes h.served ≡ Some k → is_marked these k ≡ true) (n : ℕ) (marked : is_marked these n ≡ true)
-    (node : IsNode n) (command : ℕ) where
+module _ (airs : Airs) (long : ℕ) (these : List Bool) (workers : (h : HostState) (k : ℕ) → KnowsWorkers these h → next_of h.nodes h.served ≡ Some k → is_marked these k ≡ true) (n : ℕ) (marked : is_marked these n ≡ true) (node : IsNode n) (command : ℕ)
+    (Within : ℕ → Phase → Machine → Type 0) where
   below : n < 233
   below = let few = node.1 in omega (arith, few)
 
@@ -188,54 +183,54 @@ module _ (airs : Airs) (these : List Bool) (many : length these ≡ 233) (laws :
   unfolding happens
   takes_passes m count rest items events none has rests = subst (λ (s : ℕ). turn_of these s n ≤ turn_of these m.host.state.served n) (sym (events_served m.host.state events none)) (omega arith)
 
-  passes_on : (here next : Phase) (m : Machine) (event : Event) → Goes here m event next → May m event → Tied_at here m → SpeakPlainly these m → Passes m event
-  passes_on (Said_line line) next m event (is, to) may at speak = as_passed m event _ is (outer_passes m Begins_line)
-  passes_on (Doing line (first ∷ left)) next m event (is, to) may at speak = as_passed m event first is (effect_passes m first at.0.0.0 at.7.facts (subst (May m) is may))
-  passes_on (To_tick (suc ticks)) next m event (is, to) may at speak = as_passed m event _ is (outer_passes m Begins_tick)
-  passes_on (Arriving (suc frames) ticks) next m event (drawn, route, is, to) may at speak = as_passed m event _ is (outer_passes m (Arrives drawn route))
-  passes_on (Giving (suc results) ticks) next m event (route, is, to) may at speak = as_passed m event _ is (outer_passes m (Gives route))
-  passes_on (Ticking_devices place (suc count) ticks) next m event (drawn, route, is, to) may at speak = as_passed m event _ is (outer_passes m (Device_ticks place drawn route))
-  passes_on (Ticking_chip ticks) next m event (is, to) may at speak = as_passed m event _ is (outer_passes m Chip_ticks)
-  passes_on (Ticking_decoder ticks) next m event (is, to) may at speak = as_passed m event _ is (decoder_passes m)
-  passes_on (Ticking_host (first ∷ events) ticks) next m event (is, to) may at speak = as_passed m event _ is (does_passes m first at.7.facts (subst (May m) is may))
-  passes_on (Sleeping passes ticks) next m event (k, wants, is, to) may at speak = as_passed m event _ is (does_passes m (no_more_event m.host.state k) at.7.facts (subst (May m) is may))
-  passes_on (Submitting passes ticks) next m event (asked, next_so, is, to) may at speak = as_passed m event _ is (does_passes m asked at.7.facts (subst (May m) is may))
-  passes_on (Moving passes ticks) next m event (rest, ways, is, to) may at speak = as_passed m event _ is (outer_passes m (Chip_takes (length m.outside.outer.to_chip.bytes) rest ways))
-  passes_on (Moved b passes ticks) next m event (rest, items, events, is, to) may at speak =
+  passes_on : (here next : Phase) (m : Machine) (event : Event) → Goes here m event next → May m event → Tied_at here m → AllFrom these (unheard m.outside.outer) → Passes m event
+  passes_on (Said_line line) next m event (is, to) may at pending = as_passed m event _ is (outer_passes m Begins_line)
+  passes_on (Doing line (first ∷ left)) next m event (is, to) may at pending = as_passed m event first is (effect_passes m first at.0.0.0 at.7.facts (subst (May m) is may))
+  passes_on (To_tick (suc ticks)) next m event (is, to) may at pending = as_passed m event _ is (outer_passes m Begins_tick)
+  passes_on (Arriving (suc frames) ticks) next m event (drawn, route, is, to) may at pending = as_passed m event _ is (outer_passes m (Arrives drawn route))
+  passes_on (Giving (suc results) ticks) next m event (route, is, to) may at pending = as_passed m event _ is (outer_passes m (Gives route))
+  passes_on (Ticking_devices place (suc count) ticks) next m event (drawn, route, is, to) may at pending = as_passed m event _ is (outer_passes m (Device_ticks place drawn route))
+  passes_on (Ticking_chip ticks) next m event (is, to) may at pending = as_passed m event _ is (outer_passes m Chip_ticks)
+  passes_on (Ticking_decoder ticks) next m event (is, to) may at pending = as_passed m event _ is (decoder_passes m)
+  passes_on (Ticking_host (first ∷ events) ticks) next m event (is, to) may at pending = as_passed m event _ is (does_passes m first at.7.facts (subst (May m) is may))
+  passes_on (Sleeping passes ticks) next m event (k, wants, is, to) may at pending = as_passed m event _ is (does_passes m (no_more_event m.host.state k) at.7.facts (subst (May m) is may))
+  passes_on (Submitting passes ticks) next m event (asked, next_so, is, to) may at pending = as_passed m event _ is (does_passes m asked at.7.facts (subst (May m) is may))
+  passes_on (Moving passes ticks) next m event (rest, ways, is, to) may at pending = as_passed m event _ is (outer_passes m (Chip_takes (length m.outside.outer.to_chip.bytes) rest ways))
+  passes_on (Moved b passes ticks) next m event (rest, items, events, is, to) may at pending =
       as_passed m event _ is
       (takes_passes m (length m.outside.outer.to_host.bytes) rest items events
-      (takes_are GivesNoPart (IsFromSaying these TellsPlainly) airs b passes m rest items events (each_no_part (IsFromSaying these TellsPlainly) m.outside.outer.chip.state.joined) (subst (May m) is may) at.0 at.6 speak.pending))
-  passes_on here next m event goes may at speak = absurd goes
+      (takes_are GivesNoPart (IsFrom these) airs b passes m rest items events (each_no_part (IsFrom these) m.outside.outer.chip.state.joined) (subst (May m) is may) at.0 at.6 pending))
+  passes_on here next m event goes may at pending = absurd goes
 
-  few_on : (here : Phase) (most ticks : ℕ) (m : Machine) → WaitsFor n most here m → (node_of m.host.state n).series ≡ series.Running → most + 1 ≤ ticks → most_then most here + 1 ≤ ticks_then ticks here
-  few_on (To_tick (suc more)) most ticks m w so few =
-      let b = w.bounded so in
-      let some = some_left airs these many laws n most marked node more (begun_of (node_of m.host.state n).book) b.left m b.comes in
-      let within = b.within in
-      omega (arith, some, within, few)
-  few_on here most ticks m w so few = few
+  -- some are left of an attempt that runs as a tick begins
+  abbrev SomeLeft : Machine → Type 0
+  SomeLeft m = (most ticks : ℕ) → Within most (To_tick (suc ticks)) m → 1 ≤ most
 
-  seven_on : (here : Phase) (ticks : ℕ) (m : Machine) → ComesTo these n ticks here m → 7 ≤ ticks_then ticks here
-  seven_on (To_tick (suc more)) ticks m (In_turn few) = let least = turn_least these m.host.state.served n marked in omega (arith, few, least)
-  seven_on (To_tick (suc more)) ticks m (Owed owed few) = absurd owed
-  seven_on here ticks m comes = seven_left these n ticks here m marked comes
+  few_on : (here : Phase) (most ticks : ℕ) (m : Machine) → Within most here m → SomeLeft m → most + 1 ≤ ticks → most_then most here + 1 ≤ ticks_then ticks here
+  few_on (To_tick (suc more)) most ticks m w some few = let one = some most more w in omega (arith, one, few)
+  few_on here most ticks m w some few = few
+
+  turn_on : (here : Phase) (ticks : ℕ) (m : Machine) → ComesTo long these n ticks here m → long + 1 ≤ ticks_then ticks here
+  turn_on (To_tick (suc more)) ticks m (In_turn few) = let least = turn_least these m.host.state.served n marked in omega (arith, few, least)
+  turn_on (To_tick (suc more)) ticks m (Owed owed few) = absurd owed
+  turn_on here ticks m comes = turn_ticks long these n ticks here m marked comes
 
   begins_comes : (ticks more : ℕ) (next : Phase) (m : Machine) (event : Event) → Goes (To_tick (suc more)) m event next → turn_of these (happens m event).host.state.served n ≤ turn_of these m.host.state.served n
-      → ComesTo these n ticks (To_tick (suc more)) m → ComesTo these n (ticks - 1) next (happens m event)
+      → ComesTo long these n ticks (To_tick (suc more)) m → ComesTo long these n (ticks - 1) next (happens m event)
   begins_comes ticks more next m event (is, to) passed (In_turn few) = Owed (subst (λ (q : Phase). IsOwed q (happens m event)) (sym to) tt) (omega (arith, passed, few))
   begins_comes ticks more next m event (is, to) passed (Owed owed few) = absurd owed
 
   comes_as : (ticks : ℕ) (here next : Phase) (m : Machine) (event : Event) → turn_of these (happens m event).host.state.served n ≤ turn_of these m.host.state.served n
-      → (IsOwed here m → IsOwed next (happens m event) ⊎ (turn_of these (happens m event).host.state.served n + 1 ≤ turn_of these m.host.state.served n)) → ComesTo these n ticks here m → ComesTo these n ticks next (happens m event)
+      → (IsOwed here m → IsOwed next (happens m event) ⊎ (turn_of these (happens m event).host.state.served n + 1 ≤ turn_of these m.host.state.served n)) → ComesTo long these n ticks here m → ComesTo long these n ticks next (happens m event)
   comes_as ticks here next m event passed owed_then (In_turn few) = In_turn (omega (arith, passed, few))
   comes_as ticks here next m event passed owed_then (Owed owed few) = by (owed_then owed)
     where
-      by : IsOwed next (happens m event) ⊎ (turn_of these (happens m event).host.state.served n + 1 ≤ turn_of these m.host.state.served n) → ComesTo these n ticks next (happens m event)
+      by : IsOwed next (happens m event) ⊎ (turn_of these (happens m event).host.state.served n + 1 ≤ turn_of these m.host.state.served n) → ComesTo long these n ticks next (happens m event)
       by (inl later) = Owed later (omega (arith, passed, few))
       by (inr nearer) = In_turn (omega (arith, nearer, few))
 
   comes_on : (ticks : ℕ) (here next : Phase) (m : Machine) (event : Event) → Goes here m event next → turn_of these (happens m event).host.state.served n ≤ turn_of these m.host.state.served n
-      → (IsOwed here m → IsOwed next (happens m event) ⊎ (turn_of these (happens m event).host.state.served n + 1 ≤ turn_of these m.host.state.served n)) → ComesTo these n ticks here m → ComesTo these n (ticks_then ticks here) next (happens m event)
+      → (IsOwed here m → IsOwed next (happens m event) ⊎ (turn_of these (happens m event).host.state.served n + 1 ≤ turn_of these m.host.state.served n)) → ComesTo long these n ticks here m → ComesTo long these n (ticks_then ticks here) next (happens m event)
   comes_on ticks (To_tick (suc more)) next m event goes passed owed_then comes = begins_comes ticks more next m event goes passed comes
   comes_on ticks here next m event goes passed owed_then comes = comes_as ticks here next m event passed owed_then comes
 
@@ -251,9 +246,9 @@ module _ (airs : Airs) (these : List Bool) (many : length these ≡ 233) (laws :
 
   -- a session is over, and the ticks of another are left
   abbrev HasMore : ℕ → ℕ → Type 0
-  HasMore ticks more = ticks_enough these ≤ ticks - ticks_of_all these more
+  HasMore ticks more = ticks_enough long these ≤ ticks - ticks_of_all long these more
 
-  has_more : (ticks more some : ℕ) → 1 ≤ some → some ≤ ticks - ticks_of_all these (suc more) → HasMore ticks more
+  has_more : (ticks more some : ℕ) → 1 ≤ some → some ≤ ticks - ticks_of_all long these (suc more) → HasMore ticks more
   has_more ticks more some least few = omega (arith, least, few)
 
   -- what is so of the node stays so
@@ -265,18 +260,18 @@ module _ (airs : Airs) (these : List Bool) (many : length these ≡ 233) (laws :
       later.hand
 
   soon_on : (ticks : ℕ) (here next : Phase) (m : Machine) (event : Event) → Goes here m event next → May m event → IsInTime m event → ((k : ℕ) → event ≡ Host_does (Begin_unkept k) → ⊥) → Tied_at here m → AllSayHeard (unheard m.outside.outer)
-      → KnowsWorkers these m.host.state → SpeakPlainly these m → Tied_at next (happens m event) → WaitsFor n 6 next (happens m event)
-      → ((most : ℕ) → WaitsFor n most here m → LaterOn airs these many laws n most marked node (most_then most here) next m event) → IsServed n m.host.state → IsServed n (happens m event).host.state → EndsSoon these n command ticks here m
-      → EndsSoon these n command (ticks_then ticks here) next (happens m event)
-  soon_on ticks here next m event goes may on_time kept at heard knows speak next_at six waits_on served then_served soon =
-      later_hand_as command D R V (λ (more : ℕ). ComesTo these n (ticks_then ticks here - ticks_of_all these more) next (happens m event)) (λ (more : ℕ). RunsOn n (ticks_then ticks here - ticks_of_all these more) next (happens m event))
-      (λ (more : ℕ). IsHeldSoon these n (ticks_then ticks here) more next) C (λ (more wait : ℕ). IsOverSoon these n (ticks_then ticks here) more wait next) Never Never (node_of (happens m event).host.state n) (λ left. (then_served left).0) due runs held rests later
+      → KnowsWorkers these m.host.state → AllFrom these (unheard m.outside.outer) → Tied_at next (happens m event) → Within long next (happens m event)
+      → ((node_of m.host.state n).series ≡ series.Running → SomeLeft m × ((most : ℕ) → Within most here m → Within (most_then most here) next (happens m event))) → IsServed n m.host.state → IsServed n (happens m event).host.state
+      → EndsSoon Within long these n command ticks here m → EndsSoon Within long these n command (ticks_then ticks here) next (happens m event)
+  soon_on ticks here next m event goes may on_time kept at heard knows pending next_at all waits_on served then_served soon =
+      later_hand_as command D R V (λ (more : ℕ). ComesTo long these n (ticks_then ticks here - ticks_of_all long these more) next (happens m event)) (λ (more : ℕ). RunsOn Within (ticks_then ticks here - ticks_of_all long these more) next (happens m event))
+      (λ (more : ℕ). IsHeldSoon long these n (ticks_then ticks here) more next) C (λ (more wait : ℕ). IsOverSoon long these n (ticks_then ticks here) more wait next) Never Never (node_of (happens m event).host.state n) then_served.up due runs held rests later
     where
       A : ℕ → Type 0
-      A more = HasTurn (node_of m.host.state n) × ComesTo these n (ticks - ticks_of_all these more) here m
+      A more = HasTurn (node_of m.host.state n) × ComesTo long these n (ticks - ticks_of_all long these more) here m
 
       B : ℕ → Type 0
-      B more = ((node_of m.host.state n).series ≡ series.Running) × RunsOn n (ticks - ticks_of_all these more) here m
+      B more = ((node_of m.host.state n).series ≡ series.Running) × RunsOn Within (ticks - ticks_of_all long these more) here m
 
       D : ℕ → Type 0
       D more = A more ⊎ HasMore (ticks_then ticks here) more
@@ -288,23 +283,23 @@ module _ (airs : Airs) (these : List Bool) (many : length these ≡ 233) (laws :
       old = (node_of m.host.state n).again_wait
 
       C : ℕ → ℕ → Type 0
-      C more wait = (old + (1 + ticks_of_all these (suc (suc more))) ≤ ticks + own_tick_left n here) × (suc wait ≤ old)
+      C more wait = (old + (1 + ticks_of_all long these (suc (suc more))) ≤ ticks + own_tick_left n here) × (suc wait ≤ old)
 
       -- it is blocked until its tick; or it is as if it were so after that
       V : ℕ → Type 0
-      V more = (((node_of m.host.state n).blocked ≡ true) × IsHeldSoon these n ticks more here) ⊎ (1 + ticks_of_all these (suc more) ≤ ticks_then ticks here)
+      V more = (((node_of m.host.state n).blocked ≡ true) × IsHeldSoon long these n ticks more here) ⊎ (1 + ticks_of_all long these (suc more) ≤ ticks_then ticks here)
 
       one : ticks + own_tick_left n here ≤ ticks_then ticks here + 1
       one = then_most ticks here
 
       turn_has : (more : ℕ) → A (suc more) → HasMore (ticks_then ticks here) more
       turn_has more (has, comes) =
-          has_more (ticks_then ticks here) more 7 (omega arith) (subst (λ (k : ℕ). 7 ≤ k) (then_less ticks (ticks_of_all these (suc more)) here) (seven_on here (ticks - ticks_of_all these (suc more)) m comes))
+          has_more (ticks_then ticks here) more (long + 1) (omega arith) (subst (λ (k : ℕ). long + 1 ≤ k) (then_less ticks (ticks_of_all long these (suc more)) here) (turn_on here (ticks - ticks_of_all long these (suc more)) m comes))
 
       ran_has : (more : ℕ) → B (suc more) → HasMore (ticks_then ticks here) more
       ran_has more (so, r) =
           has_more (ticks_then ticks here) more (most_then r.most here + 1) (omega arith)
-          (subst (λ (k : ℕ). most_then r.most here + 1 ≤ k) (then_less ticks (ticks_of_all these (suc more)) here) (few_on here r.most (ticks - ticks_of_all these (suc more)) m r.waits so r.few))
+          (subst (λ (k : ℕ). most_then r.most here + 1 ≤ k) (then_less ticks (ticks_of_all long these (suc more)) here) (few_on here r.most (ticks - ticks_of_all long these (suc more)) m r.waits (waits_on so).0 r.few))
 
       fewer_has : (more : ℕ) → HasMore (ticks_then ticks here) (suc more) → HasMore (ticks_then ticks here) more
       fewer_has more left = omega (arith, left)
@@ -338,72 +333,72 @@ module _ (airs : Airs) (these : List Bool) (many : length these ≡ 233) (laws :
       later : EndsLater command D R V C Never (node_of (happens m event).host.state n)
       later =
           run (EndsLater command D R V C Never) kept_laws here next m event goes may on_time kept at heard
-          (later_hand_as command (λ (more : ℕ). ComesTo these n (ticks - ticks_of_all these more) here m) (λ (more : ℕ). RunsOn n (ticks - ticks_of_all these more) here m) (λ (more : ℕ). IsHeldSoon these n ticks more here) D R V
-          (λ (more wait : ℕ). IsOverSoon these n ticks more wait here) C Never Never (node_of m.host.state n) (λ left. (served left).0) (λ more has comes. inl (has, comes)) (λ more so runs_on. inl (inl (so, runs_on))) (λ more blocked v. inl (blocked, v))
+          (later_hand_as command (λ (more : ℕ). ComesTo long these n (ticks - ticks_of_all long these more) here m) (λ (more : ℕ). RunsOn Within (ticks - ticks_of_all long these more) here m) (λ (more : ℕ). IsHeldSoon long these n ticks more here) D R V
+          (λ (more wait : ℕ). IsOverSoon long these n ticks more wait here) C Never Never (node_of m.host.state n) served.up (λ more has comes. inl (has, comes)) (λ more so runs_on. inl (inl (so, runs_on))) (λ more blocked v. inl (blocked, v))
           (λ more wait idle again w. (omega (arith, w, again), omega (arith, again))) soon)
 
-      rests : (more wait : ℕ) → (node_of (happens m event).host.state n).series ≡ series.Idle → (node_of (happens m event).host.state n).again_wait ≡ suc wait → C more wait → IsOverSoon these n (ticks_then ticks here) more wait next
-      rests more wait idle again (enough, fall) = rests_on n (node.0, below) ticks wait (1 + ticks_of_all these (suc (suc more))) here next m event goes on_time at.7.facts.nodes.places (omega arith) idle again fall enough
+      rests : (more wait : ℕ) → (node_of (happens m event).host.state n).series ≡ series.Idle → (node_of (happens m event).host.state n).again_wait ≡ suc wait → C more wait → IsOverSoon long these n (ticks_then ticks here) more wait next
+      rests more wait idle again (enough, fall) = rests_on n (node.0, below) ticks wait (1 + ticks_of_all long these (suc (suc more))) here next m event goes on_time at.7.facts.nodes.places (omega arith) idle again fall enough
 
-      held : (more : ℕ) → (node_of (happens m event).host.state n).blocked ≡ true → V more → IsHeldSoon these n (ticks_then ticks here) more next
-      held more later_so (inl (blocked, enough)) = held_on n (node.0, below) ticks (ticks_of_all these (suc more)) here next m event goes at.7.facts.nodes.places (omega arith) blocked later_so enough
+      held : (more : ℕ) → (node_of (happens m event).host.state n).blocked ≡ true → V more → IsHeldSoon long these n (ticks_then ticks here) more next
+      held more later_so (inl (blocked, enough)) = held_on n (node.0, below) ticks (ticks_of_all long these (suc more)) here next m event goes at.7.facts.nodes.places (omega arith) blocked later_so enough
       held more later_so (inr enough) = omega (arith, enough)
 
-      due : (more : ℕ) → HasTurn (node_of (happens m event).host.state n) → D more → ComesTo these n (ticks_then ticks here - ticks_of_all these more) next (happens m event)
+      due : (more : ℕ) → HasTurn (node_of (happens m event).host.state n) → D more → ComesTo long these n (ticks_then ticks here - ticks_of_all long these more) next (happens m event)
       due more then_has (inl (has, comes)) =
-          let passed = passes_on here next m event goes may at speak has then_has.0 in
-          subst (λ (k : ℕ). ComesTo these n k next (happens m event)) (then_less ticks (ticks_of_all these more) here)
-          (comes_on (ticks - ticks_of_all these more) here next m event goes passed
+          let passed = passes_on here next m event goes may at pending has then_has.0 in
+          subst (λ (k : ℕ). ComesTo long these n k next (happens m event)) (then_less ticks (ticks_of_all long these more) here)
+          (comes_on (ticks - ticks_of_all long these more) here next m event goes passed
           (λ owed.
-          owed_on airs these n marked node here next m event goes may at.0 at.2 at.6 next_at.0 next_at.6 (served (turn_left (node_of m.host.state n) has)).1 at.7.facts (λ k is_next. workers m.host.state k knows is_next) has then_has.0 owed) comes)
+          owed_on airs these n marked node here next m event goes may at.0 at.2 at.6 next_at.0 next_at.6 (served.empty has) at.7.facts (λ k is_next. workers m.host.state k knows is_next) has then_has.0 owed) comes)
       due more then_has (inr left) =
           let most = turn_most these (happens m event).host.state.served n node.1 in In_turn (omega (arith, left, most))
 
-      runs : (more : ℕ) → (node_of (happens m event).host.state n).series ≡ series.Running → R more → RunsOn n (ticks_then ticks here - ticks_of_all these more) next (happens m event)
+      runs : (more : ℕ) → (node_of (happens m event).host.state n).series ≡ series.Running → R more → RunsOn Within (ticks_then ticks here - ticks_of_all long these more) next (happens m event)
       runs more then_runs (inl (inr (has, comes))) =
-          record { most = 6; waits = six; few = subst (λ (k : ℕ). 7 ≤ k) (then_less ticks (ticks_of_all these more) here) (seven_on here (ticks - ticks_of_all these more) m comes) }
-      runs more then_runs (inl (inl (so, runs_on))) = by (waits_on runs_on.most runs_on.waits)
-        where
-          few : most_then runs_on.most here + 1 ≤ ticks_then ticks here - ticks_of_all these more
-          few = subst (λ (k : ℕ). most_then runs_on.most here + 1 ≤ k) (then_less ticks (ticks_of_all these more) here) (few_on here runs_on.most (ticks - ticks_of_all these more) m runs_on.waits so runs_on.few)
-
-          by : LaterOn airs these many laws n runs_on.most marked node (most_then runs_on.most here) next m event → RunsOn n (ticks_then ticks here - ticks_of_all these more) next (happens m event)
-          by (inl w) = record { most = most_then runs_on.most here; waits = w; few = few }
-          by (inr (was_due, w)) = absurd (let wrong : series.Due ≡ series.Running = sym was_due ∙ so in cc)
-      runs more then_runs (inr left) = record { most = 6; waits = six; few = omega (arith, left) }
+          record { most = long; waits = all; few = subst (λ (k : ℕ). long + 1 ≤ k) (then_less ticks (ticks_of_all long these more) here) (turn_on here (ticks - ticks_of_all long these more) m comes) }
+      runs more then_runs (inl (inl (so, runs_on))) =
+          record {
+            most = most_then runs_on.most here;
+            waits = (waits_on so).1 runs_on.most runs_on.waits;
+            few = subst (λ (k : ℕ). most_then runs_on.most here + 1 ≤ k) (then_less ticks (ticks_of_all long these more) here) (few_on here runs_on.most (ticks - ticks_of_all long these more) m runs_on.waits (waits_on so).0 runs_on.few);
+          }
+      runs more then_runs (inr left) = record { most = long; waits = all; few = omega (arith, left) }
 
   tied_before : (next : Phase) (m : Machine) → Tied_at next m → (ticks : ℕ) → next ≡ To_tick ticks → IsTied these m
   tied_before next m at ticks is =
       let x : Tied_at (To_tick ticks) m = subst (λ (q : Phase). Tied_at q m) is at in
       record { rests = x.0; awaits = x.1; routed = x.3; on_line = x.4; pumped = x.5; tie = x.6; peopled = x.7 }
 
-  soon_turn : (ticks : ℕ) (here next : Phase) (m : Machine) → Turns here m next → Tied_at here m → Tied_at next m → EndsSoon these n command ticks here m → IsServed n m.host.state → EndsSoon these n command ticks next m
-  soon_turn ticks here next m turns at next_at soon served =
-      later_hand_as command (λ (more : ℕ). ComesTo these n (ticks - ticks_of_all these more) here m) (λ (more : ℕ). RunsOn n (ticks - ticks_of_all these more) here m) (λ (more : ℕ). IsHeldSoon these n ticks more here)
-      (λ (more : ℕ). ComesTo these n (ticks - ticks_of_all these more) next m) (λ (more : ℕ). RunsOn n (ticks - ticks_of_all these more) next m) (λ (more : ℕ). IsHeldSoon these n ticks more next)
-      (λ (more wait : ℕ). IsOverSoon these n ticks more wait here) (λ (more wait : ℕ). IsOverSoon these n ticks more wait next) Never Never (node_of m.host.state n) (λ left. (served left).0) due runs
+  soon_turn : (ticks : ℕ) (here next : Phase) (m : Machine) → Turns here m next → Tied_at here m → Tied_at next m → ((most : ℕ) → Within most here m → Within most next m) → EndsSoon Within long these n command ticks here m → IsServed n m.host.state
+      → EndsSoon Within long these n command ticks next m
+  soon_turn ticks here next m turns at next_at waits_on soon served =
+      later_hand_as command (λ (more : ℕ). ComesTo long these n (ticks - ticks_of_all long these more) here m) (λ (more : ℕ). RunsOn Within (ticks - ticks_of_all long these more) here m) (λ (more : ℕ). IsHeldSoon long these n ticks more here)
+      (λ (more : ℕ). ComesTo long these n (ticks - ticks_of_all long these more) next m) (λ (more : ℕ). RunsOn Within (ticks - ticks_of_all long these more) next m) (λ (more : ℕ). IsHeldSoon long these n ticks more next)
+      (λ (more wait : ℕ). IsOverSoon long these n ticks more wait here) (λ (more wait : ℕ). IsOverSoon long these n ticks more wait next) Never Never (node_of m.host.state n) served.up due runs
       (λ more blocked v. let same = rests_turn n (node.0, below) here next m turns in omega (arith, v, same)) (λ more wait idle again w. let same = rests_turn n (node.0, below) here next m turns in omega (arith, w, same)) soon
     where
-      due : (more : ℕ) → HasTurn (node_of m.host.state n) → ComesTo these n (ticks - ticks_of_all these more) here m → ComesTo these n (ticks - ticks_of_all these more) next m
+      due : (more : ℕ) → HasTurn (node_of m.host.state n) → ComesTo long these n (ticks - ticks_of_all long these more) here m → ComesTo long these n (ticks - ticks_of_all long these more) next m
       due more has (In_turn few) = In_turn few
-      due more has (Owed owed few) = Owed (owed_turn airs these n marked node here next m turns at.0 at.1 (tied_before next m next_at) has owed) few
+      due more has (Owed owed few) = Owed (owed_turn airs these n marked node here next m turns at.0 at.1 (tied_before next m next_at) (λ tied free. none_owed airs these n marked node m tied has free) owed) few
 
-      runs : (more : ℕ) → (node_of m.host.state n).series ≡ series.Running → RunsOn n (ticks - ticks_of_all these more) here m → RunsOn n (ticks - ticks_of_all these more) next m
-      runs more so r = record { most = r.most; waits = turns_wait airs these many laws n r.most marked node here next m turns at.1 at.6 next_at.0 next_at.6 r.waits; few = r.few }
+      runs : (more : ℕ) → (node_of m.host.state n).series ≡ series.Running → RunsOn Within (ticks - ticks_of_all long these more) here m → RunsOn Within (ticks - ticks_of_all long these more) next m
+      runs more so r = record { most = r.most; waits = waits_on r.most r.waits; few = r.few }
 
-  soon_said : (ticks : ℕ) (line : Line) (m : Machine) → EndsSoon these n command ticks Between m → IsServed n m.host.state → EndsSoon these n command ticks (Said_line line) m
-  soon_said ticks line m soon served =
-      later_hand_as command (λ (more : ℕ). ComesTo these n (ticks - ticks_of_all these more) Between m) (λ (more : ℕ). RunsOn n (ticks - ticks_of_all these more) Between m) (λ (more : ℕ). IsHeldSoon these n ticks more Between)
-      (λ (more : ℕ). ComesTo these n (ticks - ticks_of_all these more) (Said_line line) m) (λ (more : ℕ). RunsOn n (ticks - ticks_of_all these more) (Said_line line) m) (λ (more : ℕ). IsHeldSoon these n ticks more (Said_line line))
-      (λ (more wait : ℕ). IsOverSoon these n ticks more wait Between) (λ (more wait : ℕ). IsOverSoon these n ticks more wait (Said_line line)) Never Never (node_of m.host.state n) (λ left. (served left).0) due runs (λ more blocked v. v)
+  soon_said : (ticks : ℕ) (line : Line) (m : Machine) → ((most : ℕ) → Within most Between m → Within most (Said_line line) m) → EndsSoon Within long these n command ticks Between m → IsServed n m.host.state
+      → EndsSoon Within long these n command ticks (Said_line line) m
+  soon_said ticks line m waits_on soon served =
+      later_hand_as command (λ (more : ℕ). ComesTo long these n (ticks - ticks_of_all long these more) Between m) (λ (more : ℕ). RunsOn Within (ticks - ticks_of_all long these more) Between m) (λ (more : ℕ). IsHeldSoon long these n ticks more Between)
+      (λ (more : ℕ). ComesTo long these n (ticks - ticks_of_all long these more) (Said_line line) m) (λ (more : ℕ). RunsOn Within (ticks - ticks_of_all long these more) (Said_line line) m) (λ (more : ℕ). IsHeldSoon long these n ticks more (Said_line line))
+      (λ (more wait : ℕ). IsOverSoon long these n ticks more wait Between) (λ (more wait : ℕ). IsOverSoon long these n ticks more wait (Said_line line)) Never Never (node_of m.host.state n) served.up due runs (λ more blocked v. v)
       (λ more wait idle again w. w) soon
     where
-      due : (more : ℕ) → HasTurn (node_of m.host.state n) → ComesTo these n (ticks - ticks_of_all these more) Between m → ComesTo these n (ticks - ticks_of_all these more) (Said_line line) m
+      due : (more : ℕ) → HasTurn (node_of m.host.state n) → ComesTo long these n (ticks - ticks_of_all long these more) Between m → ComesTo long these n (ticks - ticks_of_all long these more) (Said_line line) m
       due more has (In_turn few) = In_turn few
       due more has (Owed owed few) = absurd owed
 
-      runs : (more : ℕ) → (node_of m.host.state n).series ≡ series.Running → RunsOn n (ticks - ticks_of_all these more) Between m → RunsOn n (ticks - ticks_of_all these more) (Said_line line) m
-      runs more so r = record { most = r.most; waits = said_waits airs these many laws n r.most marked node line m r.waits; few = r.few }
+      runs : (more : ℕ) → (node_of m.host.state n).series ≡ series.Running → RunsOn Within (ticks - ticks_of_all long these more) Between m → RunsOn Within (ticks - ticks_of_all long these more) (Said_line line) m
+      runs more so r = record { most = r.most; waits = waits_on r.most r.waits; few = r.few }
 
   -- ---- ticks that have begun
 
@@ -439,127 +434,97 @@ module _ (airs : Airs) (these : List Bool) (many : length these ≡ 233) (laws :
   ticks_on most here next m event goes at = absurd goes
 
   -- as many ticks fewer are left, until the Notification comes too
-  later_enough : (here : Phase) (left ticks : ℕ) (m : Machine) → ComesUp n left here m → (more : ℕ) → Enough these (left + 1) ticks more → Enough these (ticks_then left here + 1) (ticks_then ticks here) more
+  later_enough : (here : Phase) (left ticks : ℕ) (m : Machine) → ComesUp n left here m → (more : ℕ) → Enough long these (left + 1) ticks more → Enough long these (ticks_then left here + 1) (ticks_then ticks here) more
   later_enough (To_tick (suc rest)) left ticks m comes more enough = let some = some_up n left rest m comes in omega (arith, some, enough)
   later_enough here left ticks m comes more enough = enough
 
   -- ---- the walk
 
-  module _ (same : Same) (listening : Bool) (most : ℕ) (served : WalkWhere (IsPlainlyUp these) AsksNothing (KnowServed listening these)) where
-    -- its Notification is on its way still, or it has risen
-    rouses : (here next : Phase) (past : List Entry) (m : Machine) (event : Event) → (left : ℕ) → ComesUp n left here m → listening ≡ false → (ticks : ℕ) → WaitsOn these command (left + 1) ticks (node_of (happens m event).host.state n) → WaitsFor n 6 next (happens m event)
-        → (HasRisen n next past (happens m event) → IsServed n (happens m event).host.state) → ComesUp n (ticks_then left here) next (happens m event) ⊎ HasRisen n next past (happens m event) → Soon listening these n command (ticks_then ticks here) next past (happens m event)
-    rouses here next past m event left comes sleeps ticks waits six served_then (inl on) = Wakes_soon sleeps (ticks_then left here) on (waiting_as these command (left + 1) ticks (ticks_then left here + 1) (ticks_then ticks here) (node_of (happens m event).host.state n) (later_enough here left ticks m comes) waits)
-    rouses here next past m event left comes sleeps ticks waits six served_then (inr risen) =
-        Ends_soon (subst (λ (b : Bool). Risen b n next past (happens m event)) (sym sleeps) risen)
-        (waiting_ends these command (ticks_then left here + 1) (ticks_then ticks here) n next (happens m event) node (omega arith) (served_then risen) six
-        (waiting_as these command (left + 1) ticks (ticks_then left here + 1) (ticks_then ticks here) (node_of (happens m event).host.state n) (later_enough here left ticks m comes) waits))
+  module _ (listening : Bool) (most : ℕ) (Up : Machine → Event → Type 0) (Know : Phase → List Entry → Machine → Type 0) (ground : Ground these n long listening Up Know Within) where
+    abbrev Soon_so : ℕ → Phase → List Entry → Machine → Type 0
+    Soon_so ticks here past m = Soon Within listening long these n command ticks here past m
 
-    soon_all : (here next : Phase) (past : List Entry) (m : Machine) (event : Event) → Goes here m event next → May m event → IsPlainlyUp these m event → IsKeptFor these (past ++ entries m event) → KnowSoon listening these n command most here past m
-        → KnowServed listening these next (past ++ entries m event) (happens m event) → Soon listening these n command (most - ticks_begun (happens m event)) next (past ++ entries m event) (happens m event)
-    soon_all here next past m event goes may has is known later =
-        subst (λ (ticks : ℕ). Soon listening these n command ticks next (past ++ entries m event) (happens m event)) (ticks_on most here next m event goes tied.0) (by (known.1 before))
+    tied_of : (here : Phase) (past : List Entry) (m : Machine) → IsKeptFor these past → Know here past m → Tied_at here m
+    tied_of here past m kept known = ((ground.lines.workers here past m kept known).0.0 kept.worked.stretched).0.tied kept.worked.stretched.quiet
+
+    -- its Notification is on its way still, or it has risen
+    rouses : (here next : Phase) (past : List Entry) (m : Machine) (event : Event) → (left : ℕ) → ComesUp n left here m → listening ≡ false → (ticks : ℕ) → WaitsOn long these command (left + 1) ticks (node_of (happens m event).host.state n)
+        → Within long next (happens m event) → (Risen listening n next past (happens m event) → IsServed n (happens m event).host.state) → ComesUp n (ticks_then left here) next (happens m event) ⊎ HasRisen n next past (happens m event)
+        → Soon_so (ticks_then ticks here) next past (happens m event)
+    rouses here next past m event left comes sleeps ticks waits all served_then (inl on) =
+        Wakes_soon sleeps (ticks_then left here) on (waiting_as long these command (left + 1) ticks (ticks_then left here + 1) (ticks_then ticks here) (node_of (happens m event).host.state n) (later_enough here left ticks m comes) waits)
+    rouses here next past m event left comes sleeps ticks waits all served_then (inr has) =
+        let risen : Risen listening n next past (happens m event) = subst (λ (b : Bool). Risen b n next past (happens m event)) (sym sleeps) has in
+        Ends_soon risen
+        (waiting_ends long these command (ticks_then left here + 1) (ticks_then ticks here) Within n next (happens m event) node (omega arith) (served_then risen) all
+        (waiting_as long these command (left + 1) ticks (ticks_then left here + 1) (ticks_then ticks here) (node_of (happens m event).host.state n) (later_enough here left ticks m comes) waits))
+
+    soon_all : (here next : Phase) (past : List Entry) (m : Machine) (event : Event) → IsStep these Up Know here next past m event → (IsKeptFor these past → Soon_so (most - ticks_begun m) here past m)
+        → Soon_so (most - ticks_begun (happens m event)) next (past ++ entries m event) (happens m event)
+    soon_all here next past m event step soon_was = subst (λ (ticks : ℕ). Soon_so ticks next (past ++ entries m event) (happens m event)) (ticks_on most here next m event step.goes tied.0) (by (soon_was before))
       where
         before : IsKeptFor these past
-        before = kept_before these past (entries m event) is
+        before = kept_before these past (entries m event) step.kept
 
         staff : KnowWorkers these here past m × Staffed these here m
-        staff = (known.0.0.0 before).0
-
-        was : AreWaiting these here past m
-        was = (known.0.0.0 before).1
-
-        then_is : (KnowWorkers these next (past ++ entries m event) (happens m event) × Staffed these next (happens m event)) × AreWaiting these next (past ++ entries m event) (happens m event)
-        then_is = later.0.0 is
+        staff = ground.lines.workers here past m before step.was
 
         tied : Tied_at here m
-        tied = (staff.0.0 before.worked.stretched).0.tied before.worked.stretched.quiet
+        tied = tied_of here past m before step.was
 
         next_tied : Tied_at next (happens m event)
-        next_tied = (then_is.0.0.0 is.worked.stretched).0.tied is.worked.stretched.quiet
+        next_tied = tied_of next (past ++ entries m event) (happens m event) step.kept step.then_is
 
         heard : AllSayHeard (unheard m.outside.outer)
         heard = (staff.0.0 before.worked.stretched).1
 
-        knows : KnowsWorkers these m.host.state
-        knows = staff.0.1 before.worked.stretched
-
-        sent : IsSentTo these m event
-        sent = sent_on these here next m event goes may tied.0 tied.6 knows.request
-
         on_time : IsInTime m event
-        on_time = in_time these here past m event before known.0.0.0
+        on_time = ground.lines.in_time here past m event before step.was
 
         kept : (k : ℕ) → event ≡ Host_does (Begin_unkept k) → ⊥
-        kept = none_unkept m event (told_kept these past (entries m event) is)
+        kept = none_unkept m event (told_kept these past (entries m event) step.kept)
 
-        serve : Serves listening these m
-        serve = (known.0.1 before).serve
-
-        then_serve : Serves listening these (happens m event)
-        then_serve = (later.1 is).serve
+        all : Within long next (happens m event)
+        all = ground.within next (past ++ entries m event) (happens m event) step.kept step.then_is
 
         then_served : Risen listening n next (past ++ entries m event) (happens m event) → IsServed n (happens m event).host.state
-        then_served risen = serves_now listening these n next (past ++ entries m event) (happens m event) marked then_serve then_is.1.hears risen
+        then_served risen = ground.served next (past ++ entries m event) (happens m event) step.kept step.then_is risen
 
-        by : Soon listening these n command (most - ticks_begun m) here past m → Soon listening these n command (ticks_then (most - ticks_begun m) here) next (past ++ entries m event) (happens m event)
+        by : Soon_so (most - ticks_begun m) here past m → Soon_so (ticks_then (most - ticks_begun m) here) next (past ++ entries m event) (happens m event)
         by (Ends_soon risen soon) =
-            let then_risen = risen_on airs same these many n marked listening here next past m event goes may has is known.0.0 later.0 serve risen in
+            let then_risen = ground.risen_on here next past m event step risen in
             Ends_soon then_risen
-            (soon_on (most - ticks_begun m) here next m event goes may on_time kept tied heard knows (known.0.1 before).speak next_tied (then_is.1.waits n marked)
-            (λ few w.
-            event_waits airs these many laws n few marked node here next m event goes may has.0 (keeps m event (told_kept these past (entries m event) is)) was.whole tied.0 tied.1 tied.2 tied.3 tied.6 tied.7
-            (all_heard airs these here past m event (awaits_of here m tied.1) tied.7.live was.hears) sent was.joined w next_tied.0)
-            (serves_now listening these n here past m marked serve was.hears risen) (then_served then_risen) soon)
+            (soon_on (most - ticks_begun m) here next m event step.goes step.may on_time kept tied heard (staff.0.1 before.worked.stretched) staff.1.speak.pending next_tied all
+            (λ runs. (λ left ticks w. ground.some left ticks m runs w, λ left w. ground.on here next past m event step left runs w)) (ground.served here past m before step.was risen) (then_served then_risen) soon)
         by (Wakes_soon sleeps left comes waits) =
-            let rests = subst (λ (b : Bool). Serves b these m) sleeps serve in
-            let then_rests = subst (λ (b : Bool). Serves b these (happens m event)) sleeps then_serve in
             rouses here next (past ++ entries m event) m event left comes sleeps (most - ticks_begun m)
-            (run (WaitsOn these command (left + 1) (most - ticks_begun m)) (waiting_kept these command (left + 1) (most - ticks_begun m)) here next m event goes may on_time kept tied heard waits) (then_is.1.waits n marked)
-            (λ risen. then_served (subst (λ (b : Bool). Risen b n next (past ++ entries m event) (happens m event)) (sym sleeps) risen))
-            (come_on airs these many n marked left here next past m event goes may tied.0 tied.1 tied.2 tied.3 tied.6 tied.7 sent next_tied.0 (rests_at these n here past m marked rests was.hears)
-            (rests_at these n next (past ++ entries m event) (happens m event) marked then_rests then_is.1.hears) comes)
+            (run (WaitsOn long these command (left + 1) (most - ticks_begun m)) (waiting_kept long these command (left + 1) (most - ticks_begun m)) here next m event step.goes step.may on_time kept tied heard waits) all then_served
+            (ground.comes_on here next past m event step sleeps left comes)
 
-    soon_turned : (here next : Phase) (past : List Entry) (m : Machine) → Turns here m next → IsKeptFor these past → KnowSoon listening these n command most here past m → KnowServed listening these next past m → Soon listening these n command (most - ticks_begun m) next past m
-    soon_turned here next past m turns is known later = by (known.1 is)
-      where
-        at : (KnowWorkers these here past m × Staffed these here m) × AreWaiting these here past m
-        at = known.0.0.0 is
+    soon_turned : (here next : Phase) (past : List Entry) (m : Machine) → IsTurn these Know here next past m → Soon_so (most - ticks_begun m) here past m → Soon_so (most - ticks_begun m) next past m
+    soon_turned here next past m turn (Ends_soon risen soon) =
+        Ends_soon (ground.risen_turn here next past m turn risen)
+        (soon_turn (most - ticks_begun m) here next m turn.turns (tied_of here past m turn.kept turn.was) (tied_of next past m turn.kept turn.then_is) (λ left w. ground.turn here next past m turn left w) soon
+        (ground.served here past m turn.kept turn.was risen))
+    soon_turned here next past m turn (Wakes_soon sleeps left comes waits) = Wakes_soon sleeps left (ground.comes_turn here next past m turn sleeps left comes) waits
 
-        tied : Tied_at here m
-        tied = (at.0.0.0 is.worked.stretched).0.tied is.worked.stretched.quiet
+    soon_begins : (past : List Entry) (m : Machine) (words : List ℕ) (line : Line) → line_of (entry.Said words) ≡ line ∷ [] → IsKeptFor these (past ++ entry.Said words ∷ []) → Know Between past m → Soon_so (most - ticks_begun m) Between past m
+        → Soon_so (most - ticks_begun m) (Said_line line) (past ++ entry.Said words ∷ []) m
+    soon_begins past m words line read is known (Ends_soon risen soon) =
+        Ends_soon (ground.risen_said past m words line read is risen)
+        (soon_said (most - ticks_begun m) line m (λ left w. ground.said line m left w) soon (ground.served Between past m (kept_before these past (entry.Said words ∷ []) is) known risen))
+    soon_begins past m words line read is known (Wakes_soon sleeps left comes waits) = Wakes_soon sleeps left (up_said n left line m comes) waits
 
-        next_tied : Tied_at next m
-        next_tied = ((later.0.0 is).0.0.0 is.worked.stretched).0.tied is.worked.stretched.quiet
-
-        by : Soon listening these n command (most - ticks_begun m) here past m → Soon listening these n command (most - ticks_begun m) next past m
-        by (Ends_soon risen soon) =
-            Ends_soon (risen_turn these n marked listening here next past m turns tied.0 risen)
-            (soon_turn (most - ticks_begun m) here next m turns tied next_tied soon (serves_now listening these n here past m marked (known.0.1 is).serve at.1.hears risen))
-        by (Wakes_soon sleeps left comes waits) = Wakes_soon sleeps left (up_turn airs these many n marked left here next m turns tied.1 next_tied.0 comes) waits
-
-    soon_begins : (past : List Entry) (m : Machine) (words : List ℕ) (line : Line) → line_of (entry.Said words) ≡ line ∷ [] → IsKeptFor these (past ++ entry.Said words ∷ []) → KnowSoon listening these n command most Between past m
-        → Soon listening these n command (most - ticks_begun m) (Said_line line) (past ++ entry.Said words ∷ []) m
-    soon_begins past m words line read is known = by (known.1 before)
-      where
-        before : IsKeptFor these past
-        before = kept_before these past (entry.Said words ∷ []) is
-
-        by : Soon listening these n command (most - ticks_begun m) Between past m → Soon listening these n command (most - ticks_begun m) (Said_line line) (past ++ entry.Said words ∷ []) m
-        by (Ends_soon risen soon) =
-            Ends_soon (risen_said these n marked listening past m words line read is risen)
-            (soon_said (most - ticks_begun m) line m soon (serves_now listening these n Between past m marked (known.0.1 before).serve (known.0.0.0 before).1.hears risen))
-        by (Wakes_soon sleeps left comes waits) = Wakes_soon sleeps left (up_said n left line m comes) waits
-
-    pub soon_walk : WalkWhere (IsPlainlyUp these) AsksNothing (KnowSoon listening these n command most)
+    pub soon_walk : WalkWhere Up AsksNothing (KnowSoon Know Within listening long these n command most)
     soon_walk = record {
-      said = λ past m words line read known. (tt, ((served.said past m words line read known.0).1, λ is. soon_begins past m words line read is known));
-      event = λ here next past m event goes may has known.
-          let later = (served.event here next past m event goes may has known.0).1 in
-          (nothing_asked past (entries m event), (later, λ is. soon_all here next past m event goes may has is known later));
+      said = λ past m words line read known.
+          (tt, ((ground.lines.walk.said past m words line read known.0).1, λ is. soon_begins past m words line read is known.0 (known.1 (kept_before these past (entry.Said words ∷ []) is))));
+      event = λ here next past m event goes may up known.
+          let later = (ground.lines.walk.event here next past m event goes may up known.0).1 in
+          (nothing_asked past (entries m event), (later, λ is. soon_all here next past m event (record { goes = goes; may = may; up = up; kept = is; was = known.0; then_is = later }) known.1));
       turn = λ here next past m turns known.
-          let later = served.turn here next past m turns known.0 in
-          (later, λ is. soon_turned here next past m turns is known later);
+          let later = ground.lines.walk.turn here next past m turns known.0 in
+          (later, λ is. soon_turned here next past m (record { turns = turns; kept = is; was = known.0; then_is = later }) (known.1 is));
     }
 
 -- ---- at the beginning, and in the end
@@ -581,71 +546,73 @@ idle_of x facts none = by x.series refl facts.series
     by series.Due so is = absurd (no is.0.is_open)
     by series.Running so is = absurd (no is.0.is_open)
 
-soon_first : (these : List Bool) (n command more ticks : ℕ) (m : Machine) → IsNode n → NodeFacts (node_of m.host.state n) → IsInHand command more (node_of m.host.state n) → WaitsFor n 6 Between m
-    → ticks_blocked (node_of m.host.state n) + ticks_of_all these (suc more) ≤ ticks → EndsSoon these n command ticks Between m
-soon_first these n command more ticks m node facts is waits enough = by is
+soon_first : (Within : ℕ → Phase → Machine → Type 0) (long : ℕ) (these : List Bool) (n command more ticks : ℕ) (m : Machine) → IsNode n → NodeFacts (node_of m.host.state n) → IsInHand command more (node_of m.host.state n) → Within long Between m
+    → ticks_blocked (node_of m.host.state n) + ticks_of_all long these (suc more) ≤ ticks → EndsSoon Within long these n command ticks Between m
+soon_first Within long these n command more ticks m node facts is waits enough = by is
   where
-    left : ticks_enough these ≤ ticks - ticks_of_all these more
+    left : ticks_enough long these ≤ ticks - ticks_of_all long these more
     left = omega (arith, enough)
 
-    comes : ComesTo these n (ticks - ticks_of_all these more) Between m
+    comes : ComesTo long these n (ticks - ticks_of_all long these more) Between m
     comes = let most = turn_most these m.host.state.served n node.1 in In_turn (omega (arith, most, left))
 
-    goes : RunsOn n (ticks - ticks_of_all these more) Between m
-    goes = record { most = 6; waits = waits; few = omega (arith, left) }
+    goes : RunsOn Within (ticks - ticks_of_all long these more) Between m
+    goes = record { most = long; waits = waits; few = omega (arith, left) }
 
-    held : (node_of m.host.state n).blocked ≡ true → IsHeldSoon these n ticks more Between
+    held : (node_of m.host.state n).blocked ≡ true → IsHeldSoon long these n ticks more Between
     held blocked = let one : ticks_blocked (node_of m.host.state n) ≡ 1 = ap (λ (b : Bool). if b then 1 else 0) blocked in omega (arith, enough, one)
 
     opened : (session : ℕ) → open_session (node_of m.host.state n).book ≡ Some session → ComesAfter more command session (node_of m.host.state n) → ((node_of m.host.state n).series ≡ series.Due) ⊎ ((node_of m.host.state n).series ≡ series.Running)
-        → EndsSoon these n command ticks Between m
+        → EndsSoon Within long these n command ticks Between m
     opened session opens after_it (inl due) = Goes_on (Due more session opens due after_it comes held)
     opened session opens after_it (inr run) = Goes_on (Runs more session opens run after_it goes held)
 
-    by : IsInHand command more (node_of m.host.state n) → EndsSoon these n command ticks Between m
+    by : IsInHand command more (node_of m.host.state n) → EndsSoon Within long these n command ticks Between m
     by (Opened session opens busy after_it) = opened session opens after_it (series_or (node_of m.host.state n).series busy)
     by (Unopened none at) = Goes_on (Idles more none (idle_of (node_of m.host.state n) facts none) at (λ free. comes) held)
 
 -- and so it is where that is known of the machine, and the host listens to these nodes
-pub soon_then : (these : List Bool) (n command more ticks : ℕ) (past : List Entry) (m : Machine) → is_marked these n ≡ true → IsNode n → KnowServed true these Between past m → IsInHand command more (node_of m.host.state n)
-    → ticks_blocked (node_of m.host.state n) + ticks_of_all these (suc more) ≤ ticks → IsKeptFor these past → Soon true these n command ticks Between past m
-soon_then these n command more ticks past m marked node known is enough kept =
-    let at = known.0.0 kept in
-    let stretched = kept.worked.stretched in
-    let tied = (at.0.0.0 stretched).0.tied stretched.quiet in
-    Ends_soon tt (soon_first these n command more ticks m node (tied.7.facts.nodes.facts n) is (at.1.waits n marked) enough)
+module _ (these : List Bool) (n long : ℕ) (Up : Machine → Event → Type 0) (Know : Phase → List Entry → Machine → Type 0) (Within : ℕ → Phase → Machine → Type 0) (ground : Ground these n long true Up Know Within) (command more ticks : ℕ) (past : List Entry)
+    (m : Machine) where
+  pub soon_then : IsNode n → Know Between past m → IsInHand command more (node_of m.host.state n) → ticks_blocked (node_of m.host.state n) + ticks_of_all long these (suc more) ≤ ticks → IsKeptFor these past
+      → Soon Within true long these n command ticks Between past m
+  soon_then node known is enough kept =
+      let stretched = kept.worked.stretched in
+      let tied = ((ground.lines.workers Between past m kept known).0.0 stretched).0.tied stretched.quiet in
+      Ends_soon tt (soon_first Within long these n command more ticks m node (tied.7.facts.nodes.facts n) is (ground.within Between past m kept known) enough)
 
-pub soon_rested : (these : List Bool) (n command more ticks : ℕ) (past : List Entry) (m : Machine) → is_marked these n ≡ true → KnowServed true these Between past m → RestsBefore command more (node_of m.host.state n)
-    → (node_of m.host.state n).again_wait + (1 + ticks_of_all these (suc (suc more))) ≤ ticks → IsKeptFor these past → Soon true these n command ticks Between past m
-soon_rested these n command more ticks past m marked known is enough kept =
-    let again = is.again in Ends_soon tt (Rests more is.session is.wait ((known.1 kept).serve.listens n marked) is.opened is.idle is.again is.stands (omega (arith, enough, again)))
+  pub soon_rested : Know Between past m → RestsBefore command more (node_of m.host.state n) → (node_of m.host.state n).again_wait + (1 + ticks_of_all long these (suc (suc more))) ≤ ticks → IsKeptFor these past
+      → Soon Within true long these n command ticks Between past m
+  soon_rested known is enough kept =
+      let again = is.again in Ends_soon tt (Rests more is.session is.wait (ground.listens Between past m refl kept known) is.opened is.idle is.again is.stands (omega (arith, enough, again)))
 
 -- no ticks are left
-pub soon_past : (listening : Bool) (these : List Bool) (n command : ℕ) (here : Phase) (past : List Entry) (m : Machine) → Soon listening these n command 0 here past m → HasEnded command (node_of m.host.state n).book
-soon_past listening these n command here past m soon = by soon
+pub soon_past : (Within : ℕ → Phase → Machine → Type 0) (listening : Bool) (long : ℕ) (these : List Bool) (n command : ℕ) (here : Phase) (past : List Entry) (m : Machine) → 1 ≤ long → Soon Within listening long these n command 0 here past m
+    → HasEnded command (node_of m.host.state n).book
+soon_past Within listening long these n command here past m most soon = by soon
   where
     one_most : own_tick_left n here ≤ 1
     one_most = omega arith
 
-    none_comes : (more : ℕ) → ComesTo these n (0 - ticks_of_all these more) here m → ⊥
+    none_comes : (more : ℕ) → ComesTo long these n (0 - ticks_of_all long these more) here m → ⊥
     none_comes more (In_turn few) = absurd (omega (arith, few))
-    none_comes more (Owed owed few) = absurd (omega (arith, few))
+    none_comes more (Owed owed few) = absurd (omega (arith, few, most))
 
-    none_runs : (more : ℕ) → RunsOn n (0 - ticks_of_all these more) here m → ⊥
+    none_runs : (more : ℕ) → RunsOn Within (0 - ticks_of_all long these more) here m → ⊥
     none_runs more r = let few = r.few in absurd (omega (arith, few))
 
-    none_idles : (more : ℕ) (b : Bool) → (b ≡ false → ComesTo these n (0 - ticks_of_all these more) here m) → (b ≡ true → IsHeldSoon these n 0 more here) → ⊥
+    none_idles : (more : ℕ) (b : Bool) → (b ≡ false → ComesTo long these n (0 - ticks_of_all long these more) here m) → (b ≡ true → IsHeldSoon long these n 0 more here) → ⊥
     none_idles more false d v = none_comes more (d refl)
     none_idles more true d v = let held = v refl in absurd (omega (arith, held, one_most))
 
-    not_enough : (left more : ℕ) → Enough these (left + 1) 0 more → ⊥
+    not_enough : (left more : ℕ) → Enough long these (left + 1) 0 more → ⊥
     not_enough left more q = absurd (omega (arith, q))
 
-    none_waits : (left more : ℕ) (b : Bool) → (b ≡ false → Enough these (left + 1) 0 more) → (b ≡ true → Enough these (left + 1) 0 more) → ⊥
+    none_waits : (left more : ℕ) (b : Bool) → (b ≡ false → Enough long these (left + 1) 0 more) → (b ≡ true → Enough long these (left + 1) 0 more) → ⊥
     none_waits left more false d v = not_enough left more (d refl)
     none_waits left more true d v = not_enough left more (v refl)
 
-    ends : EndsSoon these n command 0 here m → HasEnded command (node_of m.host.state n).book
+    ends : EndsSoon Within long these n command 0 here m → HasEnded command (node_of m.host.state n).book
     ends (Goes_on (Ended is)) = is
     ends (Goes_on (Idles more none idle at d v)) = absurd (none_idles more (node_of m.host.state n).blocked d v)
     ends (Goes_on (Due more session opened so at d v)) = absurd (none_comes more d)
@@ -653,7 +620,7 @@ soon_past listening these n command here past m soon = by soon
     ends (Rests more session wait listens opened idle again at w) = absurd (omega (arith, w, one_most))
     ends (Sleeps_on more down idle at s) = absurd s
 
-    waits : (left : ℕ) → WaitsOn these command (left + 1) 0 (node_of m.host.state n) → HasEnded command (node_of m.host.state n).book
+    waits : (left : ℕ) → WaitsOn long these command (left + 1) 0 (node_of m.host.state n) → HasEnded command (node_of m.host.state n).book
     waits left (Goes_on (Ended is)) = is
     waits left (Goes_on (Idles more none idle at d v)) = absurd (none_waits left more (node_of m.host.state n).blocked d v)
     waits left (Goes_on (Due more session opened so at d v)) = absurd (not_enough left more d)
@@ -661,6 +628,6 @@ soon_past listening these n command here past m soon = by soon
     waits left (Rests more session wait listens opened idle again at w) = absurd w
     waits left (Sleeps_on more down idle at s) = absurd (not_enough left (suc more) s)
 
-    by : Soon listening these n command 0 here past m → HasEnded command (node_of m.host.state n).book
+    by : Soon Within listening long these n command 0 here past m → HasEnded command (node_of m.host.state n).book
     by (Wakes_soon sleeps left comes waiting) = waits left waiting
     by (Ends_soon risen ending) = ends ending

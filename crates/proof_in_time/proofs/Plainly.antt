@@ -126,23 +126,23 @@ plain_of Notification quiet = absurd quiet
 plain_of (SegmentRequest id offset) quiet = absurd quiet
 plain_of (Values settings) quiet = tt
 
-quiet_tells : (payload : List ℕ) → TellsQuietly payload → TellsPlainly payload
+pub quiet_tells : (payload : List ℕ) → TellsQuietly payload → TellsPlainly payload
 quiet_tells payload tells = record { told = tells.told; heard = tells.heard; plain = plain_of tells.told tells.quiet }
 
-wakes_silent : (device : State) → listens device.kind ≡ true → device_replies device Wakes ≡ []
+pub wakes_silent : (device : State) → listens device.kind ≡ true → device_replies device Wakes ≡ []
 unfolding device_replies outcome_of woken
 wakes_silent device hears =
     subst (λ (b : Bool). (if b then silent device else record { device = record device { awake = true; active_at = device.clock }; replies = form WakeUpNotification ∷ [] }).replies ≡ []) (sym hears) refl
 
 -- one that sleeps tells that it is awake
-wakes_plainly : (device : State) → AllByRecursion TellsPlainly (device_replies device Wakes)
+pub wakes_plainly : (device : State) → AllByRecursion TellsPlainly (device_replies device Wakes)
 wakes_plainly device = by (listens device.kind) refl
   where
     by : (b : Bool) → listens device.kind ≡ b → AllByRecursion TellsPlainly (device_replies device Wakes)
     by true hears = none_said TellsPlainly device Wakes (wakes_silent device hears)
     by false sleeps = let woken = wakes_telling device sleeps in subst (AllByRecursion TellsPlainly) (sym woken.says) (record { told = Notification; heard = woken.tells; plain = tt }, tt)
 
-ticks_silent : (device : State) (drawn : List ℕ) → device.work_left ≡ 0 → device_replies device (Ticks drawn) ≡ []
+pub ticks_silent : (device : State) (drawn : List ℕ) → device.work_left ≡ 0 → device_replies device (Ticks drawn) ≡ []
 ticks_silent device drawn none = by (ticks_say device drawn)
   where
     by : (device_replies device (Ticks drawn) ≡ []) ⊎ ((device.work_left ≡ 1) × (length (device_replies device (Ticks drawn)) ≤ 1)) → device_replies device (Ticks drawn) ≡ []

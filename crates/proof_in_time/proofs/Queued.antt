@@ -28,7 +28,7 @@ use Rattle.host_model.proofs.Submitted.{SubmittedAre, next_is}
 use Rattle.outside_model.specs.Events.{OuterEvent, Begins_line, Begins_tick, Arrives, Gives as outer_gives, Device_ticks, Chip_ticks, Chip_takes}
 use Rattle.serial_frame.specs.Stream.{Rest}
 use Rattle.serial_frame.specs.declared.item.Item.{Item}
-use Rattle.proof_answered.specs.proof_calm.Tied.{All, IsNodeTick, Nodes, Request, TickLeft, TieAt}
+use Rattle.proof_answered.specs.proof_calm.Tied.{All, IsNodeTick, Nodes, Request, TickLeft, TieAt, unheard}
 use Rattle.host_node.specs.declared.attempt.Moment.TheVariants.{BeforeItsTick}
 use Rattle.world_model.specs.Events.{Event, Outside_does, Host_does, Host_takes, Decoder_ticks, Refuses, Shows_values, happens, May}
 use Rattle.world_model.specs.State.{Machine}
@@ -167,21 +167,26 @@ tick_none counted first events (Nodes nodes done) = node_tick first nodes.0
 submitted_none : SubmittedAre QueuesNone
 submitted_none = record { abort = tt; front = tt; starts = λ n plan more payload. tt; text = λ n payload. tt; segment = λ n more payload. tt; begins = λ n session command. tt; unkept = λ n. tt }
 
-pub queue_on : (airs : Airs) (these : List Bool) (here next : Phase) (m : Machine) (event : Event) → Goes here m event next → May m event → LineAt here m → TieAt here m → SpeakPlainly these m → AllServe these m.host.state → KnowsWorkers these m.host.state → Empty m → Empty (happens m event)
-queue_on airs these (Said_line line) next m event (is, to) may at tie speak serves knows empty = empty_as m event _ is (outer_empty m Begins_line empty)
-queue_on airs these (Doing line (first ∷ left)) next m event (is, to) may at tie speak serves knows empty = empty_as m event first is (effect_empty m first at.0.0 empty)
-queue_on airs these (To_tick (suc ticks)) next m event (is, to) may at tie speak serves knows empty = empty_as m event _ is (outer_empty m Begins_tick empty)
-queue_on airs these (Arriving (suc frames) ticks) next m event (drawn, route, is, to) may at tie speak serves knows empty = empty_as m event _ is (outer_empty m (Arrives drawn route) empty)
-queue_on airs these (Giving (suc results) ticks) next m event (route, is, to) may at tie speak serves knows empty = empty_as m event _ is (outer_empty m (outer_gives route) empty)
-queue_on airs these (Ticking_devices place (suc count) ticks) next m event (drawn, route, is, to) may at tie speak serves knows empty = empty_as m event _ is (outer_empty m (Device_ticks place drawn route) empty)
-queue_on airs these (Ticking_chip ticks) next m event (is, to) may at tie speak serves knows empty = empty_as m event _ is (outer_empty m Chip_ticks empty)
-queue_on airs these (Ticking_decoder ticks) next m event (is, to) may at tie speak serves knows empty = empty_as m event _ is (decoder_empty m empty)
-queue_on airs these (Ticking_host (first ∷ events) ticks) next m event (is, to) may at tie speak serves knows empty = empty_as m event _ is (does_empty m first (tick_none tie.counted first events tie.left) empty)
-queue_on airs these (Sleeping passes ticks) next m event (n, first, is, to) may at tie speak serves knows empty = absurd (none_wants these m.host.state n serves knows first)
-queue_on airs these (Submitting passes ticks) next m event (asked, next_so, is, to) may at tie speak serves knows empty = empty_as m event _ is (does_empty m asked (next_is QueuesNone submitted_none m.host.state asked next_so) empty)
-queue_on airs these (Moving passes ticks) next m event (rest, ways, is, to) may at tie speak serves knows empty = empty_as m event _ is (outer_empty m (Chip_takes (length m.outside.outer.to_chip.bytes) rest ways) empty)
-queue_on airs these (Moved b passes ticks) next m event (rest, items, events, is, to) may at tie speak serves knows empty =
+-- where none is to be told that there is no more for it, and what the chip has for the host tells plainly
+pub queue_where : (airs : Airs) (these : List Bool) (here next : Phase) (m : Machine) (event : Event) → Goes here m event next → May m event → LineAt here m → TieAt here m → AllByRecursion (IsFromSaying these TellsPlainly) (unheard m.outside.outer)
+    → ((k : ℕ) → first_wanting m.host.state.nodes ≡ Some k → ⊥) → Empty m → Empty (happens m event)
+queue_where airs these (Said_line line) next m event (is, to) may at tie pending wants_none empty = empty_as m event _ is (outer_empty m Begins_line empty)
+queue_where airs these (Doing line (first ∷ left)) next m event (is, to) may at tie pending wants_none empty = empty_as m event first is (effect_empty m first at.0.0 empty)
+queue_where airs these (To_tick (suc ticks)) next m event (is, to) may at tie pending wants_none empty = empty_as m event _ is (outer_empty m Begins_tick empty)
+queue_where airs these (Arriving (suc frames) ticks) next m event (drawn, route, is, to) may at tie pending wants_none empty = empty_as m event _ is (outer_empty m (Arrives drawn route) empty)
+queue_where airs these (Giving (suc results) ticks) next m event (route, is, to) may at tie pending wants_none empty = empty_as m event _ is (outer_empty m (outer_gives route) empty)
+queue_where airs these (Ticking_devices place (suc count) ticks) next m event (drawn, route, is, to) may at tie pending wants_none empty = empty_as m event _ is (outer_empty m (Device_ticks place drawn route) empty)
+queue_where airs these (Ticking_chip ticks) next m event (is, to) may at tie pending wants_none empty = empty_as m event _ is (outer_empty m Chip_ticks empty)
+queue_where airs these (Ticking_decoder ticks) next m event (is, to) may at tie pending wants_none empty = empty_as m event _ is (decoder_empty m empty)
+queue_where airs these (Ticking_host (first ∷ events) ticks) next m event (is, to) may at tie pending wants_none empty = empty_as m event _ is (does_empty m first (tick_none tie.counted first events tie.left) empty)
+queue_where airs these (Sleeping passes ticks) next m event (n, first, is, to) may at tie pending wants_none empty = absurd (wants_none n first)
+queue_where airs these (Submitting passes ticks) next m event (asked, next_so, is, to) may at tie pending wants_none empty = empty_as m event _ is (does_empty m asked (next_is QueuesNone submitted_none m.host.state asked next_so) empty)
+queue_where airs these (Moving passes ticks) next m event (rest, ways, is, to) may at tie pending wants_none empty = empty_as m event _ is (outer_empty m (Chip_takes (length m.outside.outer.to_chip.bytes) rest ways) empty)
+queue_where airs these (Moved b passes ticks) next m event (rest, items, events, is, to) may at tie pending wants_none empty =
     empty_as m event _ is
     (takes_empty m (length m.outside.outer.to_host.bytes) rest items events
-    (takes_are QueuesNone (IsFromSaying these TellsPlainly) airs b passes m rest items events (each_none these m.outside.outer.chip.state.joined) (subst (May m) is may) at tie speak.pending) empty)
-queue_on airs these here next m event goes may at tie speak serves knows empty = absurd goes
+    (takes_are QueuesNone (IsFromSaying these TellsPlainly) airs b passes m rest items events (each_none these m.outside.outer.chip.state.joined) (subst (May m) is may) at tie pending) empty)
+queue_where airs these here next m event goes may at tie pending wants_none empty = absurd goes
+
+pub queue_on : (airs : Airs) (these : List Bool) (here next : Phase) (m : Machine) (event : Event) → Goes here m event next → May m event → LineAt here m → TieAt here m → SpeakPlainly these m → AllServe these m.host.state → KnowsWorkers these m.host.state → Empty m → Empty (happens m event)
+queue_on airs these here next m event goes may at tie speak serves knows empty = queue_where airs these here next m event goes may at tie speak.pending (λ k wanting. none_wants these m.host.state k serves knows wanting) empty

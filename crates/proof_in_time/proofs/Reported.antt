@@ -84,25 +84,30 @@ report_works h n session payload events is tells follows =
     subst (λ (t : TheTold). ReportEvents h n (wire_id session) statuses.Working tells.wakes t events) (working_told book.commands book.outcome book.attempts session is.opened)
     (report_alone h n session WORKING payload events is tells follows)
 
-pub report_ends : (h : HostState) (n session status : ℕ) (payload : List ℕ) (events : List HostEvent) → AwaitsReport n session h → status ≢ WORKING → TellsStatus session status payload
-    → PayloadEvents h n payload (heard_at payload) events → EndsSession n session events
-report_ends h n session status payload events is over tells follows = record { command = carried.0; status = said.0; wakes = tells.wakes; are = kept }
+-- of a report of the end
+pub ends_by : (h : HostState) (n session status : ℕ) (wakes : Bool) (events : List HostEvent) → open_session (node_of h n).book ≡ Some session → status ≢ WORKING
+    → ReportEvents h n (wire_id session) (report_status status) wakes (told_of (node_of h n).book (wire_id session) (report_byte (report_status status))) events → EndsSession n session events
+ends_by h n session status wakes events opened over is = record { command = carried.0; status = said.0; wakes = wakes; are = kept }
   where
     said : (kept : FinalStatus) × (report_byte (report_status status) ≡ status_byte kept) × (status_of (report_byte (report_status status)) ≡ Some kept)
     said = final_said (report_status status) (over_said status over)
 
     carried : (command : ℕ) × (command_of_session (node_of h n).book.commands session ≡ Some command)
-    carried = open_command_is (node_of h n).book session is.opened
+    carried = open_command_is (node_of h n).book session opened
 
     ends : told_of (node_of h n).book (wire_id session) (report_byte (report_status status)) ≡ told.Final session
-    ends = ap (λ (byte : ℕ). told_of (node_of h n).book (wire_id session) byte) said.1 ∙ told_session (node_of h n).book session said.0 is.opened
+    ends = ap (λ (byte : ℕ). told_of (node_of h n).book (wire_id session) byte) said.1 ∙ told_session (node_of h n).book session said.0 opened
 
-    events_are : FinalEvents n session (wire_id session) (command_of_session (node_of h n).book.commands session) (status_of (report_byte (report_status status))) tells.wakes events
-    events_are = subst (λ (t : TheTold). ReportEvents h n (wire_id session) (report_status status) tells.wakes t events) ends (report_alone h n session status payload events is tells follows)
+    events_are : FinalEvents n session (wire_id session) (command_of_session (node_of h n).book.commands session) (status_of (report_byte (report_status status))) wakes events
+    events_are = subst (λ (t : TheTold). ReportEvents h n (wire_id session) (report_status status) wakes t events) ends is
 
-    kept : (events ≡ Finishes n session (wire_id session) carried.0 said.0 tells.wakes ∷ []) ⊎ (events ≡ Is_unkept n ∷ [])
-    kept = subst (λ (c : Option ℕ). FinalEvents n session (wire_id session) c (Some said.0) tells.wakes events) carried.1
-        (subst (λ (f : Option FinalStatus). FinalEvents n session (wire_id session) (command_of_session (node_of h n).book.commands session) f tells.wakes events) said.2 events_are)
+    kept : (events ≡ Finishes n session (wire_id session) carried.0 said.0 wakes ∷ []) ⊎ (events ≡ Is_unkept n ∷ [])
+    kept = subst (λ (c : Option ℕ). FinalEvents n session (wire_id session) c (Some said.0) wakes events) carried.1
+        (subst (λ (f : Option FinalStatus). FinalEvents n session (wire_id session) (command_of_session (node_of h n).book.commands session) f wakes events) said.2 events_are)
+
+pub report_ends : (h : HostState) (n session status : ℕ) (payload : List ℕ) (events : List HostEvent) → AwaitsReport n session h → status ≢ WORKING → TellsStatus session status payload
+    → PayloadEvents h n payload (heard_at payload) events → EndsSession n session events
+report_ends h n session status payload events is over tells follows = ends_by h n session status tells.wakes events is.opened over (report_alone h n session status payload events is tells follows)
 
 -- ---- the node after it
 
@@ -121,9 +126,9 @@ held_over h n true within is =
     subst IsOver (sym (get_or-set_same h.nodes n (after_hold (node_of h n)) (unknown 0) within)) (record { idle = is.idle; no_wait = is.no_wait; closed = is.closed })
 held_over h n false within is = is
 
-pub session_over : (h : HostState) (n session command : ℕ) (status : FinalStatus) (wakes : Bool) → n < length h.nodes → AwaitsReport n session h
+pub session_over : (h : HostState) (n session command : ℕ) (status : FinalStatus) (wakes : Bool) → n < length h.nodes → open_session (node_of h n).book ≡ Some session
     → IsOver (node_of (after h (Finishes n session (wire_id session) command status wakes)) n)
-session_over h n session command status wakes within is =
+session_over h n session command status wakes within opened =
     let next : NodeState = after_report (node_of h n) (wire_id session) (status_byte status) in
     held_over (finishing h n (wire_id session) command status) n (is_held h n wakes) (subst (λ (k : ℕ). n < k) (sym (length-set h.nodes n next)) within)
-    (subst IsOver (sym (get_or-set_same h.nodes n next (unknown 0) within)) (ended_over (node_of h n) session status is.opened))
+    (subst IsOver (sym (get_or-set_same h.nodes n next (unknown 0) within)) (ended_over (node_of h n) session status opened))

@@ -1,5 +1,5 @@
 -- The request under way, and the sessions that have begun, at events of the host that submit nothing and begin none.
-use Rattle.std.proofs.Common.{◌≡◌, ◌<◌, ℕ, ◌+◌, ◌-◌, ◌==◌, ◌&&◌, nat_lt, Bool, true, false, if◌then◌else◌, List, [], ◌∷◌, length, refl, sym, ap, ◌∙◌, arith}
+use Rattle.std.proofs.Common.{◌≡◌, ◌<◌, ℕ, ◌+◌, ◌-◌, ◌==◌, ◌&&◌, nat_lt, Bool, true, false, if◌then◌else◌, inl, inr, List, [], ◌∷◌, length, refl, sym, ap, ◌∙◌, arith}
 use Rattle.std.specs.Prelude.{◌⊎◌, Option, Some, None}
 use Rattle.std.specs.List.{AllByRecursion}
 use Rattle.serial_frame.specs.Stream.{Rest}
@@ -24,7 +24,7 @@ use Rattle.host_requests.specs.declared.task.Purpose.{Purpose}
 use Rattle.host_requests.specs.declared.task.Purpose.TheVariants.{Attempt}
 use Rattle.host_requests.specs.declared.under_way.UnderWay.{UnderWay}
 use Rattle.host_node.specs.State.{NodeState, has_waiting, is_idle, is_open, is_running, is_up}
-use Rattle.host_node.specs.Steps.{after_again, after_again_tick, after_attempt_end, after_attempt_tick, after_attempts, after_hold_tick, after_no_more, after_occasion, after_sign, after_sleep, after_start, after_told, asleep, new_series, next_due, series_over, tried_again, wait_ticks, with_again, with_wait, without_attempt}
+use Rattle.host_node.specs.Steps.{after_again, after_again_tick, after_attempt_end, after_attempt_tick, after_attempts, after_hold_tick, after_no_more, after_occasion, after_sign, after_sleep, after_start, after_told, as_recorded, asleep, new_series, next_due, series_over, tried_again, wait_ticks, with_again, with_wait, without_attempt}
 use Rattle.host_node.specs.Events.{NodeEvent, after as after_node}
 use Rattle.host_node.specs.Events.NodeEvent.{Accepts as node_accepts, Begins as node_begins, Ends_attempt, Ends_no_more, Notifies as node_notifies, Reports, Restarts, Sleeps, Starts as node_starts, Succeeds, Ticks as node_ticks}
 use Rattle.host_node.specs.declared.attempt.Moment.{Moment}
@@ -170,26 +170,138 @@ had_on h event places none n within =
 pub sessions_on : (h : HostState) (event : HostEvent) → length h.nodes ≡ 233 → BeginsNone h event → (n : ℕ) → n < 233 → (node_of (after h event) n).book.commands ≡ (node_of h n).book.commands
 sessions_on h event places none n within = (had_on h event places none n within).is
 
+-- ---- the segments of the attempt of a node
+
+-- an attempt starts
+abbrev StartsNone : NodeEvent → Type 0
+StartsNone (node_starts plan) = ⊥
+StartsNone event = Unit {0}
+
+module _ (count : ℕ) where
+  -- there are none, or so many
+  abbrev Cut : NodeState → Type 0
+  Cut x = (x.segments ≡ 0) ⊎ (x.segments ≡ count)
+
+  either_cut : (b : Bool) (x y : NodeState) → Cut x → Cut y → Cut (if b then x else y)
+  either_cut true x y first later = first
+  either_cut false x y first later = later
+
+  occasion_cut : (x : NodeState) → Cut x → Cut (after_occasion x)
+  occasion_cut x cut = either_cut (is_open x && is_up x && is_idle x.series) (new_series x) x cut cut
+
+  sleep_cut : (x : NodeState) → Cut x → Cut (after_sleep x)
+  sleep_cut x cut = either_cut x.listens x (asleep x) cut cut
+
+  sign_cut : (x : NodeState) → Cut x → Cut (after_sign x)
+  sign_cut x cut = either_cut (is_running x.series) (with_wait x wait_ticks) x cut cut
+
+  attempts_cut : (x : NodeState) (attempts : ℕ) (moment : Moment) → Cut x → Cut (after_attempts x attempts moment)
+  attempts_cut x attempts moment cut = either_cut (nat_lt attempts 3) (next_due x attempts) (after_sleep (series_over x attempts moment)) cut (sleep_cut (series_over x attempts moment) cut)
+
+  end_cut : (x : NodeState) (moment : Moment) → Cut x → Cut (after_attempt_end x moment)
+  end_cut x moment cut =
+      either_cut (is_running x.series) (after_attempts (without_attempt x) (x.book.attempts + 1) moment) x (attempts_cut (without_attempt x) (x.book.attempts + 1) moment (inl refl)) cut
+
+  again_cut : (x : NodeState) → Cut x → Cut (after_again x)
+  again_cut x cut = either_cut (has_waiting x) (after_occasion x) x (occasion_cut x cut) cut
+
+  again_tick_cut : (x : NodeState) → Cut x → Cut (after_again_tick x)
+  again_tick_cut x cut = either_cut (x.again_wait == 1) (after_again (with_again x 0)) (with_again x (x.again_wait - 1)) (again_cut (with_again x 0) cut) cut
+
+  attempt_tick_cut : (x : NodeState) → Cut x → Cut (after_attempt_tick x)
+  attempt_tick_cut x cut = either_cut (x.attempt_wait == 1) (after_attempt_end x BetweenTicks) (with_wait x (x.attempt_wait - 1)) (end_cut x BetweenTicks cut) cut
+
+  told_cut : (x : NodeState) (status : ℕ) (it : Told) → Cut x → Cut (after_told x status it)
+  told_cut x status (Final session) cut = inl refl
+  told_cut x status Working cut = sign_cut x cut
+  told_cut x status Old cut = cut
+
+  node_cut : (x : NodeState) (event : NodeEvent) → StartsNone event → Cut x → Cut (after_node x event)
+  node_cut x node_accepts none cut = occasion_cut x cut
+  node_cut x (node_starts plan) none cut = absurd none
+  node_cut x Succeeds none cut = sign_cut x cut
+  node_cut x (Ends_attempt moment) none cut = end_cut x moment cut
+  node_cut x (Reports id status) none cut = told_cut x status (told_of x.book id status) cut
+  node_cut x node_notifies none cut = occasion_cut (record x { awake = true; no_more = tried_again x.no_more }) cut
+  node_cut x Sleeps none cut = sleep_cut x cut
+  node_cut x Ends_no_more none cut = sleep_cut (after_no_more x Unasked) cut
+  node_cut x node_ticks none cut = attempt_tick_cut (after_again_tick (after_hold_tick x)) (again_tick_cut (after_hold_tick x) cut)
+  node_cut x Restarts none cut = occasion_cut (as_recorded x) (inl refl)
+  node_cut x event none cut = cut
+
+abbrev StartsNoneOf : ℕ → NodeState → NodeEvent → Type 0
+StartsNoneOf n x event = StartsNone event
+
+free_starts : (n : ℕ) (x : NodeState) (event : NodeEvent) → IsFree event → StartsNoneOf n x event
+free_starts n x (node_starts plan) free = absurd free
+free_starts n x event free = tt
+
+aside_starts : (x : NodeState) (event : NodeEvent) → IsAside event → StartsNone event
+aside_starts x (node_starts plan) aside = absurd aside
+aside_starts x event aside = tt
+
+part_starts : (h : HostState) (k : ℕ) (end : PartEnd) (moment : Moment) → AllowsPart StartsNoneOf k (node_of h k) end moment
+part_starts h k Good moment = tt
+part_starts h k Passed_over moment = tt
+part_starts h k Bad moment = tt
+
+end_starts : (h : HostState) (purpose : Purpose) (how : How) (moment : Moment) → AllowsEnd StartsNoneOf h purpose how moment
+end_starts h (Attempt k more payload) how moment = part_starts h k (part_end more how) moment
+end_starts h purpose how moment = tt
+
+end_if_starts : (h : HostState) (end : Option End) (moment : Moment) → AllowsEndIf StartsNoneOf h end moment
+end_if_starts h None moment = tt
+end_if_starts h (Some end) moment = end_starts h end.purpose end.how moment
+
+-- none starts at an event of the host; and where the line counts a tick, no frame of the host's own is on it
+abbrev pub StartsNo : HostState → HostEvent → Type 0
+StartsNo h (Starts n plan more payload) = ⊥
+StartsNo h Line_ticks = h.side.turn ≡ no_turn
+StartsNo h event = Unit {0}
+
+none_starts : (h : HostState) (event : HostEvent) → StartsNo h event → AllowsAt StartsNoneOf h event
+none_starts h (Requests_do event moment) none = end_if_starts h (end_at h.requests event) moment
+none_starts h (Starts k plan more payload) none = absurd none
+none_starts h Line_ticks none = none
+none_starts h event none = tt
+
+-- an attempt of the node has none then, or as many as before
+pub segments_on : (h : HostState) (event : HostEvent) → length h.nodes ≡ 233 → StartsNo h event → (n : ℕ) → n < 233 → ((node_of (after h event) n).segments ≡ 0) ⊎ ((node_of (after h event) n).segments ≡ (node_of h n).segments)
+segments_on h event places none n within =
+    (event_is StartsNoneOf (PlaceIs (Cut count) n) free_starts (λ nodes k one keeps at. each_place (Cut count) (λ x e. StartsNone e) aside_starts (node_cut count) n within nodes k one (λ same. keeps) at) h event (none_starts h event none)
+    (record { places = places; is = inr refl })).is
+  where
+    count : ℕ
+    count = (node_of h n).segments
+
 -- ---- from one host to another
 
--- the request that is under way in the second was in the first, and the sessions of each node are the same
+-- the request that is under way in the second was in the first, the sessions of each node are the same, and its attempt has as many segments, or none
 pub record GoesSteady (h g : HostState) : Type 0 where
   pub request : (v : UnderWay) → g.requests.under_way ≡ Some v → (u : UnderWay) × ((h.requests.under_way ≡ Some u) × (v.purpose ≡ u.purpose))
   pub places : length g.nodes ≡ 233
   pub sessions : (n : ℕ) → n < 233 → (node_of g n).book.commands ≡ (node_of h n).book.commands
+  pub segments : (n : ℕ) → n < 233 → ((node_of g n).segments ≡ 0) ⊎ ((node_of g n).segments ≡ (node_of h n).segments)
 
 pub steady_still : (h g : HostState) → g ≡ h → length h.nodes ≡ 233 → GoesSteady h g
 steady_still h g same places = record {
   request = λ v is. (v, (sym (ap (λ (k : HostState). k.requests.under_way) same) ∙ is, refl));
   places = ap (λ (k : HostState). length k.nodes) same ∙ places;
   sessions = λ n within. ap (λ (k : HostState). (node_of k n).book.commands) same;
+  segments = λ n within. inr (ap (λ (k : HostState). (node_of k n).segments) same);
 }
+
+fewer_then : (a b c : ℕ) → (b ≡ 0) ⊎ (b ≡ a) → (c ≡ 0) ⊎ (c ≡ b) → (c ≡ 0) ⊎ (c ≡ a)
+fewer_then a b c first (inl none) = inl none
+fewer_then a b c (inl none) (inr same) = inl (same ∙ none)
+fewer_then a b c (inr as_many) (inr same) = inr (same ∙ as_many)
 
 steady_then : (h g k : HostState) → GoesSteady h g → GoesSteady g k → GoesSteady h k
 steady_then h g k first later = record {
   request = λ v is. let at = later.request v is in let before = first.request at.0 at.1.0 in (before.0, (before.1.0, at.1.1 ∙ before.1.1));
   places = later.places;
   sessions = λ n within. later.sessions n within ∙ first.sessions n within;
+  segments = λ n within. fewer_then (node_of h n).segments (node_of g n).segments (node_of k n).segments (first.segments n within) (later.segments n within);
 }
 
 -- what comes next of a request
@@ -227,6 +339,11 @@ steady_begins h (Begins n session command) steady = absurd steady
 steady_begins h Line_ticks steady = steady
 steady_begins h event steady = tt
 
+steady_starts : (h : HostState) (event : HostEvent) → IsSteady h event → StartsNo h event
+steady_starts h (Starts n plan more payload) steady = absurd steady
+steady_starts h Line_ticks steady = steady
+steady_starts h event steady = tt
+
 kept_request : (h g : HostState) → kept g ≡ kept h → (v : UnderWay) → g.requests.under_way ≡ Some v → (u : UnderWay) × ((h.requests.under_way ≡ Some u) × (v.purpose ≡ u.purpose))
 kept_request h g same v is = (v, (sym (ap (λ (k : OfHost). k.1) same) ∙ is, refl))
 
@@ -256,6 +373,7 @@ steady_on h event places steady = record {
   request = one_request h event steady;
   places = (had_on h event places (steady_begins h event steady) 0 (omega arith)).places;
   sessions = sessions_on h event places (steady_begins h event steady);
+  segments = segments_on h event places (steady_starts h event steady);
 }
 
 -- ---- what the host judges

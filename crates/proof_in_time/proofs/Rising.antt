@@ -27,6 +27,7 @@ use Rattle.proof_answered.proofs.SleeperTexts.{before_or_after, never_both}
 use Rattle.proof_answered.proofs.WokenLast.{turns_both}
 use Rattle.proof_course_plain.proofs.Replies.{one_place, one_stands}
 use Rattle.proof_in_time.specs.Coming.{Has, Stands, brings}
+use Rattle.proof_in_time.proofs.InHand.{HasTurn, turn_left}
 use Rattle.proof_in_time.specs.InHand.{AllServe, Serves, SleepsAlone}
 
 -- ---- what tells a waking
@@ -83,31 +84,32 @@ pub record HasRisen (n : ℕ) (here : Phase) (past : List Entry) (m : Machine) :
   pub later : IsAfter n here past
   pub quiet : NoneWakes m
 
--- while something is left for a node, it counts as up, and no task goes before its work
-abbrev pub IsServed : ℕ → HostState → Type 0
-IsServed n h = HasLeft (node_of h n) → (is_up (node_of h n) ≡ true) × (h.requests.queue ≡ [])
+-- while something is left for a node, it counts as up; and where it has a turn, no task goes before its work
+pub record IsServed (n : ℕ) (h : HostState) : Type 0 where
+  pub up : HasLeft (node_of h n) → is_up (node_of h n) ≡ true
+  pub empty : HasTurn (node_of h n) → h.requests.queue ≡ []
 
 or_true : (a b : Bool) → b ≡ true → (a || b) ≡ true
 or_true true b is = refl
 or_true false b is = is
 
 up_served : (n : ℕ) (h : HostState) → IsUpAt n h → IsServed n h
-up_served n h up left = (or_true (node_of h n).listens (node_of h n).awake up.kept.awake, by up.no_more)
+up_served n h up = record { up = λ left. or_true (node_of h n).listens (node_of h n).awake up.kept.awake; empty = λ turn. by (turn_left (node_of h n) turn) up.no_more }
   where
-    not_queued : (node_of h n).no_more ≡ Queued → ⊥
-    not_queued queued = absurd (let wrong : Queued ≡ Unasked = sym queued ∙ up.kept.unasked left in cc)
+    not_queued : HasLeft (node_of h n) → (node_of h n).no_more ≡ Queued → ⊥
+    not_queued left queued = absurd (let wrong : Queued ≡ Unasked = sym queued ∙ up.kept.unasked left in cc)
 
-    by : NoMoreAt n h → h.requests.queue ≡ []
-    by (Not_asked empty untold) = empty
-    by (Is_queued queue untold queued) = absurd (not_queued queued)
-    by (Is_sent empty telling queued) = empty
+    by : HasLeft (node_of h n) → NoMoreAt n h → h.requests.queue ≡ []
+    by left (Not_asked empty untold) = empty
+    by left (Is_queued queue untold queued) = absurd (not_queued left queued)
+    by left (Is_sent empty telling queued) = empty
 
 pub risen_served : (n : ℕ) (device : State) (here : Phase) (past : List Entry) (m : Machine) → SleeperAt n device here past m → HasRisen n here past m → IsServed n m.host.state
 risen_served n device here past m (Before before down none quiet) risen = absurd (before_or_after n here past before risen.later)
 risen_served n device here past m (Woken later down none one awake) risen = absurd (not_both_wake n m one risen.quiet)
 risen_served n device here past m (Up later up quiet awake) risen = up_served n m.host.state up
 risen_served n device here past m (Was_told later up telling line none quiet) risen = up_served n m.host.state up
-risen_served n device here past m (Back_asleep later down nothing none quiet) risen = λ left. absurd (nothing left)
+risen_served n device here past m (Back_asleep later down nothing none quiet) risen = record { up = λ left. absurd (nothing left); empty = λ turn. absurd (nothing (turn_left (node_of m.host.state n) turn)) }
 
 -- where it may be, it has risen, or is woken
 pub risen_or : (n : ℕ) (device : State) (here : Phase) (past : List Entry) (m : Machine) → SleeperAt n device here past m → wakes_never (turns n past) ≡ false → (IsToWake n here → ⊥) → OneWakes n m ⊎ HasRisen n here past m
@@ -168,5 +170,5 @@ Risen true n here past m = Unit {0}
 Risen false n here past m = HasRisen n here past m
 
 pub serves_now : (listening : Bool) (these : List Bool) (n : ℕ) (here : Phase) (past : List Entry) (m : Machine) → is_marked these n ≡ true → Serves listening these m → AllHear these here past m → Risen listening n here past m → IsServed n m.host.state
-serves_now true these n here past m marked serve hears risen = λ left. (ap (λ (b : Bool). b || (node_of m.host.state n).awake) (serve.listens n marked), serve.no_task)
+serves_now true these n here past m marked serve hears risen = record { up = λ left. ap (λ (b : Bool). b || (node_of m.host.state n).awake) (serve.listens n marked); empty = λ turn. serve.no_task }
 serves_now false these n here past m marked sleeps hears risen = let at = rests_at these n here past m marked sleeps hears in risen_served n at.0.device here past m at.1 risen

@@ -44,7 +44,7 @@ use Rattle.proof_answered.proofs.Requested.{moved_frames}
 use Rattle.proof_answered.specs.Outward.{IsSentTo}
 use Rattle.proof_answered.proofs.Walking.{takes_still}
 use Rattle.proof_answered.proofs.Unheard.{chip_part_says, unheard_idle, unheard_judged}
-use Rattle.proof_in_time.specs.Coming.{AsksFor, Coming, Has, IsBusy, IsKept, IsMessage, IsOnAir, IsPlainStart, IsRequest, Sent, Stands, TellsEnd, Told, WaitsFor, brings, has_ticked, one_later, own_ticks, ticks_left, is_layered}
+use Rattle.proof_in_time.specs.Coming.{AsksFor, Coming, Has, IsBusy, IsKept, IsMessage, IsOnAir, IsPlainStart, IsRequest, Sent, Stands, TellsEnd, Told, WaitsFor, brings, has_ticked, one_later, own_ticks, ticks_left, is_listed}
 use Rattle.proof_in_time.proofs.Bounded.{NoMore, again_far, busy_still, does_waits, either_node, host_stays, open_where, outer_waits, refuses_waits, session_of, start_waits, still_fits, waits_none}
 use Rattle.proof_in_time.proofs.Carried.{Fits, IsNearEnd, IsThere, carry, carry_or, many_on_air}
 use Rattle.proof_in_time.proofs.Grown.{Adds, calm_adds, takes_add}
@@ -59,15 +59,15 @@ chip_devices m count rest ways = refl
 
 -- ---- a pump
 
-module _ (airs : Airs) (these : List Bool) (many : length these ≡ 233) (n most : ℕ) (marked : is_marked these n ≡ true) (node : IsNode n) (within : n < 233) where
+module _ (airs : Airs) (these : List Bool) (many : length these ≡ 233) (whole : Bool) (n most : ℕ) (marked : is_marked these n ≡ true) (node : IsNode n) (within : n < 233) where
   asks_still : (here next : Phase) (m : Machine) (event : HostEvent) → (AsksFor n (session_of n m) m.host.state → ⊥) → ((place : ℕ) → ticks_left next + one_later next place ≤ ticks_left here + one_later here place) → ticks_left next ≤ ticks_left here
-      → ((place : ℕ) → ticks_left next + has_ticked next place ≤ ticks_left here + has_ticked here place) → NoMore n here next → IsBeside n m.host.state event → length m.host.state.nodes ≡ 233 → WaitsFor n most here m → WaitsFor n most next (happens m (Host_does event))
+      → ((place : ℕ) → ticks_left next + has_ticked next place ≤ ticks_left here + has_ticked here place) → NoMore n here next → IsBeside n m.host.state event → length m.host.state.nodes ≡ 233 → WaitsFor whole n most here m → WaitsFor whole n most next (happens m (Host_does event))
   asks_still here next m event none joint alone near less beside places w =
-      does_waits n most within here next m event less beside places (host_stays airs n here next m event (λ asking asks. none asks) (λ left. still_fits n (many_on_air m) left here next joint alone) near) w
+      does_waits whole n most within here next m event less beside places (host_stays airs n here next m event (λ asking asks. none asks) (λ left. still_fits n (many_on_air m) left here next joint alone) near) w
 
-  pub sleeps_wait : (passes ticks : ℕ) (m : Machine) (k : ℕ) → length m.host.state.nodes ≡ 233 → WaitsFor n most (Sleeping passes ticks) m → WaitsFor n most (Sleeping passes ticks) (happens m (Host_does (no_more_event m.host.state k)))
+  pub sleeps_wait : (passes ticks : ℕ) (m : Machine) (k : ℕ) → length m.host.state.nodes ≡ 233 → WaitsFor whole n most (Sleeping passes ticks) m → WaitsFor whole n most (Sleeping passes ticks) (happens m (Host_does (no_more_event m.host.state k)))
   sleeps_wait passes ticks m k places w =
-      does_waits n most within (Sleeping passes ticks) (Sleeping passes ticks) m (no_more_event m.host.state k) (omega arith) (no_more_is (IsBeside n m.host.state) (record { queues = λ j. tt; drops = λ j. tt }) m.host.state k) places
+      does_waits whole n most within (Sleeping passes ticks) (Sleeping passes ticks) m (no_more_event m.host.state k) (omega arith) (no_more_is (IsBeside n m.host.state) (record { queues = λ j. tt; drops = λ j. tt }) m.host.state k) places
       (host_stays airs n (Sleeping passes ticks) (Sleeping passes ticks) m (no_more_event m.host.state k) (λ asking asks. asking)
       (λ left. still_fits n (many_on_air m) left (Sleeping passes ticks) (Sleeping passes ticks) (λ place. omega arith) (omega arith)) (λ place. omega arith)) w
 
@@ -98,10 +98,10 @@ module _ (airs : Airs) (these : List Bool) (many : length these ≡ 233) (n most
 
   -- then it is as it was, or an attempt of it that was due has started
   abbrev Submitted : ℕ → ℕ → Machine → HostEvent → Type 0
-  Submitted passes ticks m event = WaitsFor n most (Submitting passes ticks) (happens m (Host_does event)) ⊎ (((node_of m.host.state n).series ≡ series.Due) × WaitsFor n 6 (Submitting passes ticks) (happens m (Host_does event)))
+  Submitted passes ticks m event = WaitsFor whole n most (Submitting passes ticks) (happens m (Host_does event)) ⊎ (((node_of m.host.state n).series ≡ series.Due) × WaitsFor whole n 6 (Submitting passes ticks) (happens m (Host_does event)))
 
   pub submits_wait : (passes ticks : ℕ) (m : Machine) (event : HostEvent) → IsNext m.host.state event → May m (Host_does event) → IsPlainStart these m.host.state event → length m.host.state.nodes ≡ 233 → NodeFacts (node_of m.host.state n)
-      → WaitsFor n most (Submitting passes ticks) m → Submitted passes ticks m event
+      → WaitsFor whole n most (Submitting passes ticks) m → Submitted passes ticks m event
   unfolding May
   submits_wait passes ticks m event next may plainly places facts w = by (asked_is m.host.state event next)
     where
@@ -110,8 +110,8 @@ module _ (airs : Airs) (these : List Bool) (many : length these ≡ 233) (n most
       by (inr (plan, (more, (payload, is)))) =
           inr (
             due,
-            subst (λ (e : HostEvent). WaitsFor n 6 (Submitting passes ticks) (happens m (Host_does e))) (sym is)
-                (start_waits n most within (Submitting passes ticks) (Submitting passes ticks) m plan more payload places none (subst (IsPlainStart these m.host.state) is plainly marked) tt (omega arith) w),
+            subst (λ (e : HostEvent). WaitsFor whole n 6 (Submitting passes ticks) (happens m (Host_does e))) (sym is)
+                (start_waits whole n most within (Submitting passes ticks) (Submitting passes ticks) m plan more payload places none (subst (IsPlainStart these m.host.state) is plainly marked) tt (omega arith) w),
           )
         where
           due : (node_of m.host.state n).series ≡ series.Due
@@ -128,9 +128,9 @@ module _ (airs : Airs) (these : List Bool) (many : length these ≡ 233) (n most
 
   pub takes_wait : (passes ticks : ℕ) (m : Machine) (rest : Rest) (ways : List (Item × Option Route)) → Awaits m → ChipMayTake m rest ways → IsDone m ⊎ CanMove passes m → HasRoom m.outside.outer.chip.state
       → TieOf true m (on_line m.host.state.side.turn) → IsDone (chip_taken m rest ways) ⊎ HasMoved true passes (chip_taken m rest ways) → IsSentTo these m (Outside_does (Chip_takes (length m.outside.outer.to_chip.bytes) rest ways))
-      → ((asks : AsksFor n (session_of n m) m.host.state) → Stands (IsOnAir n asks.payload) (on_air (chip_taken m rest ways).outside.outer.air.frames)) → WaitsFor n most (Moving passes ticks) m → WaitsFor n most (Moved true passes ticks) (chip_taken m rest ways)
+      → ((asks : AsksFor n (session_of n m) m.host.state) → Stands (IsOnAir n asks.payload) (on_air (chip_taken m rest ways).outside.outer.air.frames)) → WaitsFor whole n most (Moving passes ticks) m → WaitsFor whole n most (Moved true passes ticks) (chip_taken m rest ways)
   takes_wait passes ticks m rest ways awaits may at room tie later sent airs_it w =
-      outer_waits n most (Moving passes ticks) (Moved true passes ticks) (omega arith) m (Chip_takes (length m.outside.outer.to_chip.bytes) rest ways)
+      outer_waits whole n most (Moving passes ticks) (Moved true passes ticks) (omega arith) m (Chip_takes (length m.outside.outer.to_chip.bytes) rest ways)
       (λ left comes.
       carry n (session_of n m) left left (Moving passes ticks) (Moved true passes ticks) m (chip_taken m rest ways)
       (λ asking asks six. Sent (aired (session_of n m) asks.payload (on_air (chip_taken m rest ways).outside.outer.air.frames) asks.message (airs_it asks)) (omega (arith, six)))
@@ -157,10 +157,10 @@ module _ (airs : Airs) (these : List Bool) (many : length these ≡ 233) (n most
     pub comes : Coming n (begun_of (node_of h n).book) left next later
     pub waits : ((node_of h n).attempt_wait ≡ 0) ⊎ (70 + left + own_ticks n next ≤ (node_of h n).attempt_wait)
 
-  waits_by : (next : Phase) (later : Machine) (h : HostState) → later.host.state ≡ h → own_ticks n next ≤ 1 → is_layered (node_of h n).classes ≡ false → ((node_of h n).series ≡ series.Running → BoundedBy next later h) → WaitsFor n most next later
+  waits_by : (next : Phase) (later : Machine) (h : HostState) → later.host.state ≡ h → own_ticks n next ≤ 1 → is_listed whole (node_of h n).classes ≡ false → ((node_of h n).series ≡ series.Running → BoundedBy next later h) → WaitsFor whole n most next later
   waits_by next later h same once openly bounded = record {
     once = once;
-    openly = subst (λ (g : HostState). is_layered (node_of g n).classes ≡ false) (sym same) openly;
+    openly = subst (λ (g : HostState). is_listed whole (node_of g n).classes ≡ false) (sym same) openly;
     bounded = λ run. let b = subst (λ (g : HostState). (node_of g n).series ≡ series.Running → BoundedBy next later g) (sym same) bounded run in record { left = b.left; few = b.few; within = b.within_most; comes = b.comes; waits = b.waits };
   }
 
@@ -178,9 +178,9 @@ module _ (airs : Airs) (these : List Bool) (many : length these ≡ 233) (n most
     works left =
         busy_still n (session_of n m) left (Moved b passes ticks) (Sleeping passes ticks) m later (takes_still airs m (length m.outside.outer.to_host.bytes) rest items events) (λ place. omega arith)
 
-    idle_waits : (host turn : Turn) (frames : List FrameParts) → OnLine [] [] host turn frames m → WaitsFor n most (Moved b passes ticks) m → WaitsFor n most (Sleeping passes ticks) later
+    idle_waits : (host turn : Turn) (frames : List FrameParts) → OnLine [] [] host turn frames m → WaitsFor whole n most (Moved b passes ticks) m → WaitsFor whole n most (Sleeping passes ticks) later
     idle_waits host turn frames line w =
-        refuses_waits n most (Moved b passes ticks) (Sleeping passes ticks) (omega arith) m (Host_takes (length m.outside.outer.to_host.bytes) rest items events) (host_idles m host turn frames rest items events line may).2
+        refuses_waits whole n most (Moved b passes ticks) (Sleeping passes ticks) (omega arith) m (Host_takes (length m.outside.outer.to_host.bytes) rest items events) (host_idles m host turn frames rest items events line may).2
         (λ left comes.
         carry n (session_of n m) left left (Moved b passes ticks) (Sleeping passes ticks) m later (λ asking asks six. absurd asking) (works left) adds
         (λ x has. subst (Has x) (sym (unheard_idle AnyFrame (Has x) (has_piled x) airs m rest items events host turn frames line may)) has) (fits left) comes)
@@ -188,7 +188,7 @@ module _ (airs : Airs) (these : List Bool) (many : length these ≡ 233) (n most
 
     units_wait : (unit : LineUnit) (units : List LineUnit) (host turn : Turn) (frames : List FrameParts) → OnLine [] (unit ∷ units) host turn frames m → AllByRecursion IsPlain (unit ∷ units) → length (unit ∷ units) ≤ 99
         → unheard m.outside.outer ≡ frames_in (unit ∷ units) ++ m.outside.outer.chip.state.port.waiting → TieOf true m [] → AllByRecursion IsKept events → length m.host.state.nodes ≡ 233 → NodeFacts (node_of m.host.state n)
-        → WaitsFor n most (Moved b passes ticks) m → WaitsFor n most (Sleeping passes ticks) later
+        → WaitsFor whole n most (Moved b passes ticks) m → WaitsFor whole n most (Sleeping passes ticks) later
     units_wait unit units host turn frames line plain few frames_are tie keeps places facts w = waits_by (Sleeping passes ticks) later (after_all m.host.state events) host_is (omega arith) after_judging.openly (λ run. bounded run (after_judging.runs run))
       where
         h : HostState
@@ -218,7 +218,7 @@ module _ (airs : Airs) (these : List Bool) (many : length these ≡ 233) (n most
         bound_of left (inl none) = inl none
         bound_of left (inr more) = inr (omega (arith, more))
 
-        before_judging : Judges n session wait (Elsewhere session wait (Sleeping passes ticks) later) (frames_in (unit ∷ units) ++ waiting) h
+        before_judging : Judges whole n session wait (Elsewhere session wait (Sleeping passes ticks) later) (frames_in (unit ∷ units) ++ waiting) h
         before_judging = record {
           places = places;
           openly = w.openly;
@@ -233,9 +233,9 @@ module _ (airs : Airs) (these : List Bool) (many : length these ≡ 233) (n most
               };
         }
 
-        after_judging : Judges n session wait (Elsewhere session wait (Sleeping passes ticks) later) waiting (after_all h events)
+        after_judging : Judges whole n session wait (Elsewhere session wait (Sleeping passes ticks) later) waiting (after_all h events)
         after_judging =
-            units_judge n within session wait (Elsewhere session wait (Sleeping passes ticks) later) m.outside.outer.chip.state h (unit ∷ units) waiting events node plain
+            units_judge whole n within session wait (Elsewhere session wait (Sleeping passes ticks) later) m.outside.outer.chip.state h (unit ∷ units) waiting events node plain
             (judged_are m (length m.outside.outer.to_host.bytes) rest items events (unit ∷ units) may items_are) (subst (λ (fs : List FrameParts). TieBy true (kept h) m.outside.outer.chip.state fs []) frames_are tie) keeps before_judging
 
         bounded : (node_of (after_all h events) n).series ≡ series.Running → Runs n session wait (Elsewhere session wait (Sleeping passes ticks) later) waiting (after_all h events) → BoundedBy (Sleeping passes ticks) later (after_all h events)
@@ -267,10 +267,10 @@ module _ (airs : Airs) (these : List Bool) (many : length these ≡ 233) (n most
               waits = again_far (node_of (after_all h events) n).attempt_wait wait 0 0 0 (omega arith) (omega arith) (omega arith) is.waits (no_more is.bound);
             }
 
-    pub judges_wait : IsDone m ⊎ HasMoved b passes m → TieOf true m [] → AllByRecursion IsKept events → length m.host.state.nodes ≡ 233 → NodeFacts (node_of m.host.state n) → WaitsFor n most (Moved b passes ticks) m → WaitsFor n most (Sleeping passes ticks) later
+    pub judges_wait : IsDone m ⊎ HasMoved b passes m → TieOf true m [] → AllByRecursion IsKept events → length m.host.state.nodes ≡ 233 → NodeFacts (node_of m.host.state n) → WaitsFor whole n most (Moved b passes ticks) m → WaitsFor whole n most (Sleeping passes ticks) later
     judges_wait (inl done) tie keeps places facts w = idle_waits no_turn no_turn [] done.line w
     judges_wait (inr has) tie keeps places facts w = by has.down has.line has.plain has.few (moved_frames b passes m has)
       where
-        by : (down : List LineUnit) → OnLine [] down has.host has.turn has.frames m → AllByRecursion IsPlain down → length down ≤ 99 → unheard m.outside.outer ≡ frames_in down ++ m.outside.outer.chip.state.port.waiting → WaitsFor n most (Sleeping passes ticks) later
+        by : (down : List LineUnit) → OnLine [] down has.host has.turn has.frames m → AllByRecursion IsPlain down → length down ≤ 99 → unheard m.outside.outer ≡ frames_in down ++ m.outside.outer.chip.state.port.waiting → WaitsFor whole n most (Sleeping passes ticks) later
         by [] line plain few frames_are = idle_waits has.host has.turn has.frames line w
         by (unit ∷ units) line plain few frames_are = units_wait unit units has.host has.turn has.frames line plain few frames_are tie keeps places facts w

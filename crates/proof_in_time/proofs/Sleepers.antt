@@ -2,6 +2,7 @@
 use Rattle.std.proofs.Common.{◌≡◌, ℕ, ◌+◌, ◌-◌, ◌<◌, ◌==◌, ◌&&◌, ◌||◌, nat_lt, inl, inr, Bool, true, false, if◌then◌else◌, Option, Some, None, Ok, List, [], ◌∷◌, length, refl, sym, ap, ◌∙◌, subst, arith}
 use Rattle.std.specs.Prelude.{◌⊎◌}
 use Rattle.std.proofs.lemmas.Bool.{lt-ltb}
+use Rattle.class_info.specs.declared.message.InfoMessage.{InfoMessage}
 use Rattle.class_info.specs.declared.message.InfoMessage.TheVariants.{WakeUpNoMoreInformation, WakeUpNotification}
 use Rattle.class_info.specs.InfoReading.{info_at}
 use Rattle.class_info.specs.InfoSpelling.{form}
@@ -10,7 +11,7 @@ use Rattle.class_info.proofs.InfoLaws.{again}
 use Rattle.encap.specs.Opening.{Message, begins_with, opened_at}
 use Rattle.encap.specs.declared.plan.Plan.{Plan}
 use Rattle.encap.specs.declared.plan.Supervised.{Supervised}
-use Rattle.host_heard.specs.Telling.{heard_at}
+use Rattle.host_heard.specs.Telling.{heard_at, told_by}
 use Rattle.host_heard.specs.declared.payload.Heard.TheVariants.{Messages}
 use Rattle.host_heard.specs.declared.told.Told.TheVariants.{Notification}
 use Rattle.host_requests.specs.Frames.{no_more_information}
@@ -45,13 +46,14 @@ is_sensor Configurable sleeps = cc
 
 -- ---- it is woken
 
-told_one : (payload : List ℕ) → begins_with payload 152 129 ≡ false → opened_at payload ≡ Some (record { plan = bare; commands = payload ∷ [] }) → info_at payload ≡ Ok WakeUpNotification → heard_at payload ≡ Messages (Notification ∷ [])
+pub told_one : (payload : List ℕ) (message : InfoMessage) → begins_with payload 152 129 ≡ false → opened_at payload ≡ Some (record { plan = bare; commands = payload ∷ [] }) → info_at payload ≡ Ok message
+    → heard_at payload ≡ Messages (told_by 0 message ∷ [])
 unfolding heard_at
-told_one payload unsealed opened read = rw (unsealed, opened, read) refl
+told_one payload message unsealed opened read = rw (unsealed, opened, read) refl
 
 notification_told : heard_at (form WakeUpNotification) ≡ Messages (Notification ∷ [])
 notification_told =
-    told_one (form WakeUpNotification) refl (bare_opens (form WakeUpNotification) (middle_command 0x84 (7 ∷ []) (omega arith) (omega arith)))
+    told_one (form WakeUpNotification) WakeUpNotification refl (bare_opens (form WakeUpNotification) (middle_command 0x84 (7 ∷ []) (omega arith) (omega arith)))
     (again (form WakeUpNotification) WakeUpNotification (form_spells WakeUpNotification tt))
 
 -- it is awake by now and tells that, and nothing else

@@ -10,7 +10,6 @@ use Rattle.world_model.specs.State.{Machine}
 use Rattle.world_lines.specs.Spoken.{Spoken, after, after_all, entries_of, transcript_of}
 use Rattle.world_lines.specs.Done.{AreDone, events_of}
 use Rattle.world_lines.specs.Whole.{AreWhole}
-use Rattle.proof_in_time.specs.InStep.{GoesInStep, IsPlainly}
 
 pub done_later : (m : Machine) (before lines : List Spoken) → AreDone m (before ++ lines) → AreDone (after_all m before) lines
 done_later m [] lines are = are
@@ -52,6 +51,7 @@ events_both [] lines = refl
 events_both (spoken ∷ before) lines = ap (λ (es : List Event). spoken.events ++ es) (events_both before lines) ∙ sym (append_assoc spoken.events (events_of before) (events_of lines))
 
 -- what is so of each of these nodes at each event
-pub each_along : (these : List Bool) (m : Machine) (events : List Event) → ((n : ℕ) → is_marked these n ≡ true → AllAlong (GoesInStep n) m events) → AllAlong (IsPlainly these) m events
-each_along these m [] all = tt
-each_along these m (event ∷ events) all = ((λ n marked. (all n marked).0), each_along these (happens m event) events (λ n marked. (all n marked).1))
+pub each_along : (Stays : ℕ → Machine → Event → Type 0) (these : List Bool) (m : Machine) (events : List Event) → ((n : ℕ) → is_marked these n ≡ true → AllAlong (Stays n) m events)
+    → AllAlong (λ (x : Machine) (event : Event). (n : ℕ) → is_marked these n ≡ true → Stays n x event) m events
+each_along Stays these m [] all = tt
+each_along Stays these m (event ∷ events) all = ((λ n marked. (all n marked).0), each_along Stays these (happens m event) events (λ n marked. (all n marked).1))

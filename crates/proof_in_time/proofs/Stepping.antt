@@ -33,6 +33,8 @@ use Rattle.proof_course_plain.proofs.Replies.{one_place, one_stands}
 use Rattle.proof_answered.proofs.Listeners.{same_place, stands_now}
 use Rattle.proof_in_time.specs.Answering.{IsDone, IsDoneOrAtWork, IsInStep, Last, Next}
 use Rattle.proof_in_time.specs.InStep.{HasInStep, IsNear, IsNearAt, IsPlainDevice}
+use Rattle.proof_in_time.specs.Untold.{NoneEnds}
+use Rattle.proof_in_time.proofs.Untold.{none_ends}
 
 -- ---- the number of sessions
 
@@ -134,6 +136,7 @@ module _ (laws : Laws) (n : ℕ) (within : n < 233) (devices : List State) (has 
           step = λ some. steps_in now.device (begun_of (node_of m.host.state n).book) (omega (arith, begun, taken, ahead)) (omega (arith, begun, taken, after))
               (λ working. begun ∙ (last_at_work c follows.course (ap (λ (t : Taken). t.status) (sym now.at.sessions) ∙ working) ∙ sym taken)) some is.at;
           unsealed = follows.host.node_as.1.1.0;
+          untold = λ node next. subst (λ (session : ℕ). NoneEnds n session m) (sym begun) (none_ends n orders c up down m node follows (omega (arith, begun, taken, next)));
         },
         kind_now c m now go,
       )

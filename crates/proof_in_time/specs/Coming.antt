@@ -1,5 +1,5 @@
 -- What is on its way while an attempt of a node runs, at each phase of quiet lines and ticks (this project's own rule), and how many ticks of the node are to come before its session is over.
-use Rattle.std.specs.Prelude.{◌≡◌, ◌≢◌, ◌⊎◌, ℕ, ◌+◌, ◌≤◌, ◌==◌, ◌&&◌, nat_le, nat_lt, Bool, false, true, if◌then◌else◌, List, [], ◌∷◌, ◌++◌, length, ◌||◌, Option, Some, None, slice_get}
+use Rattle.std.specs.Prelude.{◌≡◌, ◌≢◌, ◌⊎◌, ℕ, suc, ◌+◌, ◌-◌, ◌≤◌, ◌==◌, ◌&&◌, nat_le, nat_lt, Bool, false, true, if◌then◌else◌, List, [], ◌∷◌, ◌++◌, length, ◌||◌, Option, Some, None, slice_get}
 use Rattle.std.specs.List.{list_any}
 use Rattle.zw_base.specs.declared.order.Order.{Order}
 use Rattle.zw_text.specs.declared.entry.Entry.{Entry}
@@ -28,6 +28,7 @@ use Rattle.host_requests.specs.declared.under_way.UnderWay.{UnderWay}
 use Rattle.host_node.specs.declared.series.Series.TheVariants.{Running}
 use Rattle.host_model.specs.Events.{HostEvent, Is_unkept, Node_ticks, Starts}
 use Rattle.host_model.specs.State.{Command, HostState, command_at, node_of}
+use Rattle.host_model.specs.Taking.{is_secure}
 use Rattle.world_model.specs.State.{Machine}
 use Rattle.proof_answered.specs.proof_calm.proof_traffic.OnAir.{on_air}
 use Rattle.proof_answered.specs.proof_calm.proof_work.proof_walk.Phases.{Phase, Between, Said_line, Begun, Doing, To_tick, Ticked, Arriving, Giving, Ticking_devices, Ticking_chip, Ticking_decoder, Ticking_host, Sleeping, Submitting, Moving, Moved}
@@ -129,6 +130,11 @@ ticks_left (Doing line left) = 1
 ticks_left (To_tick ticks) = 1
 ticks_left here = 0
 
+-- as a tick begins one fewer is to begin
+abbrev pub most_then : ℕ → Phase → ℕ
+most_then most (To_tick (suc ticks)) = most - 1
+most_then most here = most
+
 -- and one more for a frame behind so many others, where it arrives in the tick after that
 abbrev pub one_later : Phase → ℕ → ℕ
 one_later (Arriving frames ticks) place = if nat_lt place frames then 0 else 1
@@ -194,14 +200,18 @@ abbrev pub is_layered : Option (List ℕ) → Bool
 is_layered None = false
 is_layered (Some classes) = lists_class classes 0x98 || lists_class classes 0x55
 
--- so while an attempt of it runs; and it lists none of the two, so that its plain reports are taken
-pub record WaitsFor (n most : ℕ) (here : Phase) (m : Machine) : Type 0 where
-  pub openly : is_layered (node_of m.host.state n).classes ≡ false
+-- what is not to be listed: none of the two where its messages go whole, else not Security 0
+abbrev pub is_listed : Bool → Option (List ℕ) → Bool
+is_listed whole classes = if whole then is_layered classes else is_secure classes
+
+-- so while an attempt of it runs; and what it lists lets its plain reports be taken
+pub record WaitsFor (whole : Bool) (n most : ℕ) (here : Phase) (m : Machine) : Type 0 where
+  pub openly : is_listed whole (node_of m.host.state n).classes ≡ false
   pub once : own_ticks n here ≤ 1
   pub bounded : (node_of m.host.state n).series ≡ Running → IsBounded n most here m
 
 abbrev pub AllWaitFor : List Bool → Phase → Machine → Type 0
-AllWaitFor these here m = (n : ℕ) → is_marked these n ≡ true → WaitsFor n 6 here m
+AllWaitFor these here m = (n : ℕ) → is_marked these n ≡ true → WaitsFor true n 6 here m
 
 -- ---- commands
 

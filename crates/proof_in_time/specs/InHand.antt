@@ -67,15 +67,15 @@ pub record HasEnded (command : ℕ) (book : HostBook) : Type 0 where
 
 -- ---- ticks
 
--- those of a session, from the end of the one before it on: one for each of these nodes, whose turn may come before, six until the report comes that tells the
--- end of a work, and one more
-abbrev pub ticks_enough : List Bool → ℕ
-ticks_enough these = marked_to these 232 + 7
+-- those of a session, from the end of the one before it on: one for each of these nodes, whose turn may come before, so many until the report comes that tells the
+-- end of a work (six, where a message goes whole), and one more
+abbrev pub ticks_enough : ℕ → List Bool → ℕ
+ticks_enough long these = marked_to these 232 + (long + 1)
 
 -- those of so many sessions
-abbrev pub ticks_of_all : List Bool → ℕ → ℕ
-ticks_of_all these zero = 0
-ticks_of_all these (suc sessions) = ticks_enough these + ticks_of_all these sessions
+abbrev pub ticks_of_all : ℕ → List Bool → ℕ → ℕ
+ticks_of_all long these zero = 0
+ticks_of_all long these (suc sessions) = ticks_enough long these + ticks_of_all long these sessions
 
 -- where no record of its last session was kept, the node is blocked until its own tick, which comes with the next one of the host
 abbrev pub ticks_blocked : NodeState → ℕ

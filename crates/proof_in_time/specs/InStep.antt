@@ -3,6 +3,7 @@ use Rattle.std.specs.Prelude.{◌≡◌, ℕ, ◌+◌, ◌≤◌, Bool, true, fa
 use Rattle.std.specs.List.{AllByRecursion}
 use Rattle.supervision.specs.Host.{begun_of}
 use Rattle.law_transcript.specs.Nodes.{device_of}
+use Rattle.chip_functions.specs.Field.{IsNode}
 use Rattle.chip_sim.specs.Nodes.{is_marked}
 use Rattle.mesh_sim.specs.Fates.{place_of}
 use Rattle.device_kinds.specs.Kind.{lists}
@@ -20,6 +21,7 @@ use Rattle.proof_course_plain.specs.World.{OrdersPlain}
 use Rattle.proof_messages.specs.Asking.{takes_openly}
 use Rattle.proof_messages.specs.Reporting.{CanSay}
 use Rattle.proof_in_time.specs.Answering.{IsDoneOrAtWork, IsInStep}
+use Rattle.proof_in_time.specs.Untold.{NoneEnds}
 
 -- ---- a device
 
@@ -35,7 +37,7 @@ pub record HearsInStep (session : ℕ) (device : State) : Type 0 where
   pub step : IsInStep session device
 
 -- so is the first device of a node, once the host has begun a session; what it keeps of segments is of the message of its next session; the others of the
--- node are idle; and the host has no sealed text for it
+-- node are idle; the host has no sealed text for it; and while the device has not taken that session, nothing on its way tells the end of it
 pub record HasInStep (n : ℕ) (m : Machine) : Type 0 where
   pub place : ℕ
   pub device : State
@@ -46,6 +48,7 @@ pub record HasInStep (n : ℕ) (m : Machine) : Type 0 where
   pub keeps : KeepsNext (map asked_of m.host.state.commands) (node_of m.host.state n).book.commands (device.sessions.taken + 1) device.reassembly
   pub step : 1 ≤ begun_of (node_of m.host.state n).book → IsInStep (begun_of (node_of m.host.state n).book) device
   pub unsealed : (node_of m.host.state n).text ≡ None
+  pub untold : IsNode n → begun_of (node_of m.host.state n).book ≡ device.sessions.taken + 1 → NoneEnds n (begun_of (node_of m.host.state n).book) m
 
 -- ---- what is assumed of events
 

@@ -2,12 +2,22 @@ pub mod Answering
 pub mod Reporting
 pub mod InStep
 pub mod Coming
+pub mod Untold
+pub mod Owed
+pub mod Parts
 pub mod Asked
 pub mod InHand
 pub mod Sleeping
 pub mod Plainly
+pub mod Trail
+pub mod Open
 pub mod Openly
 pub mod Judging
 pub mod Locks
+pub mod Exchange
+pub mod SealedHosts
+pub mod Exchanging
+pub mod Locked
 pub mod Stretch
+pub use Rattle.proof_course_sealed.specs.LockNodes
 pub use Rattle.proof_answered.specs as proof_answered

@@ -8,7 +8,7 @@ use Rattle.host_heard.specs.declared.told.Told.TheVariants.{Report}
 use Rattle.host_keep.specs.declared.final_status.FinalStatus.{FinalStatus}
 use Rattle.host_node.specs.State.{NodeState}
 use Rattle.host_node.specs.declared.series.Series.TheVariants.{Idle}
-use Rattle.host_model.specs.Events.{HostEvent, Finishes, Is_unkept}
+use Rattle.host_model.specs.Events.{HostEvent, Finishes, Is_unkept, Spends}
 use Rattle.host_model.specs.State.{HostState, node_of}
 use Rattle.host_model.specs.Taking.{is_secure}
 use Rattle.device_kinds.specs.Answers.{report_status}
@@ -29,6 +29,10 @@ pub record EndsSession (n session : ℕ) (events : List HostEvent) : Type 0 wher
   pub status : FinalStatus
   pub wakes : Bool
   pub are : (events ≡ Finishes n session (wire_id session) command status wakes ∷ []) ⊎ (events ≡ Is_unkept n ∷ [])
+
+-- the live nonce is spent, and then the session ends, where each of the two is kept
+abbrev pub EndsSealed : ℕ → ℕ → List HostEvent → Type 0
+EndsSealed n session events = (events ≡ Is_unkept n ∷ []) ⊎ ((rest : List HostEvent) × ((events ≡ Spends n ∷ rest) × EndsSession n session rest))
 
 -- nothing is left of its series
 pub record IsOver (n : NodeState) : Type 0 where

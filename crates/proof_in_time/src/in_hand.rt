@@ -11,50 +11,54 @@ ghost use Rattle.host_model.specs.State.{Command, command_at, node_of};
 ghost use Rattle.world_model.specs.State.{first_machine};
 ghost use Rattle.world_lines.specs.Spoken.{Spoken, after_all};
 ghost use Rattle.proof_in_time.specs.InHand.{HasEnded, IsGiven, IsInHand, RestsBefore, ticks_begun, ticks_blocked, ticks_of_all};
-ghost use Rattle.proof_in_time.specs.Stretch.{IsStretchFor};
+ghost use Rattle.proof_in_time.specs.Stretch.{IsListeningFor, IsStretchFor};
 
-use crate::{messages_are_answered, nodes_stay_in_step, waits_never_run_out};
+use crate::{
+    locks_never_run_out, locks_stay_in_step, messages_are_answered, nodes_stay_in_step,
+    open_waits_never_run_out, waits_never_run_out,
+};
 use host_model::facts_are_kept;
 use proof_answered::{attempts_stay_first, frames_fly_in_order, nodes_are_served_in_turn};
 use proof_course_plain::{devices_go_on, devices_stay_the_same};
 use proof_messages::reports_tell;
 use proof_walk::time_goes_on;
 
-/// Over lines as in `waits_never_run_out`: after some of these, a command for one of these nodes that waits there, or whose session is open and has a series
-/// that is due or runs, has the final outcome of its session once so many ticks have begun from then on as there are of these nodes, and seven more, for each
-/// session of its node up to its own (`in_hand`), and one more where the node is blocked there: since the keeper failed for a session of it, it is so until
-/// its next tick. For with each tick the turn of the node comes nearer, and from its attempt on seven ticks begin at most until the host is told. One that
-/// waits after a session that is open and whose series is over has it once the wait until the next series has gone down, and as many ticks for its own session
-/// and each of those before (`rests`). So each command that was accepted in these lines has it within 18 times as many ticks (`accepted`), and that one more,
-/// since at most 16 wait. As the stretch begins no task of the host waits, what is on its way to it asks for none, and it listens to these nodes. So it stays,
-/// since these take what is not sealed, whole: what they answer asks for no nonce and no segment. Of one node alone that sleeps, each command that waited as
-/// the stretch began, or was accepted in it, has it within 18 times as many ticks, and two more, from the end of its `wake` line on (`woken`): its
-/// Notification comes to the host in the next tick, and the node stays up while something is left for it.
+/// Over lines as in `waits_never_run_out`, `open_waits_never_run_out` or `locks_never_run_out`, for nodes to which the host listens: after some of these, a
+/// command for one of these nodes that waits there, or whose session is open and has a series that is due or runs, has the final outcome of its session once so
+/// many ticks have begun from then on as there are of these nodes, and those of an attempt, and one more, for each session of its node up to its own
+/// (`in_hand`), and one more where the node is blocked there: since the keeper failed for a session of it, it is so until its next tick. For with each tick the
+/// turn of the node comes nearer, and from its attempt on as many ticks begin at most until the host is told as that takes (`long`): six and one where messages
+/// go whole, sealed or not, 23 and one where they may go in segments. One that waits after a session that is open and whose series is over has it once the wait
+/// until the next series has gone down, and as many ticks for its own session and each of those before (`rests`). So each command that was accepted in these
+/// lines has it within 18 times as many ticks (`accepted`), and that one more, since at most 16 wait. As the stretch begins no task of the host waits, what is
+/// on its way to it asks for none, and it listens to these nodes. So it stays where no attempt runs: what they answer asks for a nonce or a segment only while
+/// one does. Of one node alone that sleeps, each command that waited as the stretch began, or was accepted in it, has it within 18 times as many ticks, and two
+/// more, from the end of its `wake` line on (`woken`): its Notification comes to the host in the next tick, and the node stays up while something is left for
+/// it.
 pub fn commands_end_in_time()
-    ensures in_hand { (these : List Bool) (n command more : ℕ) (keys : Keys) (devices : List State) (before first lines : List Spoken) →
-        IsStretchFor these keys devices before (first ++ lines) → is_marked these n ≡ true →
-        (node_of (after_all (first_machine keys (Some []) devices) before).host.state n).listens ≡ true →
+    ensures in_hand { (long : ℕ) (these : List Bool) (n command more : ℕ) (keys : Keys) (devices : List State) (before first lines : List Spoken) →
+        IsListeningFor these n keys devices before (first ++ lines) long → is_marked these n ≡ true →
         IsInHand command more (node_of (after_all (first_machine keys (Some []) devices) (before ++ first)).host.state n) →
         ticks_begun (after_all (first_machine keys (Some []) devices) (before ++ first)) +
-        (ticks_blocked (node_of (after_all (first_machine keys (Some []) devices) (before ++ first)).host.state n) + ticks_of_all these (suc more)) ≤
+        (ticks_blocked (node_of (after_all (first_machine keys (Some []) devices) (before ++ first)).host.state n) + ticks_of_all long these (suc more)) ≤
         ticks_begun (after_all (first_machine keys (Some []) devices) (before ++ (first ++ lines))) →
         HasEnded command (node_of (after_all (first_machine keys (Some []) devices) (before ++ (first ++ lines))).host.state n).book }
-    ensures rests { (these : List Bool) (n command more : ℕ) (keys : Keys) (devices : List State) (before first lines : List Spoken) →
-        IsStretchFor these keys devices before (first ++ lines) → is_marked these n ≡ true →
-        (node_of (after_all (first_machine keys (Some []) devices) before).host.state n).listens ≡ true →
+    ensures rests { (long : ℕ) (these : List Bool) (n command more : ℕ) (keys : Keys) (devices : List State) (before first lines : List Spoken) →
+        IsListeningFor these n keys devices before (first ++ lines) long → is_marked these n ≡ true →
         RestsBefore command more (node_of (after_all (first_machine keys (Some []) devices) (before ++ first)).host.state n) →
         ticks_begun (after_all (first_machine keys (Some []) devices) (before ++ first)) +
-        ((node_of (after_all (first_machine keys (Some []) devices) (before ++ first)).host.state n).again_wait + (1 + ticks_of_all these (suc (suc more)))) ≤
+        ((node_of (after_all (first_machine keys (Some []) devices) (before ++ first)).host.state n).again_wait +
+        (1 + ticks_of_all long these (suc (suc more)))) ≤
         ticks_begun (after_all (first_machine keys (Some []) devices) (before ++ (first ++ lines))) →
         HasEnded command (node_of (after_all (first_machine keys (Some []) devices) (before ++ (first ++ lines))).host.state n).book }
-    ensures accepted { (these : List Bool) (n command : ℕ) (found : Command) (keys : Keys) (devices : List State) (before first lines : List Spoken) →
-        IsStretchFor these keys devices before (first ++ lines) → is_marked these n ≡ true →
-        (node_of (after_all (first_machine keys (Some []) devices) before).host.state n).listens ≡ true →
+    ensures accepted { (long : ℕ) (these : List Bool) (n command : ℕ) (found : Command) (keys : Keys) (devices : List State)
+        (before first lines : List Spoken) →
+        IsListeningFor these n keys devices before (first ++ lines) long → is_marked these n ≡ true →
         command_at (after_all (first_machine keys (Some []) devices) (before ++ first)).host.state.commands command ≡ Some found →
         found.order.node ≡ n →
         length (after_all (first_machine keys (Some []) devices) before).host.state.commands + 1 ≤ command →
         ticks_begun (after_all (first_machine keys (Some []) devices) (before ++ first)) +
-        (ticks_blocked (node_of (after_all (first_machine keys (Some []) devices) (before ++ first)).host.state n) + ticks_of_all these 18) ≤
+        (ticks_blocked (node_of (after_all (first_machine keys (Some []) devices) (before ++ first)).host.state n) + ticks_of_all long these 18) ≤
         ticks_begun (after_all (first_machine keys (Some []) devices) (before ++ (first ++ lines))) →
         HasEnded command (node_of (after_all (first_machine keys (Some []) devices) (before ++ (first ++ lines))).host.state n).book }
     ensures woken { (these : List Bool) (n command : ℕ) (keys : Keys) (devices : List State) (before first : List Spoken) (wake : Spoken)
@@ -63,7 +67,7 @@ pub fn commands_end_in_time()
         is_up (node_of (after_all (first_machine keys (Some []) devices) before).host.state n) ≡ false → turn_of n wake.line ≡ Wakes ∷ [] →
         IsGiven n command (after_all (first_machine keys (Some []) devices) before).host.state
         (after_all (first_machine keys (Some []) devices) (before ++ (first ++ wake ∷ []))).host.state →
-        ticks_begun (after_all (first_machine keys (Some []) devices) (before ++ (first ++ wake ∷ []))) + (2 + ticks_of_all these 18) ≤
+        ticks_begun (after_all (first_machine keys (Some []) devices) (before ++ (first ++ wake ∷ []))) + (2 + ticks_of_all 6 these 18) ≤
         ticks_begun (after_all (first_machine keys (Some []) devices) (before ++ (first ++ wake ∷ lines))) →
         HasEnded command (node_of (after_all (first_machine keys (Some []) devices) (before ++ (first ++ wake ∷ lines))).host.state n).book }
 {
@@ -72,9 +76,12 @@ pub fn commands_end_in_time()
     devices_stay_the_same();
     facts_are_kept();
     frames_fly_in_order();
+    locks_never_run_out();
+    locks_stay_in_step();
     messages_are_answered();
     nodes_are_served_in_turn();
     nodes_stay_in_step();
+    open_waits_never_run_out();
     reports_tell();
     time_goes_on();
     waits_never_run_out();

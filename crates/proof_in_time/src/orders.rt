@@ -4,21 +4,32 @@ ghost use Rattle.std.specs.Prelude.{◌≡◌, ◌<◌, Bool, List, Some, [], tr
 ghost use Rattle.std.specs.List.{AllByRecursion};
 ghost use Rattle.s0_crypto.specs.declared.key_pair.Keys.{Keys};
 ghost use Rattle.chip_sim.specs.Nodes.{is_marked};
+ghost use Rattle.law_transcript.specs.Commands.{classes_for};
 ghost use Rattle.law_transcript.specs.Headline.{IsAsMade};
+ghost use Rattle.law_transcript.specs.Lists.{Has};
+ghost use Rattle.law_transcript.specs.Nodes.{always, listing_of};
+ghost use Rattle.law_time.specs.Stretches.{is_open};
+ghost use Rattle.host_orders.specs.Classes.{lists};
 ghost use Rattle.device_sim.specs.State.{State};
 ghost use Rattle.world_model.specs.State.{first_machine};
-ghost use Rattle.world_lines.specs.Spoken.{Spoken, after_all};
+ghost use Rattle.world_lines.specs.Spoken.{Spoken, after_all, transcript_of};
 ghost use Rattle.world_lines.specs.Done.{AreDone, events_of};
 ghost use Rattle.proof_course_plain.specs.World.{OrdersPlain};
+ghost use Rattle.proof_host.specs.Laws.{numbers_for};
 ghost use Rattle.proof_answered.specs.Few.{AreIdle};
+ghost use Rattle.proof_in_time.specs.Exchanging.{GoSealed};
 ghost use Rattle.proof_in_time.specs.Coming.{GoWhole, ListOpenly};
 ghost use Rattle.proof_in_time.specs.InStep.{AreOpenByKind, ArePlainByKind, ArePlainOver};
 ghost use Rattle.proof_in_time.specs.Openly.{GoOpenly, IsOpenOver, ListUnsealed};
 
-use proof_course_plain::{devices_follow_the_course, idle_devices_stay_idle, lines_ask_plainly};
+use proof_course_plain::{
+    devices_follow_the_course, idle_devices_stay_idle, laws_follow, lines_ask_plainly,
+};
+use proof_host::asides_keep_facts;
 use proof_spoken::{
-    interviews_give_what_is_known, interviews_tell_what_nodes_list, lines_keep_and_ask_well,
-    restarts_go_on, the_machine_keeps_facts,
+    answers_stand_after_their_lines, interviews_give_what_is_known,
+    interviews_tell_what_nodes_list, lines_keep_and_ask_well, lines_tell_what_nodes_list,
+    orders_are_carried_as_said, restarts_go_on, the_machine_keeps_facts,
 };
 
 /// Over any lines from the first machine on, the last of which an allocation failure may have cut short, and however often the host starts again: where the
@@ -50,6 +61,28 @@ pub fn orders_go_openly()
     interviews_tell_what_nodes_list();
     lines_ask_plainly();
     lines_keep_and_ask_well();
+    restarts_go_on();
+    the_machine_keeps_facts();
+}
+
+/// Where the device of a node lists Security 0, and the host knew so as it accepted each command of the node that is not over, each of these that waits or whose
+/// session is open goes sealed.
+pub fn commands_go_sealed()
+    ensures { (these : List Bool) (n : ℕ) (keys : Keys) (devices : List State) (lines : List Spoken) → is_marked these n ≡ true → n < 233 →
+        AreDone (first_machine keys (Some []) devices) lines → lists (listing_of devices n) 0x98 ≡ true →
+        ((number : ℕ) → Has (numbers_for n (transcript_of (first_machine keys (Some []) devices) lines)) number →
+        is_open (transcript_of (first_machine keys (Some []) devices) lines) number ≡ true →
+        classes_for (always (listing_of devices)) (transcript_of (first_machine keys (Some []) devices) lines) n number ≡ listing_of devices n) →
+        GoSealed n (after_all (first_machine keys (Some []) devices) lines).host.state }
+{
+    answers_stand_after_their_lines();
+    asides_keep_facts();
+    interviews_give_what_is_known();
+    laws_follow();
+    lines_ask_plainly();
+    lines_keep_and_ask_well();
+    lines_tell_what_nodes_list();
+    orders_are_carried_as_said();
     restarts_go_on();
     the_machine_keeps_facts();
 }

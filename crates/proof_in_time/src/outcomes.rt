@@ -1,6 +1,6 @@
 //! Final outcomes of commands, as the entries tell them.
 
-ghost use Rattle.std.specs.Prelude.{◌≡◌, ◌≢◌, ◌⊎◌, ◌≤◌, ◌+◌, ◌++◌, ◌∷◌, Bool, List, Some, [], false, true, ℕ};
+ghost use Rattle.std.specs.Prelude.{◌≡◌, ◌≢◌, ◌⊎◌, ◌≤◌, ◌+◌, ◌*◌, ◌++◌, ◌∷◌, Bool, List, Some, [], false, length, suc, true, ℕ};
 ghost use Rattle.s0_crypto.specs.declared.key_pair.Keys.{Keys};
 ghost use Rattle.zw_text.specs.Transcript.{lines_run, outcome, shown};
 ghost use Rattle.law_transcript.specs.Commands.{waiting};
@@ -15,9 +15,10 @@ ghost use Rattle.host_node.specs.State.{is_up};
 ghost use Rattle.host_model.specs.State.{node_of};
 ghost use Rattle.world_model.specs.State.{first_machine};
 ghost use Rattle.world_lines.specs.Spoken.{Spoken, after_all, transcript_of};
+ghost use Rattle.world_lines.specs.Done.{AreDone};
 ghost use Rattle.proof_answered.specs.Turns.{marked_to};
 ghost use Rattle.proof_in_time.specs.InHand.{ticks_of_all};
-ghost use Rattle.proof_in_time.specs.Stretch.{IsStretchFor};
+ghost use Rattle.proof_in_time.specs.Stretch.{IsListeningFor, IsLockStretchFor, IsOpenStretchFor, IsStretchFor};
 
 use crate::commands_end_in_time;
 use proof_host::asides_keep_facts;
@@ -27,43 +28,44 @@ use proof_spoken::{
 };
 use proof_walk::time_goes_on;
 
-/// Over a stretch as in `commands_end_in_time`: each command for one of these nodes whose acceptance was entered in it has its final outcome in the entries,
-/// once lines have asked for 18 times as many ticks from then on as there are of these nodes, and seven more, and for one more, until whose end the node may be
-/// blocked (`accepted`); and so has each that waits as the stretch begins: after 16 times as many and one more, where the last session of its node has its
-/// final outcome (`waiting`); or, where the wait after a series of that session runs, after 17 times as many and 102 more (`rests`). For one node alone that
-/// sleeps it has so each that waited or was accepted up to the `wake` line of the node, after 18 times as many from the end of that line on, and two more
-/// (`woken`).
+/// Over a stretch as in `commands_end_in_time`, where the host listens to a node and an attempt of it takes so many ticks at most (`IsListeningFor`): each
+/// command for it whose acceptance was entered in it has its final outcome in the entries, once lines have asked for 18 times as many ticks from then on as
+/// there are of these nodes, and those of an attempt, and one more, and for one more, until whose end the node may be blocked (`accepted`); and so has each
+/// that waits as the stretch begins: after 16 times as many and one more, where the last session of its node has its final outcome (`waiting`); or, where the
+/// wait after a series of that session runs, after as many as there are commands that wait, once more, and 102 more (`rests`). At most 16 wait (`few`). For
+/// one node alone that sleeps it has so each that waited or was accepted up to the `wake` line of the node, after 18 times as many from the end of that line
+/// on, and two more (`woken`).
 pub fn outcomes_come_in_time()
-    ensures accepted { (these : List Bool) (n command : ℕ) (keys : Keys) (devices : List State) (before first lines : List Spoken) →
-        IsStretchFor these keys devices before (first ++ lines) → is_marked these n ≡ true →
-        (node_of (after_all (first_machine keys (Some []) devices) before).host.state n).listens ≡ true →
+    ensures accepted { (long : ℕ) (these : List Bool) (n command : ℕ) (keys : Keys) (devices : List State) (before first lines : List Spoken) →
+        IsListeningFor these n keys devices before (first ++ lines) long → is_marked these n ≡ true →
         Has (shown (accepted_for n) (transcript_of (after_all (first_machine keys (Some []) devices) before) first)) command →
-        ticks_asked (lines_run (transcript_of (first_machine keys (Some []) devices) (before ++ first))) + (1 + ticks_of_all these 18) ≤
+        ticks_asked (lines_run (transcript_of (first_machine keys (Some []) devices) (before ++ first))) + (1 + ticks_of_all long these 18) ≤
         ticks_asked (lines_run (transcript_of (first_machine keys (Some []) devices) (before ++ (first ++ lines)))) →
         is_final (outcome command (transcript_of (first_machine keys (Some []) devices) (before ++ (first ++ lines)))) ≡ true }
-    ensures waiting { (these : List Bool) (n command : ℕ) (keys : Keys) (devices : List State) (before lines : List Spoken) →
-        IsStretchFor these keys devices before lines → is_marked these n ≡ true →
+    ensures waiting { (long : ℕ) (these : List Bool) (n command : ℕ) (keys : Keys) (devices : List State) (before lines : List Spoken) →
+        IsListeningFor these n keys devices before lines long → is_marked these n ≡ true →
         Has (waiting n (transcript_of (first_machine keys (Some []) devices) before)) command →
-        (node_of (after_all (first_machine keys (Some []) devices) before).host.state n).listens ≡ true →
         is_open n (transcript_of (first_machine keys (Some []) devices) before) ≡ false →
-        ticks_asked (lines_run (transcript_of (first_machine keys (Some []) devices) before)) + (1 + ticks_of_all these 16) ≤
+        ticks_asked (lines_run (transcript_of (first_machine keys (Some []) devices) before)) + (1 + ticks_of_all long these 16) ≤
         ticks_asked (lines_run (transcript_of (first_machine keys (Some []) devices) (before ++ lines))) →
         is_final (outcome command (transcript_of (first_machine keys (Some []) devices) (before ++ lines))) ≡ true }
-    ensures rests { (these : List Bool) (n command : ℕ) (keys : Keys) (devices : List State) (before lines : List Spoken) →
-        IsStretchFor these keys devices before lines → is_marked these n ≡ true →
+    ensures rests { (long : ℕ) (these : List Bool) (n command : ℕ) (keys : Keys) (devices : List State) (before lines : List Spoken) →
+        IsListeningFor these n keys devices before lines long → is_marked these n ≡ true →
         Has (waiting n (transcript_of (first_machine keys (Some []) devices) before)) command →
-        (node_of (after_all (first_machine keys (Some []) devices) before).host.state n).listens ≡ true →
         (node_of (after_all (first_machine keys (Some []) devices) before).host.state n).again_wait ≢ 0 →
-        ticks_asked (lines_run (transcript_of (first_machine keys (Some []) devices) before)) + (102 + ticks_of_all these 17) ≤
+        ticks_asked (lines_run (transcript_of (first_machine keys (Some []) devices) before)) +
+        (102 + ticks_of_all long these (suc (length (waiting n (transcript_of (first_machine keys (Some []) devices) before))))) ≤
         ticks_asked (lines_run (transcript_of (first_machine keys (Some []) devices) (before ++ lines))) →
         is_final (outcome command (transcript_of (first_machine keys (Some []) devices) (before ++ lines))) ≡ true }
+    ensures few { (n : ℕ) (keys : Keys) (devices : List State) (before : List Spoken) → AreDone (first_machine keys (Some []) devices) before →
+        length (waiting n (transcript_of (first_machine keys (Some []) devices) before)) ≤ 16 }
     ensures woken { (these : List Bool) (n command : ℕ) (keys : Keys) (devices : List State) (before first : List Spoken) (wake : Spoken)
         (lines : List Spoken) →
         IsStretchFor these keys devices before (first ++ wake ∷ lines) → is_marked these n ≡ true →
         is_up (node_of (after_all (first_machine keys (Some []) devices) before).host.state n) ≡ false → turn_of n wake.line ≡ Wakes ∷ [] →
         Has (commands_in (transcript_of (first_machine keys (Some []) devices) before)
         (transcript_of (after_all (first_machine keys (Some []) devices) before) (first ++ wake ∷ [])) n) command →
-        ticks_asked (lines_run (transcript_of (first_machine keys (Some []) devices) (before ++ (first ++ wake ∷ [])))) + (2 + ticks_of_all these 18) ≤
+        ticks_asked (lines_run (transcript_of (first_machine keys (Some []) devices) (before ++ (first ++ wake ∷ [])))) + (2 + ticks_of_all 6 these 18) ≤
         ticks_asked (lines_run (transcript_of (first_machine keys (Some []) devices) (before ++ (first ++ wake ∷ lines)))) →
         is_final (outcome command (transcript_of (first_machine keys (Some []) devices) (before ++ (first ++ wake ∷ lines)))) ≡ true }
 {
@@ -78,7 +80,8 @@ pub fn outcomes_come_in_time()
 /// So over such a stretch, for 16 nodes at most, that waits for 500 ticks after its last order or `wake` line: each command of one of these nodes, whether it
 /// waited before the stretch or was accepted in it, has its final outcome in the entries. Where the host listens to these nodes, one for which a command waits
 /// as the stretch begins has no session open, or the wait after a series of that one runs (`listening`). One node alone that sleeps is woken once, after its
-/// orders (`sleeping`).
+/// orders (`sleeping`). And so it is of one node alone that listens and whose messages may go in segments, where the stretch waits for 500 ticks for each of
+/// its commands (`openly`), or that is a lock (`sealed`).
 pub fn stretches_end_in_time()
     ensures listening { (these : List Bool) (n command : ℕ) (keys : Keys) (devices : List State) (before lines : List Spoken) →
         IsStretchFor these keys devices before lines → is_marked these n ≡ true → marked_to these 232 ≤ 16 →
@@ -97,6 +100,28 @@ pub fn stretches_end_in_time()
         Has (commands_in (transcript_of (first_machine keys (Some []) devices) before)
         (transcript_of (after_all (first_machine keys (Some []) devices) before) lines) n) command →
         500 ≤ waited (transcript_of (after_all (first_machine keys (Some []) devices) before) lines) →
+        is_final (outcome command (transcript_of (first_machine keys (Some []) devices) (before ++ lines))) ≡ true }
+    ensures openly { (these : List Bool) (n command : ℕ) (keys : Keys) (devices : List State) (before lines : List Spoken) →
+        IsOpenStretchFor these keys devices before lines → is_marked these n ≡ true →
+        (Has (waiting n (transcript_of (first_machine keys (Some []) devices) before)) command →
+        (is_open n (transcript_of (first_machine keys (Some []) devices) before) ≡ false) ⊎
+        ((node_of (after_all (first_machine keys (Some []) devices) before).host.state n).again_wait ≢ 0)) →
+        Has (commands_in (transcript_of (first_machine keys (Some []) devices) before)
+        (transcript_of (after_all (first_machine keys (Some []) devices) before) lines) n) command →
+        500 * length (commands_in (transcript_of (first_machine keys (Some []) devices) before)
+        (transcript_of (after_all (first_machine keys (Some []) devices) before) lines) n) ≤
+        waited (transcript_of (after_all (first_machine keys (Some []) devices) before) lines) →
+        is_final (outcome command (transcript_of (first_machine keys (Some []) devices) (before ++ lines))) ≡ true }
+    ensures sealed { (these : List Bool) (n command : ℕ) (keys : Keys) (devices : List State) (before lines : List Spoken) →
+        IsLockStretchFor these keys devices before lines → is_marked these n ≡ true →
+        (Has (waiting n (transcript_of (first_machine keys (Some []) devices) before)) command →
+        (is_open n (transcript_of (first_machine keys (Some []) devices) before) ≡ false) ⊎
+        ((node_of (after_all (first_machine keys (Some []) devices) before).host.state n).again_wait ≢ 0)) →
+        Has (commands_in (transcript_of (first_machine keys (Some []) devices) before)
+        (transcript_of (after_all (first_machine keys (Some []) devices) before) lines) n) command →
+        500 * length (commands_in (transcript_of (first_machine keys (Some []) devices) before)
+        (transcript_of (after_all (first_machine keys (Some []) devices) before) lines) n) ≤
+        waited (transcript_of (after_all (first_machine keys (Some []) devices) before) lines) →
         is_final (outcome command (transcript_of (first_machine keys (Some []) devices) (before ++ lines))) ≡ true }
 {
     answers_stand_after_their_lines();

@@ -14,7 +14,6 @@ ghost use Rattle.world_lines.specs.Spoken.{Spoken, after_all, transcript_of};
 ghost use Rattle.world_lines.specs.Done.{AreDone, events_of};
 ghost use Rattle.proof_course_plain.specs.Judged.{IsNoHand};
 ghost use Rattle.proof_in_time.specs.Judging.{IsJudgedOver};
-ghost use Rattle.proof_in_time.specs.Openly.{IsOpenOver};
 
 use law_transcript::when_changes_come;
 use proof_course_plain::{
@@ -93,12 +92,12 @@ pub fn stretches_end_as_judged()
     outcomes_are_as_judged();
 }
 
-/// And where the orders of all nodes at work go unsealed, and each of their commands has a final outcome, the stretch is answered.
+/// And where all nodes at work are such, and each of their commands has a final outcome, the stretch is answered.
 pub fn stretches_are_answered()
     ensures { (keys : Keys) (devices : List State) (before lines : List Spoken) → AreDone (first_machine keys (Some []) devices) (before ++ lines) →
         list_all is_quiet_line (lines_run (transcript_of (after_all (first_machine keys (Some []) devices) before) lines)) ≡ true →
         ((n : ℕ) → Has (workers (transcript_of (first_machine keys (Some []) devices) before)
-        (transcript_of (after_all (first_machine keys (Some []) devices) before) lines)) n → IsOpenOver devices (events_of (before ++ lines)) n) →
+        (transcript_of (after_all (first_machine keys (Some []) devices) before) lines)) n → IsJudgedOver keys devices (events_of (before ++ lines)) n) →
         list_all (λ node. list_all (λ command. is_final (outcome command (transcript_of (first_machine keys (Some []) devices) before ++
         transcript_of (after_all (first_machine keys (Some []) devices) before) lines)))
         (commands_in (transcript_of (first_machine keys (Some []) devices) before)

@@ -28,7 +28,8 @@ pub use proof_traffic::{
     outsides_make_requests, requests_keep_facts,
 };
 pub use proof_walk::{
-    asides_keep_facts, events_keep_facts, first_facts_hold, laws_follow, restarts_keep_facts,
+    a_restart_keeps_what_is_held, asides_keep_facts, events_keep_facts, first_facts_hold,
+    laws_follow, records_keep_facts, restarts_keep_facts,
 };
 pub use proof_world::{
     hosts_write_well, lines_keep_and_ask_well, restarts_go_on, runs_take_once,

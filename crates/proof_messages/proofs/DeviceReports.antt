@@ -1,11 +1,12 @@
 -- What is heard of the payloads of a device, event by event.
-use Rattle.std.proofs.Common.{◌≡◌, ℕ, zero, suc, ◌+◌, ◌-◌, ◌*◌, ◌<◌, ◌≤◌, ◌==◌, inl, inr, Bool, true, false, ◌&&◌, ◌||◌, not, nat_lt, min, if◌then◌else◌, Option, Some, None, List, [], ◌∷◌, ◌++◌, length, take, filter, refl, ap, sym, ◌∙◌, subst, arith}
+use Rattle.std.proofs.Common.{◌≡◌, ℕ, zero, suc, ◌+◌, ◌-◌, ◌*◌, ◌/◌, ◌%◌, ◌<◌, ◌≤◌, ◌==◌, inl, inr, Bool, true, false, ◌&&◌, ◌||◌, not, nat_lt, min, if◌then◌else◌, Option, Some, None, List, [], ◌∷◌, ◌++◌, length, length-append, take, filter, refl, ap, sym, ◌∙◌, subst, arith}
 use Rattle.std.specs.Prelude.{Result, Ok, Err, IsTrue, nat_le, slice_index}
 use Rattle.std.specs.List.{AllByRecursion, list_all, range_with_len}
 use Rattle.std.specs.Option.{option_map, option_to_list, option_and_then}
 use Rattle.std.proofs.lemmas.Bool.{eqb-true}
 use Rattle.std.proofs.lemmas.Bool.Decides.{nat_tests}
 use Rattle.zw_base.proofs.Each.{all-weaker}
+use Rattle.zw_base.specs.Crc.{crc}
 use Rattle.zw_base.specs.declared.property.Name.{Name}
 use Rattle.zw_base.specs.declared.property.Name.TheVariants as names
 use Rattle.zw_base.specs.declared.property.Property.{Property}
@@ -35,7 +36,7 @@ use Rattle.class_info.proofs.InfoLaws.{again}
 use Rattle.class_info.proofs.FormLaws.{form_spells}
 use Rattle.encap.specs.Wraps.{Addresses, IsCommand}
 use Rattle.std.proofs.lemmas.List.{length-take}
-use Rattle.encap.specs.Written.{AreEnds, only_of, written_form, addressed_form}
+use Rattle.encap.specs.Written.{AreEnds, only_of, written_form, addressed_form, checked_form}
 use Rattle.encap.specs.Opening.{Message, begins_with, opened_at}
 use Rattle.encap.specs.Layers.{seen_of}
 use Rattle.encap.specs.declared.plan.Plan.{Plan}
@@ -600,6 +601,24 @@ report_length device asked status = by (status == WORKING)
     by : (b : Bool) → length (form (if b then SupervisionReport asked.updates false asked.id statuses.Working 1 else SupervisionReport false (asks_to_wake device) asked.id (report_status status) 0)) ≡ 5
     by true = refl
     by false = refl
+
+addressed_length : (channel : Option Ends) (inner : List ℕ) → length inner ≡ 5 → (1 ≤ length (addressed_form channel inner)) × (length (addressed_form channel inner) ≤ 9)
+addressed_length None inner is = (omega (arith, is), omega (arith, is))
+addressed_length (Some ends) inner is = (omega (arith, is), omega (arith, is))
+
+checked_length : (outer : Outer) (inner : List ℕ) → 1 ≤ length inner → length inner ≤ 9 → (1 ≤ length (checked_form outer inner)) × (length (checked_form outer inner) ≤ 13)
+checked_length Crc16 inner some few =
+    let all = length-append (86 ∷ 1 ∷ inner) (crc (86 ∷ 1 ∷ inner) / 256 ∷ crc (86 ∷ 1 ∷ inner) % 256 ∷ []) in (omega (arith, some, all), omega (arith, few, all))
+checked_length no_outer inner some few = (some, omega (arith, few))
+checked_length Security inner some few = (some, omega (arith, few))
+checked_length Transport inner some few = (some, omega (arith, few))
+
+-- a report is short, in what it may be wrapped
+pub text_length : (channel : Option Ends) (outer : Outer) (device : State) (asked : Supervised) (status : ℕ)
+    → (1 ≤ length (text_by channel outer (status_report device asked status))) × (length (text_by channel outer (status_report device asked status)) ≤ 13)
+text_length channel outer device asked status =
+    let inner = addressed_length channel (form (status_report device asked status)) (report_length device asked status) in
+    checked_length outer (addressed_form channel (form (status_report device asked status))) inner.0 inner.1
 
 pub own_again : (device : State) → TellsOwn device (form (status_report device (record { updates = false; id = wire_id device.sessions.taken }) device.sessions.status))
 own_again device = own_heard None no_outer device device (record { updates = false; id = wire_id device.sessions.taken }) device.sessions.status tt refl refl refl

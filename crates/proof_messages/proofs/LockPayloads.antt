@@ -21,7 +21,7 @@ use Rattle.class_info.specs.InfoReading.{info_at}
 use Rattle.class_info.specs.InfoSpelling.{form}
 use Rattle.encap.specs.Wraps.{is_crc16}
 use Rattle.encap.specs.Written.{only_of}
-use Rattle.encap.specs.Opening.{Message, opened_at}
+use Rattle.encap.specs.Opening.{Message, begins_with, opened_at}
 use Rattle.encap.specs.declared.plan.Plan.{Plan}
 use Rattle.encap.specs.declared.plan.Supervised.{Supervised}
 use Rattle.device_kinds.specs.declared.kind.Kind.{Kind}
@@ -47,7 +47,8 @@ use Rattle.proof_course.specs.NodeNonces.{taken_as}
 use Rattle.proof_messages.specs.Payloads.{IsOffer, IsUnnumbered}
 use Rattle.proof_messages.specs.Locks.{IsLock, Ignores, Offers, SealsIf, Spends, SpendsNone, IsUnheard}
 use Rattle.proof_messages.proofs.NonceNumbers.{nonce_taken}
-use Rattle.proof_messages.proofs.Texts.{report_form, report_read, report_open, is_text}
+use Rattle.proof_messages.proofs.Texts.{get_read, report_form, report_read, report_open, is_text}
+use Rattle.proof_messages.proofs.Unnumbered.{nonce_get_unnumbered}
 
 -- ---- no command of a lock takes time, and it never sleeps
 
@@ -200,7 +201,7 @@ heard_by_lock device payload drawn is =
     ap (λ (b : Bool). if b then hears_by device.kind (active device) payload drawn else silent device) is.awake ∙ ap (λ (k : Kind). hears_by k (active device) payload drawn) is.kind
 
 -- what holds of the outcome holds of the event
-heard_so : (Q : State → List (List ℕ) → Type 0) (device : State) (payload drawn : List ℕ) → IsLock device
+pub heard_so : (Q : State → List (List ℕ) → Type 0) (device : State) (payload drawn : List ℕ) → IsLock device
     → Q (hears_securely (active device) payload drawn).device (hears_securely (active device) payload drawn).replies → Q (device_after device (Hears payload drawn)) (device_replies device (Hears payload drawn))
 unfolding device_after device_replies
 heard_so Q device payload drawn is so = subst (λ (o : Outcome). Q o.device o.replies) (sym (heard_by_lock device payload drawn is)) so
@@ -259,6 +260,21 @@ unfolding hears_securely
 unnumbered_heard device payload drawn is un =
     heard_so (λ new replies. Ignores device new replies ⊎ Offers drawn device new replies) device payload drawn is
     (rw un.not_sealed (unnumbered_so device payload drawn (info_at payload) is refl un.no_report))
+
+asked_heard : (device : State) (payload drawn : List ℕ) → IsLock device → begins_with payload 0x98 0x81 ≡ false → info_at payload ≡ Ok NonceGet
+    → Offers drawn device (device_after device (Hears payload drawn)) (device_replies device (Hears payload drawn))
+unfolding hears_securely
+asked_heard device payload drawn is unsealed read =
+    heard_so (Offers drawn device) device payload drawn is (rw (unsealed, read) (record {
+      lock = record { kind = is.kind; awake = is.awake; idle = is.idle; ends = is.ends };
+      given = refl;
+      sealing = refl;
+      sessions = refl;
+      says = ap (λ (l : List ℕ). l ∷ []) (report_form (nonce_given device.given drawn));
+    }))
+
+pub get_heard : (device : State) (drawn : List ℕ) → IsLock device → Offers drawn device (device_after device (Hears (form NonceGet) drawn)) (device_replies device (Hears (form NonceGet) drawn))
+get_heard device drawn is = asked_heard device (form NonceGet) drawn is nonce_get_unnumbered.not_sealed get_read
 
 -- ---- a sealed message
 

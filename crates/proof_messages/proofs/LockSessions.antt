@@ -70,7 +70,7 @@ waits_by : (old new : State) (id : ℕ) (verdict : Verdict) → IsLock old → I
 waits_by old new id verdict before now waits = new_by (is_new old.sessions id)
   where
     again_by : (b : Bool) → is_again old.sessions id ≡ b → Follows old new verdict (if b then Again old.sessions.status else Old) → HasAnswered old new (if b then Again old.sessions.status else Old) → WaitsOwn new
-    again_by true e follows (text, (is, tells)) =
+    again_by true e follows (text, (is, (tells, few))) =
         let some : 0 < old.sessions.taken = grind (arith, nat_tests, prefix (nat_lt 0 old.sessions.taken) (id == wire_id old.sessions.taken) e) in
         waits_this new text is (subst (λ (t : Taken). 0 < t.taken) (sym follows.0.sessions) some) tells
       where
@@ -81,7 +81,7 @@ waits_by old new id verdict before now waits = new_by (is_new old.sessions id)
 
     new_by : (b : Bool) → Follows old new verdict (if b then New (old.sessions.taken + 1) else (if is_again old.sessions id then Again old.sessions.status else Old))
         → HasAnswered old new (if b then New (old.sessions.taken + 1) else (if is_again old.sessions id then Again old.sessions.status else Old)) → WaitsOwn new
-    new_by true follows (text, (is, tells)) = waits_this new text is (subst (λ (t : Taken). 0 < t.taken) (sym follows.sessions) (omega arith)) tells
+    new_by true follows (text, (is, (tells, few))) = waits_this new text is (subst (λ (t : Taken). 0 < t.taken) (sym follows.sessions) (omega arith)) tells
     new_by false follows answered = again_by (is_again old.sessions id) refl follows answered
 
 -- ---- the message
@@ -126,6 +126,7 @@ says_sealed device new shown number seen nonce drawn replies seals is eight wait
     let own = waits seals.plain seals.waited in
     record {
       plain = seals.plain;
+      waited = seals.waited;
       reply = sealed_text (keys_of device.key) drawn nonce device.sealing.ends seals.plain;
       says = seals.says;
       sealed = record { own = drawn; nonce = nonce; eight = eight; is = is; text = refl };

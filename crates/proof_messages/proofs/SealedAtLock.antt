@@ -37,18 +37,20 @@ use Rattle.device_kinds.specs.declared.verdict.Verdict.{Verdict}
 use Rattle.device_kinds.specs.Kind.{lists, host_node}
 use Rattle.device_sim.specs.device_stack.State.{State, Outcome, value_of, last_level_of}
 use Rattle.device_kinds.specs.Answers.{swapped, answer_plan, worded}
-use Rattle.device_kinds.specs.Judging.{judged_message}
+use Rattle.device_kinds.specs.Judging.{judged_message, status_of}
 use Rattle.s0_crypto.specs.Sealing.{keys_of, cipher_text_of, unsealed_at, sealed_text}
 use Rattle.s0_crypto.proofs.SealingLemmas.{opened_is}
 use Rattle.device_kinds.specs.Effects.{end_of, effect_in_session}
 use Rattle.device_sim.specs.device_stack.Effects.{effect_of, answer_of, after_effect}
 use Rattle.device_sim.specs.device_stack.Hearing.{Answered, answers, sent_sealed, hears_sealed, hears_securely, hears_by, active}
-use Rattle.device_sim.specs.Event.{Hears, device_after}
+use Rattle.device_sim.specs.Event.{Hears, device_after, device_replies}
 use Rattle.proof_messages.specs.Asking.{message_in, verdict_on, Follows}
 use Rattle.proof_messages.specs.Reporting.{HasAnswered}
 use Rattle.proof_messages.proofs.OpenedMessages.{message_opens, target_is}
 use Rattle.proof_messages.proofs.SessionMessages.{supervised_follows, awake_after}
-use Rattle.proof_messages.proofs.DeviceReports.{spent, own_heard, taken_own}
+use Rattle.proof_messages.specs.Locks.{AsksToAnswer, IsLock}
+use Rattle.proof_messages.proofs.DeviceReports.{spent, own_heard, taken_own, text_length}
+use Rattle.proof_messages.proofs.LockPayloads.{heard_so}
 use Rattle.host_node.proofs.Keeps.{second_holds}
 use Rattle.host_node.proofs.Keeps.{first_holds}
 use Rattle.device_sim.proofs.NonceLemmas.{long_enough as not_short}
@@ -195,7 +197,7 @@ unfolding answers effect_of
 supervised_answered device batch asked channel outer commands ends known = rw known (new (is_new device.sessions asked.id) refl)
   where
     again : (b : Bool) → is_again device.sessions asked.id ≡ b → HasAnswered device (sent_by device (plan_with batch asked channel outer) commands (if b then Again device.sessions.status else Old)) (if b then Again device.sessions.status else Old)
-    again true e = (_, (refl, own_heard (swapped channel) outer device device asked device.sessions.status ends (eqb-true asked.id (wire_id device.sessions.taken) (second_holds (nat_lt 0 device.sessions.taken) _ e)) refl refl))
+    again true e = (_, (refl, (own_heard (swapped channel) outer device device asked device.sessions.status ends (eqb-true asked.id (wire_id device.sessions.taken) (second_holds (nat_lt 0 device.sessions.taken) _ e)) refl refl, (text_length (swapped channel) outer device asked device.sessions.status).1)))
     again false e = refl
 
     new : (b : Bool) → is_new device.sessions asked.id ≡ b
@@ -205,8 +207,11 @@ supervised_answered device batch asked channel outer commands ends known = rw kn
       _,
       (
         refl,
-        taken_own (plan_with batch asked channel outer) (swapped channel) outer device asked (judged_message device.kind (value_of device) (last_level_of device) (end_of channel) batch commands) ends
-            (eqb-true asked.id (wire_id (device.sessions.taken + 1)) (first_holds _ (not (device.sessions.status == WORKING)) e)),
+        (
+          taken_own (plan_with batch asked channel outer) (swapped channel) outer device asked (judged_message device.kind (value_of device) (last_level_of device) (end_of channel) batch commands) ends
+              (eqb-true asked.id (wire_id (device.sessions.taken + 1)) (first_holds _ (not (device.sessions.status == WORKING)) e)),
+          (text_length (swapped channel) outer device asked (status_of (judged_message device.kind (value_of device) (last_level_of device) (end_of channel) batch commands))).1,
+        ),
       ),
     )
     new false e = again (is_again device.sessions asked.id) refl
@@ -236,3 +241,40 @@ sealed_answered device own nonce drawn carriage order session fit end sealed awa
     (sym (sealed_heard device own nonce drawn carriage order session fit end sealed awake kind eight live))
     (spent_answered device (sent_sealed (answers hearer message)).device (slice_index nonce 0) heard
     (supervised_answered hearer message.plan.batch (supervised_of carriage.actuator order session) message.plan.channel message.plan.outer message.commands (swapped_ends order.end end) known))
+
+-- ---- what it says then
+
+abbrev said_by : State → Plan → List (List ℕ) → Heard → List (List ℕ)
+said_by device plan commands heard = (sent_sealed (record {
+  device = after_effect device plan (effect_in_session device.kind device.journal plan commands heard);
+  answer = option_map (worded (answer_plan plan)) (answer_of device plan (effect_in_session device.kind device.journal plan commands heard));
+})).replies
+
+supervised_asks : (device : State) (batch : Bool) (asked : Supervised) (channel : Option Ends) (outer : Outer) (commands : List (List ℕ)) → lists device.kind 0x6C ≡ true
+    → AsksToAnswer (sent_sealed (answers device (record { plan = record { batch = batch; session = Some asked; channel = channel; outer = outer }; commands = commands }))).replies (heard_of device.sessions asked.id)
+unfolding answers effect_of
+supervised_asks device batch asked channel outer commands known = rw known (new (is_new device.sessions asked.id))
+  where
+    again : (b : Bool) → AsksToAnswer (said_by device (plan_with batch asked channel outer) commands (if b then Again device.sessions.status else Old)) (if b then Again device.sessions.status else Old)
+    again true = refl
+    again false = refl
+
+    new : (b : Bool)
+        → AsksToAnswer (said_by device (plan_with batch asked channel outer) commands (if b then New (device.sessions.taken + 1) else (if is_again device.sessions asked.id then Again device.sessions.status else Old)))
+        (if b then New (device.sessions.taken + 1) else (if is_again device.sessions asked.id then Again device.sessions.status else Old))
+    new true = refl
+    new false = again (is_again device.sessions asked.id)
+
+pub sealed_asks : (device : State) (own nonce drawn : List ℕ) (carriage : Carriage) (order : Order) (session : ℕ)
+    → IsFit carriage.actuator order → order.end ≤ 127 → carriage.outer ≡ Security → IsLock device → length own ≡ 8 → device.given.live ≡ Some nonce
+    → AsksToAnswer (device_replies device (Hears (sealed_text (keys_of device.key) own nonce (record { sender = host_node; receiver = device.node }) (message_of carriage order session)) drawn))
+    (heard_of device.sessions (wire_id session))
+sealed_asks device own nonce drawn carriage order session fit end sealed is eight live =
+    let message = message_in carriage order session in
+    let payload = sealed_text (keys_of device.key) own nonce (record { sender = host_node; receiver = device.node }) (message_of carriage order session) in
+    let heard = heard_of device.sessions (wire_id session) in
+    let hearer : State = spent (active device) (slice_index nonce 0) in
+    heard_so (λ new replies. AsksToAnswer replies heard) device payload drawn is
+    (subst (λ (o : Outcome). AsksToAnswer o.replies heard)
+    (sym (hears_message (active device) own nonce drawn (message_of carriage order session) message eight live (message_opens carriage order session fit end) (rw sealed refl)))
+    (supervised_asks hearer message.plan.batch (supervised_of carriage.actuator order session) message.plan.channel message.plan.outer message.commands (ap (λ (k : Kind). lists k 0x6C) is.kind)))

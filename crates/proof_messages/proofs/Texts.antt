@@ -9,7 +9,7 @@ use Rattle.s0_crypto.specs.Seal.{code_of}
 use Rattle.s0_crypto.proofs.MessageLemmas.{length_of_layout}
 use Rattle.s0_crypto.proofs.OpeningLemmas.{length-code_of}
 use Rattle.s0_crypto.proofs.StreamLemmas.{length-ofb_from}
-use Rattle.class_info.specs.declared.message.InfoMessage.TheVariants.{NonceReport}
+use Rattle.class_info.specs.declared.message.InfoMessage.TheVariants.{NonceGet, NonceReport}
 use Rattle.class_info.specs.InfoReading.{info_at}
 use Rattle.class_info.specs.InfoSpelling.{form}
 use Rattle.class_info.proofs.InfoLaws.{again}
@@ -30,6 +30,9 @@ report_read nonce eight = subst (λ (text : List ℕ). info_at text ≡ Ok (Nonc
 
 pub report_open : (nonce : List ℕ) → begins_with (report_of nonce) 0x98 0x81 ≡ false
 report_open nonce = never_ends _
+
+pub get_read : info_at (form NonceGet) ≡ Ok NonceGet
+get_read = again (form NonceGet) NonceGet (form_spells NonceGet tt)
 
 -- ---- a sealed message
 

@@ -1,5 +1,7 @@
 -- What a lock makes of nonces and of what is sealed (this project's own rule over the Security 0 Command Class).
 use Rattle.std.specs.Prelude.{◌≡◌, ◌⊎◌, ℕ, true, List, [], ◌∷◌, Option, Some, None}
+use Rattle.supervision.specs.declared.device_book.Heard.{Heard}
+use Rattle.supervision.specs.declared.device_book.Heard.TheVariants.{New, Again, Old}
 use Rattle.s0_session.specs.Nonces.{nonce_given, after_give, after_spend}
 use Rattle.class_info.specs.InfoSpelling.{form}
 use Rattle.class_info.specs.declared.message.InfoMessage.TheVariants.{NonceGet}
@@ -65,6 +67,12 @@ pub record Spends (first : ℕ) (old new : State) (replies : List (List ℕ)) : 
 pub record SpendsNone (old new : State) (replies : List (List ℕ)) : Type 0 where
   pub ignores : Ignores old new replies
   pub left : IsLeft old new
+
+-- what it says after the message of a session that named its live nonce, by what the id is for it: where it answers, it asks for a nonce; else nothing
+abbrev pub AsksToAnswer : List (List ℕ) → Heard → Type 0
+AsksToAnswer replies (New session) = replies ≡ form NonceGet ∷ []
+AsksToAnswer replies (Again status) = replies ≡ form NonceGet ∷ []
+AsksToAnswer replies Old = replies ≡ []
 
 -- an event at which nothing is heard
 abbrev pub IsUnheard : DeviceEvent → Type 0

@@ -1,6 +1,6 @@
 -- What the payloads of a device tell the host of its sessions (this project's own; Supervision Report is that of the Z-Wave
 -- Transport-Encapsulation Command Class Specification).
-use Rattle.std.specs.Prelude.{◌≡◌, ◌⊎◌, ℕ, Bool, ◌==◌, ◌&&◌, not, List, [], ◌∷◌, Option, Some, None}
+use Rattle.std.specs.Prelude.{◌≡◌, ◌⊎◌, ◌≤◌, ℕ, Bool, ◌==◌, ◌&&◌, not, List, [], ◌∷◌, length, Option, Some, None}
 use Rattle.std.specs.List.{AllByRecursion}
 use Rattle.supervision.specs.Session.{wire_id, IsStatus}
 use Rattle.supervision.specs.declared.session.TheConstants.{WORKING}
@@ -82,9 +82,9 @@ pub record CanSay (device : State) : Type 0 where
   pub status : IsStatus device.sessions.status
   pub answer : CanBeAnswered device.work.answer
 
--- the text that waits to be sealed is such a report
+-- the text that waits to be sealed is such a report, and short
 abbrev pub PendingTellsOwn : State → Type 0
-PendingTellsOwn device = (text : List ℕ) × ((device.sealing.pending ≡ Some text) × TellsOwn device text)
+PendingTellsOwn device = (text : List ℕ) × ((device.sealing.pending ≡ Some text) × (TellsOwn device text × (length text ≤ 13)))
 
 -- a device that answers sealed, after a message, by what its id is for it: where it answers, that text waits; else what waited before
 abbrev pub HasAnswered : State → State → Heard → Type 0

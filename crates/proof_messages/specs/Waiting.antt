@@ -9,9 +9,10 @@ use Rattle.proof_messages.specs.Payloads.{IsSealed}
 abbrev pub WaitsOwn : State → Type 0
 WaitsOwn device = (text : List ℕ) → device.sealing.pending ≡ Some text → (0 < device.sessions.taken) × TellsOwn device text
 
--- it says such a report, sealed for the nonce of the host of that number
+-- it says such a report, which waited, sealed for the nonce of the host of that number
 pub record SaysSealed (shown : List (List ℕ)) (number : ℕ) (device : State) (replies : List (List ℕ)) : Type 0 where
   pub plain : List ℕ
+  pub waited : device.sealing.pending ≡ Some plain
   pub reply : List ℕ
   pub says : replies ≡ reply ∷ []
   pub sealed : IsSealed (keys_of device.key) device.sealing.ends shown number plain reply

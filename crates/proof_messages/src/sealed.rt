@@ -13,8 +13,9 @@ ghost use Rattle.host_orders.specs.declared.carriage.Carriage.{Carriage};
 ghost use Rattle.s0_crypto.specs.Sealing.{keys_of, unsealed_at, sealed_text};
 ghost use Rattle.device_kinds.specs.declared.kind.Kind.TheVariants as kinds;
 ghost use Rattle.device_sim.specs.State.{State, host_node};
-ghost use Rattle.device_sim.specs.Event.{Hears, device_after};
+ghost use Rattle.device_sim.specs.Event.{Hears, device_after, device_replies};
 ghost use Rattle.proof_messages.specs.Asking.{verdict_on, Follows};
+ghost use Rattle.proof_messages.specs.Locks.{AsksToAnswer, IsLock};
 ghost use Rattle.proof_messages.specs.Reporting.{HasAnswered};
 
 /// What is sealed under two nonces of eight bytes opens to the same text, with the same keys, ends and nonce of its receiver.
@@ -24,7 +25,7 @@ pub fn what_is_sealed_opens()
 {}
 
 /// A lock follows the message of a session that was sealed for its live nonce; and where it answers, the text that waits to be sealed is heard as one
-/// report of its last session, with the status that it keeps.
+/// report of its last session, with the status that it keeps, and it asks for a nonce; where it does not answer it says nothing.
 pub fn sealed_messages_do_what_is_asked()
     ensures heard { (device : State) (own nonce drawn : List ℕ) (carriage : Carriage) (order : Order) (session : ℕ)
         → IsFit carriage.actuator order → order.end ≤ 127 → carriage.outer ≡ outers.Security → device.awake ≡ true → device.kind ≡ kinds.Lock
@@ -36,6 +37,11 @@ pub fn sealed_messages_do_what_is_asked()
         → IsFit carriage.actuator order → order.end ≤ 127 → carriage.outer ≡ outers.Security → device.awake ≡ true → device.kind ≡ kinds.Lock
         → length own ≡ 8 → device.given.live ≡ Some nonce
         → HasAnswered device (device_after device
+        (Hears (sealed_text (keys_of device.key) own nonce (record { sender = host_node; receiver = device.node }) (message_of carriage order session)) drawn))
+        (heard_of device.sessions (wire_id session)) }
+    ensures asks { (device : State) (own nonce drawn : List ℕ) (carriage : Carriage) (order : Order) (session : ℕ)
+        → IsFit carriage.actuator order → order.end ≤ 127 → carriage.outer ≡ outers.Security → IsLock device → length own ≡ 8 → device.given.live ≡ Some nonce
+        → AsksToAnswer (device_replies device
         (Hears (sealed_text (keys_of device.key) own nonce (record { sender = host_node; receiver = device.node }) (message_of carriage order session)) drawn))
         (heard_of device.sessions (wire_id session)) }
 {}

@@ -13,6 +13,7 @@ mod Untold
 mod Stillness
 mod Workers
 mod Marks
+mod OneOpen
 mod Reading
 mod Listening
 mod Each

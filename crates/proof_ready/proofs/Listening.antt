@@ -1,4 +1,4 @@
--- A node whose first device listens, or sleeps, and a host that knows of it that it lists neither Transport Service nor Security 0; so it is plain by its kind.
+-- A node whose first device listens, or sleeps, and a host that knows of it that it does not list Security 0; so it takes by its kind what is not sealed.
 use Rattle.std.proofs.Common.{◌≡◌, ◌<◌, ℕ, ◌==◌, ◌||◌, not, Bool, true, false, List, [], ◌∷◌, refl, sym, ap, subst, ◌∙◌, arith}
 use Rattle.std.proofs.lemmas.Bool.{false≢true, or_parts}
 use Rattle.std.specs.Prelude.{Option, Some, None}
@@ -13,21 +13,24 @@ use Rattle.zw_text.specs.declared.entry.Entry.{Entry}
 use Rattle.law_wire.specs.law_transcript.Headline.{IsAsMade}
 use Rattle.law_wire.specs.law_transcript.Nodes.{always, device_of, known_classes, listed_by, listing_of}
 use Rattle.law_time.specs.Interviews.{listens}
-use Rattle.law_time.specs.Questions.{same_bool}
-use Rattle.law_time.specs.Stretches.{are_listed, knows_device, lists_a_layer}
+use Rattle.law_time.specs.Stretches.{are_listed, lists_a_layer, lists_security}
 use Rattle.proof_rests.specs.proof_attempts.proof_host.device_sim.State.{State, fresh}
 use Rattle.proof_rests.specs.proof_requests.host_model.State.{node_of}
 use Rattle.proof_rests.specs.proof_attempts.world_model.State.{Machine}
 use Rattle.proof_rests.specs.proof_attempts.proof_walk.proof_device.GoingOn.{AreSame}
 use Rattle.proof_in_time.specs.proof_answered.Listening.{HasListener, IsUp}
-use Rattle.proof_in_time.specs.proof_answered.Sleepers.{HasSleeper}
+use Rattle.proof_in_time.specs.LockNodes.{IsLockKind}
+use Rattle.proof_in_time.specs.proof_answered.Sleepers.{HasSleeper, IsAlone}
 use Rattle.proof_chip.specs.proof_line.proof_traffic.OutsideTraffic.{AreNodes}
 use Rattle.proof_in_time.specs.proof_answered.proof_calm.proof_waking.proof_walk.Phases.{Between}
-use Rattle.proof_in_time.specs.Coming.{ListOpenly, WaitsFor, is_layered}
-use Rattle.proof_in_time.specs.InStep.{IsPlainByKind}
+use Rattle.proof_in_time.specs.Coming.{ListOpenly, WaitsFor, is_listed}
+use Rattle.proof_in_time.specs.InStep.{IsOpenByKind, IsPlainByKind}
+use Rattle.proof_in_time.specs.Open.{TakesCut}
+use Rattle.proof_in_time.specs.Openly.{ListUnsealed}
 use Rattle.proof_in_time.proofs.AsMade.{finds}
-use Rattle.proof_in_time.proofs.JudgedOutcomes.{same_device}
-use Rattle.proof_ready.specs.Ready.{AreKnown, AreUp, IsKnown}
+use Rattle.proof_in_time.proofs.JudgedOutcomes.{same_device, same_listing}
+use Rattle.proof_ready.specs.Ready.{AreUp, IsKnown, ListPlainly}
+use Rattle.proof_ready.proofs.OneOpen.{device_known}
 use Rattle.proof_ready.proofs.Reading.{not_so}
 
 -- ---- its device
@@ -59,30 +62,9 @@ sleeper_at n olds news same device is sleeps =
         let there = finds n news one at in
         record { place = there.place; device = one; first = there.first; stands = there.stands; sleeps = not_so (kind_listens one.kind) so }
 
--- the device is there that is known, and listens where the host takes it to
-pub device_known : (devices : List State) (past : List Entry) (n : ℕ) (b : Bool) → listens n past ≡ b → knows_device devices n past (device_of n devices) ≡ true
-    → (device : State) × ((device_of n devices ≡ Some device) × (kind_listens device.kind ≡ b))
-device_known devices past n b hears known = by (device_of n devices) refl
-  where
-    same_is : (a c : Bool) → same_bool a c ≡ true → c ≡ a
-    same_is true c is = is
-    same_is false true is = absurd (false≢true is)
-    same_is false false is = refl
-
-    by : (o : Option State) → device_of n devices ≡ o → (device : State) × ((device_of n devices ≡ Some device) × (kind_listens device.kind ≡ b))
-    by None is = absurd (false≢true (sym (ap (λ (o : Option State). knows_device devices n past o) is) ∙ known))
-    by (Some device) is = (
-      device,
-      (
-        is,
-        same_is b (kind_listens device.kind)
-            (sym (ap (λ (c : Bool). same_bool c (kind_listens device.kind)) hears) ∙ (sym (ap (λ (o : Option State). knows_device devices n past o) is) ∙ known)),
-      ),
-    )
-
 -- ---- its classes
 
-pub not_layered : (classes : List ℕ) → list_any (λ class. (class == 0x55) || (class == 0x98)) classes ≡ false → lists classes 0x98 || lists classes 0x55 ≡ false
+not_layered : (classes : List ℕ) → list_any (λ class. (class == 0x55) || (class == 0x98)) classes ≡ false → lists classes 0x98 || lists classes 0x55 ≡ false
 unfolding lists
 not_layered [] none = refl
 not_layered (class ∷ classes) none =
@@ -94,19 +76,22 @@ not_layered (class ∷ classes) none =
     by false true rest sealed cut none later = absurd (false≢true (sym none))
     by false false rest sealed cut none later = later none
 
-open_known : (devices : List State) (n : ℕ) (known : Option (List ℕ)) → are_listed devices n known ≡ true → lists_a_layer devices n ≡ false
-    → is_layered known ≡ false
-open_known devices n None listed plain = absurd (false≢true listed)
-open_known devices n (Some classes) listed plain =
-    subst (λ (l : List ℕ). is_layered (Some l) ≡ false) (sym ((bytes_eq-Decides classes (listing_of devices n)).0 listed)) (not_layered (listing_of devices n) plain)
+not_secure : (classes : List ℕ) → list_any (λ class. class == 0x98) classes ≡ false → lists classes 0x98 ≡ false
+unfolding lists
+not_secure classes none = none
 
-pub waits_for : (devices : List State) (past : List Entry) (m : Machine) (n : ℕ) → IsKnown devices past n → (node_of m.host.state n).classes ≡ known_classes (always (listing_of devices)) past n
-    → (node_of m.host.state n).series ≡ Idle → WaitsFor n 6 Between m
-waits_for devices past m n known classes idle = record {
-  openly = ap (λ (o : Option (List ℕ)). is_layered o) classes ∙ open_known devices n (known_classes (always (listing_of devices)) past n) known.classes known.plain;
-  once = omega arith;
-  bounded = λ runs. absurd (let bad = sym idle ∙ runs in cc);
-}
+-- what lists one of the two and not Security 0 lists Transport Service
+pub lists_segments : (classes : List ℕ) → list_any (λ class. (class == 0x55) || (class == 0x98)) classes ≡ true → list_any (λ class. class == 0x98) classes ≡ false → lists classes 0x55 ≡ true
+unfolding lists
+lists_segments [] some none = absurd (false≢true some)
+lists_segments (class ∷ classes) some none =
+    by (class == 0x55) (class == 0x98) (list_any (λ one. (one == 0x55) || (one == 0x98)) classes) (list_any (λ one. one == 0x98) classes) (list_any (λ listed. listed == 0x55) classes) some none
+    (lists_segments classes)
+  where
+    by : (a b rest sealed cut : Bool) → (a || b) || rest ≡ true → b || sealed ≡ false → (rest ≡ true → sealed ≡ false → cut ≡ true) → a || cut ≡ true
+    by true b rest sealed cut some none later = refl
+    by false true rest sealed cut some none later = absurd (false≢true (sym none))
+    by false false rest sealed cut some none later = later some none
 
 -- what the host knows is what the device lists
 pub known_list : (devices : List State) (past : List Entry) (n : ℕ) → IsKnown devices past n → known_classes (always (listing_of devices)) past n ≡ Some (listing_of devices n)
@@ -116,30 +101,88 @@ known_list devices past n known = by (known_classes (always (listing_of devices)
     by None listed = absurd (false≢true listed)
     by (Some classes) listed = ap (λ (l : List ℕ). Some l) ((bytes_eq-Decides classes (listing_of devices n)).0 listed)
 
+-- so the host takes plain reports of it where its device lets them be taken
+pub waits_for : (whole : Bool) (devices : List State) (past : List Entry) (m : Machine) (n most : ℕ) → IsKnown devices past n
+    → (node_of m.host.state n).classes ≡ known_classes (always (listing_of devices)) past n → is_listed whole (Some (listing_of devices n)) ≡ false → (node_of m.host.state n).series ≡ Idle
+    → WaitsFor whole n most Between m
+waits_for whole devices past m n most known classes none idle = record {
+  openly = ap (λ (o : Option (List ℕ)). is_listed whole o) (classes ∙ known_list devices past n known) ∙ none;
+  once = omega arith;
+  bounded = λ runs. absurd (let bad = sym idle ∙ runs in cc);
+}
+
+pub lists_openly : (these : List Bool) (devices : List State) → ListPlainly these devices → ListOpenly these devices
+lists_openly these devices plain n marked = not_layered (listing_of devices n) (plain n marked)
+
+pub lists_unsealed : (these : List Bool) (devices : List State) (node : ℕ) → IsAlone these node → lists_security devices node ≡ false → ListUnsealed these devices
+lists_unsealed these devices node alone unsealed n marked = not_secure (listing_of devices n) (subst (λ (k : ℕ). lists_security devices k ≡ false) (sym (alone.only n marked)) unsealed)
+
+pub lists_sealed : (devices : List State) (n : ℕ) → lists_security devices n ≡ true → lists (listing_of devices n) 0x98 ≡ true
+unfolding lists
+lists_sealed devices n sealed = sealed
+
 -- ---- its kind
 
 same_lists : (kind : Kind) (class : ℕ) → kind_lists kind class ≡ lists (classes_of kind) class
 unfolding lists
 same_lists kind class = refl
 
--- it takes commands in sessions, not sealed, whole
-pub plain_by_kind : (devices : List State) (past : List Entry) (n : ℕ) → IsKnown devices past n → lists (listing_of devices n) 0x6C ≡ true
-    → IsPlainByKind devices n
-plain_by_kind devices past n known supervised =
+none_lists : lists [] 0x55 ≡ false
+unfolding lists
+none_lists = refl
+
+-- one that takes segments did at first
+pub cutter_at : (n : ℕ) (olds news : List State) → AreSame olds news → lists (listing_of olds n) 0x55 ≡ true → TakesCut n news
+cutter_at n olds news same cuts = found (device_of n news) refl (ap (λ (l : List ℕ). lists l 0x55) (same_listing n olds news same) ∙ cuts)
+  where
+    found : (o : Option State) → device_of n news ≡ o → lists (listing_of news n) 0x55 ≡ true → TakesCut n news
+    found None at so = absurd (false≢true (sym none_lists ∙ (ap (λ (o : Option State). lists (listed_by o) 0x55) (sym at) ∙ so)))
+    found (Some one) at so =
+        let there = finds n news one at in
+        record { place = there.place; device = one; first = there.first; stands = there.stands; cut = same_lists one.kind 0x55 ∙ (ap (λ (o : Option State). lists (listed_by o) 0x55) (sym at) ∙ so) }
+
+-- it takes commands in sessions, not sealed
+pub open_by_kind : (devices : List State) (past : List Entry) (n : ℕ) → IsKnown devices past n → lists (listing_of devices n) 0x6C ≡ true → lists_security devices n ≡ false → IsOpenByKind devices n
+open_by_kind devices past n known supervised unsealed =
     let has = device_known devices past n (listens n past) refl known.device in
     let kind : Kind = has.0.kind in
     let listing : listing_of devices n ≡ classes_of kind = ap (λ (o : Option State). listed_by o) has.1.0 in
-    let none = or_parts (lists (listing_of devices n) 0x98) (lists (listing_of devices n) 0x55) (not_layered (listing_of devices n) known.plain) in
     record {
       device = has.0;
       first = has.1.0;
       supervised = same_lists kind 0x6C ∙ (ap (λ (l : List ℕ). lists l 0x6C) (sym listing) ∙ supervised);
-      unsealed = same_lists kind 0x98 ∙ (ap (λ (l : List ℕ). lists l 0x98) (sym listing) ∙ none.0);
-      whole = same_lists kind 0x55 ∙ (ap (λ (l : List ℕ). lists l 0x55) (sym listing) ∙ none.1);
+      unsealed = same_lists kind 0x98 ∙ (ap (λ (l : List ℕ). lists l 0x98) (sym listing) ∙ not_secure (listing_of devices n) unsealed);
     }
 
-pub lists_openly : (these : List Bool) (devices : List State) (past : List Entry) → AreKnown these devices past → ListOpenly these devices
-lists_openly these devices past known n marked = not_layered (listing_of devices n) (known n marked).plain
+-- or sealed
+pub lock_by_kind : (devices : List State) (past : List Entry) (n : ℕ) → IsKnown devices past n → lists (listing_of devices n) 0x6C ≡ true → lists_security devices n ≡ true
+    → (device : State) × ((device_of n devices ≡ Some device) × IsLockKind device.kind)
+lock_by_kind devices past n known supervised sealed =
+    let has = device_known devices past n (listens n past) refl known.device in
+    let kind : Kind = has.0.kind in
+    let listing : listing_of devices n ≡ classes_of kind = ap (λ (o : Option State). listed_by o) has.1.0 in (
+      has.0,
+      (
+        has.1.0,
+        record {
+          supervised = same_lists kind 0x6C ∙ (ap (λ (l : List ℕ). lists l 0x6C) (sym listing) ∙ supervised);
+          sealed = same_lists kind 0x98 ∙ (ap (λ (l : List ℕ). lists l 0x98) (sym listing) ∙ lists_sealed devices n sealed);
+        },
+      ),
+    )
+
+-- one that is not sealed takes commands whole
+pub plain_by_kind : (devices : List State) (n : ℕ) → IsOpenByKind devices n → lists_a_layer devices n ≡ false → IsPlainByKind devices n
+plain_by_kind devices n is plain =
+    let listing : listing_of devices n ≡ classes_of is.device.kind = ap (λ (o : Option State). listed_by o) is.first in
+    record {
+      device = is.device;
+      first = is.first;
+      supervised = is.supervised;
+      unsealed = is.unsealed;
+      whole = same_lists is.device.kind 0x55
+          ∙ (ap (λ (l : List ℕ). lists l 0x55) (sym listing) ∙ (or_parts (lists (listing_of devices n) 0x98) (lists (listing_of devices n) 0x55) (not_layered (listing_of devices n) plain)).1);
+    }
 
 -- ---- as their makers left them
 

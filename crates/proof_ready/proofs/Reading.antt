@@ -1,6 +1,6 @@
 -- What the transcript says of the nodes at work in a stretch, one by one.
 use Rattle.std.proofs.Common.{◌≡◌, ◌⊎◌, ℕ, suc, ◌≤◌, ◌<◌, ◌==◌, ◌&&◌, ◌||◌, not, nat_le, Bool, true, false, if◌then◌else◌, List, [], ◌∷◌, ◌++◌, length, arith, inl, inr, refl, sym, ap, ap₂, subst, ◌∙◌}
-use Rattle.std.proofs.lemmas.Bool.{and_parts, cases_lt, eq-eqb, eqb-true, false≢true}
+use Rattle.std.proofs.lemmas.Bool.{and_parts, cases_lt, eq-eqb, eqb-true, false≢true, le-leb}
 use Rattle.std.specs.Prelude.{Option, Some, None, bytes_eq, filter}
 use Rattle.std.specs.List.{AllByRecursion, flat_map, list_all, list_any}
 use Rattle.chip_sim.specs.Nodes.{is_marked}
@@ -20,15 +20,16 @@ use Rattle.law_time.specs.Interviews.{listens}
 use Rattle.law_time.specs.Judged.{acknowledged, frames_come}
 use Rattle.law_time.specs.Questions.{same_bool}
 use Rattle.law_time.specs.Requests.{are_none}
-use Rattle.law_time.specs.Stretches.{accepted_for, are_listed, are_plain_listeners, commands_in, has_key, is_alone, is_plain_listener, is_plain_sleeper, is_quiet, is_quiet_line, is_sleeper_alone, is_woken_so, knows_classes, knows_device, knows_node, lists_a_layer, open_commands, woken_by, workers}
+use Rattle.law_time.specs.Stretches.{accepted_for, are_listed, are_plain_listeners, commands_in, has_key, is_alone, is_plain_listener, is_plain_sleeper, is_quiet, is_quiet_line, is_sleeper_alone, is_woken_so, is_long_enough, is_time, knows_classes, knows_device, knows_node, lists_a_layer, lists_security, open_commands, waited, woken_by, workers}
 use Rattle.proof_rests.specs.proof_attempts.proof_host.device_sim.State.{State}
 use Rattle.proof_rests.specs.proof_attempts.proof_walk.proof_device.GoingOn.{AreSame}
 use Rattle.proof_in_time.specs.proof_answered.Sleepers.{IsAlone}
 use Rattle.proof_in_time.specs.proof_answered.Workers.{IsAway}
 use Rattle.proof_in_time.proofs.JudgedOutcomes.{same_device, same_listing}
 use Rattle.proof_ready.specs.Ease.{clock_of}
-use Rattle.proof_ready.specs.Ready.{AreKnown, ArePlain, AreWorkers, HostIsStill, OneSleeps, marks_of}
+use Rattle.proof_ready.specs.Ready.{AreFit, AreKnown, AreSo, AreWorkers, HostIsStill, Listeners, Locked_one, OneSleeps, One_alone, Open_one, Plain_ones, Sleeper, marks_of}
 use Rattle.proof_ready.proofs.Marks.{marked_is, unmarked_beyond}
+use Rattle.proof_ready.proofs.OneOpen.{device_known, each_long, enough, sleeper_plain}
 
 -- ---- lists
 
@@ -148,12 +149,22 @@ known_before these past olds news same known n marked =
       device = sym (same_device (λ (o : Option State). knows_device olds n past o) (λ old new is. ap (λ k. same_bool (listens n past) (kind_listens k)) is.kind) n olds news same)
           ∙ (any_device olds news past n (device_of n news) ∙ now.device);
       classes = sym (listed_so past n olds news listing) ∙ now.classes;
-      plain = ap (λ (l : List ℕ). list_any (λ class. (class == 0x55) || (class == 0x98)) l) (sym listing) ∙ now.plain;
     }
   where
     any_device : (olds news : List State) (past : List Entry) (n : ℕ) (o : Option State) → knows_device olds n past o ≡ knows_device news n past o
     any_device olds news past n None = refl
     any_device olds news past n (Some device) = refl
+
+same_layers : (olds news : List State) → AreSame olds news → (n : ℕ) → lists_a_layer olds n ≡ lists_a_layer news n
+same_layers olds news same n = ap (λ (l : List ℕ). list_any (λ class. (class == 0x55) || (class == 0x98)) l) (sym (same_listing n olds news same))
+
+same_security : (olds news : List State) → AreSame olds news → (n : ℕ) → lists_security olds n ≡ lists_security news n
+same_security olds news same n = ap (λ (l : List ℕ). list_any (λ class. class == 0x98) l) (sym (same_listing n olds news same))
+
+pub so_before : (these : List Bool) (past stretch : List Entry) (olds news : List State) → AreSame olds news → AreSo these news past stretch → AreSo these olds past stretch
+so_before these past stretch olds news same (Plain_ones plain) = Plain_ones (λ n marked. same_layers olds news same n ∙ plain n marked)
+so_before these past stretch olds news same (Open_one one layered unsealed) = Open_one one (same_layers olds news same one.node ∙ layered) (same_security olds news same one.node ∙ unsealed)
+so_before these past stretch olds news same (Locked_one one sealed) = Locked_one one (same_security olds news same one.node ∙ sealed)
 
 filter_same : (so other : ℕ → Bool) → ((n : ℕ) → so n ≡ other n) → (l : List ℕ) → filter so l ≡ filter other l
 filter_same so other same [] = refl
@@ -186,9 +197,17 @@ all_of_one So (one ∷ more) n all has = by (one == n) refl has (all_of_one So m
     by true same has later = subst So (eqb-true one n same) all.0
     by false other has later = later has
 
+-- where one node is at work, and each of its commands has had 500 ticks, so have all
+pub open_long : (past stretch : List Entry) → is_alone past stretch ≡ true → is_time past stretch ≡ true → is_long_enough stretch ≡ true
+open_long past stretch alone time =
+    let one = one_alone (workers past stretch) alone in
+    let here : list_any (λ k. k == one.0) (workers past stretch) ≡ true = ap (λ (l : List ℕ). list_any (λ k. k == one.0) l) one.1 ∙ ap (λ (b : Bool). b || false) (eq-eqb one.0 one.0 refl) in
+    let some = some_of (commands_in past stretch one.0) (in_filter (λ node. not (are_none (commands_in past stretch node))) (joined past) one.0 here).1 in
+    le-leb 500 (waited stretch) (enough past stretch one.0 some.0 one.1 some.1 time)
+
 -- ---- the nodes at work
 
-module _ (key : List ℕ) (devices : List State) (past stretch : List Entry) (quiet : is_quiet key devices past stretch ≡ true) (are_plain : ArePlain devices past stretch)
+module _ (key : List ℕ) (devices : List State) (past stretch : List Entry) (quiet : is_quiet key devices past stretch ≡ true) (are_fit : AreFit devices past stretch)
     (within : (n : ℕ) → is_joined past n ≡ true → n ≤ 232) where
   abbrev these : List Bool
   these = marks_of (workers past stretch)
@@ -226,13 +245,6 @@ module _ (key : List ℕ) (devices : List State) (past stretch : List Entry) (qu
       (of_one (λ node. is_plain_sleeper devices past node) (workers past stretch) n
       (and_parts (is_alone past stretch) (list_all (is_plain_sleeper devices past) (workers past stretch)) sleeper).1 (at_work n marked))
 
-  unlayered : (n : ℕ) → is_marked these n ≡ true → lists_a_layer devices n ≡ false
-  unlayered n marked = by are_plain
-    where
-      by : ArePlain devices past stretch → lists_a_layer devices n ≡ false
-      by (inl listeners) = not_so (lists_a_layer devices n) (plain_listener listeners n marked).1
-      by (inr sleeper) = not_so (lists_a_layer devices n) (plain_sleeper sleeper n marked).1
-
   joined_one : (n : ℕ) → is_marked these n ≡ true → is_joined past n ≡ true
   joined_one n marked = (in_filter (λ node. not (are_none (commands_in past stretch node))) (joined past) n (at_work n marked)).0
 
@@ -251,14 +263,43 @@ module _ (key : List ℕ) (devices : List State) (past stretch : List Entry) (qu
       only k false other has = absurd (false≢true has)
 
   hear : ((n : ℕ) → is_marked these n ≡ true → listens n past ≡ true) ⊎ OneSleeps these past
-  hear = by are_plain
+  hear = by are_fit
     where
-      by : ArePlain devices past stretch → ((n : ℕ) → is_marked these n ≡ true → listens n past ≡ true) ⊎ OneSleeps these past
-      by (inl listeners) = inl (λ n marked. (plain_listener listeners n marked).0)
-      by (inr sleeper) =
+      one_hears : (n : ℕ) → IsAlone these n → (b : Bool) → listens n past ≡ b → ((k : ℕ) → is_marked these k ≡ true → listens k past ≡ true) ⊎ OneSleeps these past
+      one_hears n alone true hears = inl (λ k marked. subst (λ (j : ℕ). listens j past ≡ true) (sym (alone.only k marked)) hears)
+      one_hears n alone false sleeps = inr (record { node = n; alone = alone; sleeps = sleeps })
+
+      by : AreFit devices past stretch → ((n : ℕ) → is_marked these n ≡ true → listens n past ≡ true) ⊎ OneSleeps these past
+      by (Listeners listeners) = inl (λ n marked. (plain_listener listeners n marked).0)
+      by (Sleeper sleeper) =
           let one = one_alone (workers past stretch) (and_parts (is_alone past stretch) (list_all (is_plain_sleeper devices past) (workers past stretch)) sleeper).0 in
           let alone = alone_is one.0 one.1 in
           inr (record { node = one.0; alone = alone; sleeps = not_so (listens one.0 past) (plain_sleeper sleeper one.0 alone.marked).0 })
+      by (One_alone alone_so time) =
+          let one = one_alone (workers past stretch) alone_so in
+          one_hears one.0 (alone_is one.0 one.1) (listens one.0 past) refl
+
+  pub are_so : AreSo these devices past stretch
+  are_so = by are_fit
+    where
+      one_so : (n : ℕ) → workers past stretch ≡ n ∷ [] → is_time past stretch ≡ true → (b s c : Bool) → listens n past ≡ b → lists_security devices n ≡ s → lists_a_layer devices n ≡ c
+          → AreSo these devices past stretch
+      one_so n one time true true c hears sealed is = Locked_one (record { node = n; alone = alone_is n one; hears = hears; long = each_long past stretch n one time }) sealed
+      one_so n one time true false true hears unsealed layered = Open_one (record { node = n; alone = alone_is n one; hears = hears; long = each_long past stretch n one time }) layered unsealed
+      one_so n one time true false false hears unsealed plain = Plain_ones (λ k marked. subst (λ (j : ℕ). lists_a_layer devices j ≡ false) (sym ((alone_is n one).only k marked)) plain)
+      one_so n one time false s c sleeps sealed is =
+          let alone = alone_is n one in
+          let has =
+          device_known devices past n false sleeps
+          (third_of (is_joined past n) (has_key key (device_of n devices)) (knows_device devices n past (device_of n devices)) (knows_classes devices past n) (knows n alone.marked)) in
+          Plain_ones (λ k marked. subst (λ (j : ℕ). lists_a_layer devices j ≡ false) (sym (alone.only k marked)) (sleeper_plain devices n has.0 has.1.0 has.1.1))
+
+      by : AreFit devices past stretch → AreSo these devices past stretch
+      by (Listeners listeners) = Plain_ones (λ n marked. not_so (lists_a_layer devices n) (plain_listener listeners n marked).1)
+      by (Sleeper sleeper) = Plain_ones (λ n marked. not_so (lists_a_layer devices n) (plain_sleeper sleeper n marked).1)
+      by (One_alone alone_so time) =
+          let one = one_alone (workers past stretch) alone_so in
+          one_so one.0 one.1 time (listens one.0 past) (lists_security devices one.0) (lists_a_layer devices one.0) refl refl refl
 
   pub workers_are : AreWorkers these past
   workers_are = record {
@@ -284,7 +325,6 @@ module _ (key : List ℕ) (devices : List State) (past stretch : List Entry) (qu
       record {
         device = third_of (is_joined past n) (has_key key (device_of n devices)) (knows_device devices n past (device_of n devices)) (knows_classes devices past n) (knows n marked);
         classes = (lists_known n marked).0;
-        plain = unlayered n marked;
       }
 
   pub reached_are : AllByRecursion (CanBeReached devices past) (workers past stretch) → (n : ℕ) → is_marked these n ≡ true → CanBeReached devices past n

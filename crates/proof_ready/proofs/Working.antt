@@ -353,7 +353,7 @@ number_is : (n : ℕ) (entry : Entry) → number_for n entry ≡ accepted_for n 
 number_is n (Accepted command node) = refl
 number_is n entry = refl
 
-numbers_are : (n : ℕ) (past : List Entry) → numbers_for n past ≡ shown (accepted_for n) past
+pub numbers_are : (n : ℕ) (past : List Entry) → numbers_for n past ≡ shown (accepted_for n) past
 numbers_are n [] = refl
 numbers_are n (entry ∷ past) = ap₂ (λ (a b : List ℕ). a ++ b) (number_is n entry) (numbers_are n past)
 
@@ -361,16 +361,24 @@ waiting_open : (o : Outcome) → is_waiting o ≡ true → not (is_final o) && n
 waiting_open Waiting is = refl
 waiting_open o is = absurd (false≢true is)
 
+-- the host knew of the node what its device lists as it accepted a command that is open
+pub open_known : (devices now : List State) (past : List Entry) (n c : ℕ) → listing_of now n ≡ listing_of devices n
+    → list_all (λ number. are_listed now n (Some (classes_for (always (listing_of now)) past n number))) (open_commands n past) ≡ true → Has (shown (accepted_for n) past) c → is_open past c ≡ true
+    → classes_for (always (listing_of devices)) past n c ≡ listing_of devices n
+open_known devices now past n c same listed has opens =
+    let opened = kept_in (is_open past) (shown (accepted_for n) past) c (any_that_has (shown (accepted_for n) past) c has) opens in
+    let so : are_listed now n (Some (classes_for (always (listing_of now)) past n c)) ≡ true =
+    of_one (λ number. are_listed now n (Some (classes_for (always (listing_of now)) past n number))) (open_commands n past) c listed opened in
+    let is : classes_for (always (listing_of now)) past n c ≡ listing_of now n = (bytes_eq-Decides (classes_for (always (listing_of now)) past n c) (listing_of now n)).0 so in
+    let then_so : classes_for (always (listing_of devices)) past n c ≡ classes_for (always (listing_of now)) past n c =
+    ap (λ (l : List ℕ). unwrap_or (if is_interviewed (before_accepted c past) n then Some l else known_at_first n) []) (sym same) in
+    then_so ∙ (is ∙ same)
+
 -- it was accepted for a node that is known to list what it did then
 pub waiting_lists : (devices now : List State) (past : List Entry) (n c : ℕ) → listing_of now n ≡ listing_of devices n → EachAfter (MayBeLetIn (listing_of devices)) [] past → numbers_of (accepted n past) ≡ numbers_for n past
     → list_all (λ number. are_listed now n (Some (classes_for (always (listing_of now)) past n number))) (open_commands n past) ≡ true → Has (waiting n past) c → lists (listing_of devices n) 0x6C ≡ true
 waiting_lists devices now past n c same each numbers listed waits =
     let both = in_filter (λ number. is_waiting (outcome number past)) (numbers_of (accepted n past)) c (any_that_has (waiting n past) c waits) in
     let among : list_any (λ one. one == c) (shown (accepted_for n) past) ≡ true = sym (ap (λ (l : List ℕ). list_any (λ one. one == c) l) (numbers ∙ numbers_are n past)) ∙ both.0 in
-    let opened = kept_in (is_open past) (shown (accepted_for n) past) c among (waiting_open (outcome c past) both.1) in
-    let so : are_listed now n (Some (classes_for (always (listing_of now)) past n c)) ≡ true =
-    of_one (λ number. are_listed now n (Some (classes_for (always (listing_of now)) past n number))) (open_commands n past) c listed opened in
-    let is : classes_for (always (listing_of now)) past n c ≡ listing_of now n = (bytes_eq-Decides (classes_for (always (listing_of now)) past n c) (listing_of now n)).0 so in
-    let then_so : classes_for (always (listing_of devices)) past n c ≡ classes_for (always (listing_of now)) past n c =
-    ap (λ (l : List ℕ). unwrap_or (if is_interviewed (before_accepted c past) n then Some l else known_at_first n) []) (sym same) in
-    sym (ap (λ (l : List ℕ). lists l 0x6C) (then_so ∙ (is ∙ same))) ∙ listed_then (listing_of devices) n c [] past each (has_any (shown (accepted_for n) past) c among)
+    let has : Has (shown (accepted_for n) past) c = has_any (shown (accepted_for n) past) c among in
+    sym (ap (λ (l : List ℕ). lists l 0x6C) (open_known devices now past n c same listed has (waiting_open (outcome c past) both.1))) ∙ listed_then (listing_of devices) n c [] past each has

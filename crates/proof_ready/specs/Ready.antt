@@ -1,5 +1,5 @@
 -- Nodes that are ready for a stretch by the transcript (this project's own rule): what is so of them in the machine.
-use Rattle.std.specs.Prelude.{◌≡◌, ◌⊎◌, ℕ, zero, suc, ◌≤◌, ◌==◌, Bool, true, false, List, [], ◌∷◌, length, None}
+use Rattle.std.specs.Prelude.{◌≡◌, ◌⊎◌, ℕ, zero, suc, ◌≤◌, ◌*◌, ◌==◌, Bool, true, false, List, [], ◌∷◌, length, None}
 use Rattle.std.specs.List.{AllByRecursion, list_any}
 use Rattle.zw_text.specs.declared.entry.Entry.{Entry}
 use Rattle.device_kinds.specs.Kind.{listens as kind_listens}
@@ -10,9 +10,10 @@ use Rattle.law_wire.specs.law_transcript.Nodes.{always, device_of, is_joined, kn
 use Rattle.law_time.specs.Interviews.{listens}
 use Rattle.law_time.specs.Calm.{is_asleep_if_known, is_idle}
 use Rattle.law_time.specs.Rests.{is_rest}
-use Rattle.law_time.specs.Stretches.{are_listed, are_plain_listeners, is_sleeper_alone, knows_device, lists_a_layer}
+use Rattle.law_time.specs.Stretches.{are_listed, are_plain_listeners, commands_in, is_alone, is_sleeper_alone, is_time, knows_device, lists_a_layer, lists_security, waited}
 use Rattle.proof_rests.specs.proof_attempts.proof_host.device_sim.State.{State}
-use Rattle.proof_rests.specs.proof_requests.host_model.State.{HostState}
+use Rattle.host_node.specs.declared.series.Series.TheVariants.{Idle}
+use Rattle.proof_rests.specs.proof_requests.host_model.State.{HostState, node_of}
 use Rattle.proof_rests.specs.proof_attempts.world_model.State.{Machine}
 use Rattle.proof_in_time.specs.proof_answered.FirstAttempts.{AllFirst}
 use Rattle.proof_in_time.specs.proof_answered.Sleepers.{AllHear, IsAlone}
@@ -20,7 +21,7 @@ use Rattle.proof_in_time.specs.proof_answered.Workers.{IsAway, KnowsWorkers}
 use Rattle.proof_in_time.specs.proof_answered.proof_calm.Tied.{unheard}
 use Rattle.proof_in_time.specs.proof_answered.proof_calm.proof_traffic.OnAir.{on_air}
 use Rattle.proof_in_time.specs.proof_answered.proof_calm.proof_waking.proof_walk.Phases.{Between}
-use Rattle.proof_in_time.specs.Coming.{AllWaitFor, AreInAir}
+use Rattle.proof_in_time.specs.Coming.{AreInAir}
 use Rattle.proof_in_time.specs.InHand.{AllServe, SleepsAlone}
 use Rattle.proof_ready.specs.Ease.{clock_of}
 
@@ -32,9 +33,12 @@ pub record HostIsStill (listing : List Entry → ℕ → List ℕ) (past : List 
   pub idle : (n : ℕ) → is_joined past n ≡ true → is_idle past (clock_of past) n ≡ true
   pub asleep : (n : ℕ) → is_joined past n ≡ true → is_asleep_if_known listing past n ≡ true
 
--- the nodes at work in a stretch list neither Transport Service nor Security 0, and listen; or it is one that sleeps
-abbrev pub ArePlain : List State → List Entry → List Entry → Type 0
-ArePlain devices past stretch = (are_plain_listeners devices past stretch ≡ true) ⊎ (is_sleeper_alone devices past stretch ≡ true)
+-- the nodes at work in a stretch list neither Transport Service nor Security 0, and listen; or it is one that sleeps; or one of any kind, and each of its
+-- commands has its own ticks
+pub data AreFit (devices : List State) (past stretch : List Entry) : Type 0 where
+  Listeners : are_plain_listeners devices past stretch ≡ true → AreFit devices past stretch
+  Sleeper : is_sleeper_alone devices past stretch ≡ true → AreFit devices past stretch
+  One_alone : is_alone past stretch ≡ true → is_time past stretch ≡ true → AreFit devices past stretch
 
 -- these are one node alone, which sleeps
 pub record OneSleeps (these : List Bool) (past : List Entry) : Type 0 where
@@ -48,14 +52,30 @@ pub record AreWorkers (these : List Bool) (past : List Entry) : Type 0 where
   pub hear : ((n : ℕ) → is_marked these n ≡ true → listens n past ≡ true) ⊎ OneSleeps these past
   pub others : (n : ℕ) → is_marked these n ≡ false → is_joined past n ≡ true → waiting n past ≡ []
 
--- the host knows of a node whether it listens, and what it lists; and that is neither Transport Service nor Security 0
+-- the host knows of a node whether it listens, and what it lists
 pub record IsKnown (devices : List State) (past : List Entry) (n : ℕ) : Type 0 where
   pub device : knows_device devices n past (device_of n devices) ≡ true
   pub classes : are_listed devices n (known_classes (always (listing_of devices)) past n) ≡ true
-  pub plain : lists_a_layer devices n ≡ false
 
 abbrev pub AreKnown : List Bool → List State → List Entry → Type 0
 AreKnown these devices past = (n : ℕ) → is_marked these n ≡ true → IsKnown devices past n
+
+-- none of these lists Transport Service or Security 0
+abbrev pub ListPlainly : List Bool → List State → Type 0
+ListPlainly these devices = (n : ℕ) → is_marked these n ≡ true → lists_a_layer devices n ≡ false
+
+-- these are one node alone, which listens, and for each of its commands 500 ticks have passed
+pub record OneHears (these : List Bool) (past stretch : List Entry) : Type 0 where
+  pub node : ℕ
+  pub alone : IsAlone these node
+  pub hears : listens node past ≡ true
+  pub long : 500 * length (commands_in past stretch node) ≤ waited stretch
+
+-- so these are plain; or one that listens and lists Transport Service alone, or Security 0
+pub data AreSo (these : List Bool) (devices : List State) (past stretch : List Entry) : Type 0 where
+  Plain_ones : ListPlainly these devices → AreSo these devices past stretch
+  Open_one : (one : OneHears these past stretch) → lists_a_layer devices one.node ≡ true → lists_security devices one.node ≡ false → AreSo these devices past stretch
+  Locked_one : (one : OneHears these past stretch) → lists_security devices one.node ≡ true → AreSo these devices past stretch
 
 -- the nodes of a list, as marks: so many from one on, and all
 abbrev pub marks_from : List ℕ → ℕ → ℕ → List Bool
@@ -87,16 +107,16 @@ pub record HostIsReady (these : List Bool) (h : HostState) : Type 0 where
   pub no_request : h.requests.under_way ≡ None
   pub no_task : h.requests.queue ≡ []
 
--- So it is. Each of these is joined in the air, and is no reason for the host to wait; all of them listen, as the host knows too, or it is one that sleeps, and
+-- So it is. Each of these is joined in the air, and no series of it is due or runs; all of them listen, as the host knows too, or it is one that sleeps, and
 -- was not woken; no frame is on the air, none on its way to the host, and no device of another is at work.
 pub record MachineIsReady (these : List Bool) (m : Machine) : Type 0 where
   pub many : length these ≡ 233
   pub none : is_marked these 0 ≡ false
   pub host : HostIsReady these m.host.state
   pub joined : AreInAir these m
+  pub idle : (n : ℕ) → is_marked these n ≡ true → (node_of m.host.state n).series ≡ Idle
   pub hears : AllHear these Between [] m
   pub serves : AllServe these m.host.state ⊎ SleepsAlone these m
   pub none_flies : on_air m.outside.outer.air.frames ≡ []
   pub none_unheard : unheard m.outside.outer ≡ []
   pub away : AllByRecursion (IsAway these) m.outside.devices
-  pub waits : AllWaitFor these Between m

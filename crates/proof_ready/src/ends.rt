@@ -7,14 +7,14 @@ ghost use Rattle.s0_crypto.specs.Sealing.{keys_of};
 ghost use Rattle.zw_text.specs.Transcript.{joined};
 ghost use Rattle.law_wire.specs.law_transcript.Headline.{IsAsMade};
 ghost use Rattle.law_time.specs.Calm.{is_not_stuck};
-ghost use Rattle.law_time.specs.Stretches.{AnswersAsleep, AnswersTogether, answers_all, is_long_enough};
+ghost use Rattle.law_time.specs.Stretches.{AnswersAlone, AnswersAsleep, AnswersTogether, EndsAsJudged, answers_all, is_long_enough};
 ghost use Rattle.law_time.specs.WorkedStretches.{before_failing, failing_as_success, success_as_failing, the_thermostat};
 ghost use Rattle.proof_rests.specs.proof_attempts.proof_host.device_sim.State.{State};
 ghost use Rattle.proof_rests.specs.world_lines.Spoken.{Spoken};
 ghost use Rattle.proof_rests.specs.world_lines.Done.{AreDone};
 ghost use Rattle.proof_rests.specs.world_lines.Whole.{AreWhole};
 ghost use Rattle.proof_ready.specs.Ease.{clock_of};
-ghost use Rattle.proof_ready.specs.Stretch.{EndsAsJudged, IsStretchByText, first_of, moment, told_before, told_in};
+ghost use Rattle.proof_ready.specs.Stretch.{IsStretchByText, first_of, moment, told_before, told_in};
 
 use crate::nodes::joined_nodes_are_there;
 use crate::stretch::workers_are_plain;
@@ -40,14 +40,18 @@ pub fn still_stretches_are_answered()
 
 /// Wherever lines go on from others, all run whole, from the first machine on with devices as their makers left them: if the moment between is calm,
 /// and the later lines are a stretch for plain listeners, each command of these has the final outcome that its device's kind says, once 500 ticks have
-/// passed since the last order (`together`); and so it is of one plain node that sleeps, since its `wake` line (`asleep`).
+/// passed since the last order (`together`); and so it is of one plain node that sleeps, since its `wake` line (`asleep`); and of one node of any kind, that takes
+/// segments or is a lock too, where 500 ticks have passed for each of its commands (`alone`).
 pub fn stretches_are_answered_in_time()
-    ensures together { (key : List ℕ) (keys : Keys) (devices : List State) (before lines : List Spoken) → AllByRecursion (IsAsMade key) devices →
-        AreDone (first_of keys devices) (before ++ lines) → AreWhole (first_of keys devices) (before ++ lines) →
-        AnswersTogether key (moment keys devices before).outside.devices (told_before keys devices before) (told_in keys devices before lines) }
-    ensures asleep { (key : List ℕ) (keys : Keys) (devices : List State) (before lines : List Spoken) → AllByRecursion (IsAsMade key) devices →
-        AreDone (first_of keys devices) (before ++ lines) → AreWhole (first_of keys devices) (before ++ lines) →
-        AnswersAsleep key (moment keys devices before).outside.devices (told_before keys devices before) (told_in keys devices before lines) }
+    ensures together { (key : List ℕ) (devices : List State) (before lines : List Spoken) → AllByRecursion (IsAsMade key) devices →
+        AreDone (first_of (keys_of key) devices) (before ++ lines) → AreWhole (first_of (keys_of key) devices) (before ++ lines) →
+        AnswersTogether key (moment (keys_of key) devices before).outside.devices (told_before (keys_of key) devices before) (told_in (keys_of key) devices before lines) }
+    ensures asleep { (key : List ℕ) (devices : List State) (before lines : List Spoken) → AllByRecursion (IsAsMade key) devices →
+        AreDone (first_of (keys_of key) devices) (before ++ lines) → AreWhole (first_of (keys_of key) devices) (before ++ lines) →
+        AnswersAsleep key (moment (keys_of key) devices before).outside.devices (told_before (keys_of key) devices before) (told_in (keys_of key) devices before lines) }
+    ensures alone { (key : List ℕ) (devices : List State) (before lines : List Spoken) → AllByRecursion (IsAsMade key) devices →
+        AreDone (first_of (keys_of key) devices) (before ++ lines) → AreWhole (first_of (keys_of key) devices) (before ++ lines) →
+        AnswersAlone key (moment (keys_of key) devices before).outside.devices (told_before (keys_of key) devices before) (told_in (keys_of key) devices before lines) }
 {
     still_stretches_are_answered();
 }

@@ -13,10 +13,10 @@
 //! calm moment for one that is joined and for which no command waits (`nodes_are_still`). So where these are all nodes for which one does, the host has to do
 //! with these alone (`hosts_are_ready`). It knows of each node what its device lists (`hosts_know_what_devices_list`), and one whose device listens, or sleeps,
 //! has one that does at every moment (`listeners_are_there`, `sleepers_are_there`); one that sleeps is asleep in the host (`sleepers_are_asleep`). All of it is
-//! one record (`machines_are_ready`), which so is had of the nodes at work in a quiet stretch for plain ones, where all is still: listeners, or one node that
-//! sleeps (`still_machines_are_ready`). So a stretch may begin there (`stretches_may_begin`). An order that is
+//! one record (`machines_are_ready`), which so is had of the nodes at work in a quiet stretch for fit ones, where all is still: plain listeners, one plain
+//! node that sleeps, or one of any kind (`still_machines_are_ready`). So a stretch may begin there (`stretches_may_begin`). An order that is
 //! accepted is for a node that is joined and lists Supervision (`orders_are_let_in`): so the lines are for the nodes at work alone
-//! (`stretches_are_for_their_workers`), and these are plain by their kinds (`workers_are_plain`). So such lines are a stretch for these
+//! (`stretches_are_for_their_workers`), and these take by their kinds what is not sealed, or are a lock (`workers_are_plain`). So such lines are a stretch for these
 //! (`still_stretches_begin`), and each command of these has its final outcome in time, where another series of attempts is to come by the text for each node
 //! that is to wait for one (`still_stretches_end_in_time`). So it has the one that its device's kind says (`still_stretches_are_answered`), by the text alone
 //! (`stretches_are_answered_in_time`). There is no code here.

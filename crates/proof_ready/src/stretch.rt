@@ -1,11 +1,12 @@
 //! A machine in which a stretch may begin, by its transcript.
 
-ghost use Rattle.std.specs.Prelude.{◌≡◌, ◌++◌, true, List, ℕ};
+ghost use Rattle.std.specs.Prelude.{◌≡◌, ◌++◌, false, true, List, ℕ};
+ghost use Rattle.chip_sim.specs.Nodes.{is_marked};
 ghost use Rattle.s0_crypto.specs.declared.key_pair.Keys.{Keys};
 ghost use Rattle.zw_text.specs.declared.entry.Entry.{Entry};
 ghost use Rattle.law_wire.specs.law_transcript.Nodes.{always, listing_of};
 ghost use Rattle.law_time.specs.Calm.{IsStill};
-ghost use Rattle.law_time.specs.Stretches.{is_quiet, workers};
+ghost use Rattle.law_time.specs.Stretches.{is_quiet, lists_a_layer, lists_security, workers};
 ghost use Rattle.proof_ready.specs.Ease.{
   AfterLines,
   AreToReach,
@@ -15,13 +16,17 @@ ghost use Rattle.proof_chip.specs.proof_line.proof_traffic.OutsideTraffic.{AreNo
 ghost use Rattle.proof_in_time.specs.proof_answered.Workers.{IsWorkedFor};
 ghost use Rattle.proof_in_time.specs.Coming.{IsReadyFor};
 ghost use Rattle.proof_in_time.specs.InStep.{ArePlainOver};
+ghost use Rattle.proof_in_time.specs.LockNodes.{IsLockNode};
+ghost use Rattle.proof_in_time.specs.Locked.{IsReadyLocked};
+ghost use Rattle.proof_in_time.specs.Open.{IsReadyOpenly};
+ghost use Rattle.proof_in_time.specs.Openly.{IsOpenOver};
 ghost use Rattle.proof_in_time.specs.Plainly.{SpeakPlainly};
 ghost use Rattle.proof_rests.specs.proof_attempts.proof_host.device_sim.State.{State};
 ghost use Rattle.proof_rests.specs.world_lines.Spoken.{Spoken};
 ghost use Rattle.proof_rests.specs.world_lines.Done.{events_of};
-ghost use Rattle.proof_in_time.specs.Stretch.{IsStretchFor};
-ghost use Rattle.proof_ready.specs.Stretch.{IsStretchByText, at_work, told_in};
-ghost use Rattle.proof_ready.specs.Ready.{AreKnown, ArePlain, AreUp, AreWorkers, MachineIsReady, marks_of};
+ghost use Rattle.proof_in_time.specs.Stretch.{IsLockStretchFor, IsOpenStretchFor, IsStretchFor};
+ghost use Rattle.proof_ready.specs.Stretch.{IsStretchByText, at_work, told_before, told_in};
+ghost use Rattle.proof_ready.specs.Ready.{AreFit, AreKnown, AreUp, AreWorkers, ListPlainly, MachineIsReady, OneHears, marks_of};
 
 use crate::accepting::orders_are_let_in;
 use crate::air::{calm_air_is_empty, calm_machines_have_few_frames};
@@ -36,7 +41,8 @@ use crate::pipes::calm_hosts_have_heard_all;
 use crate::ready::{hosts_are_ready, sleepers_are_asleep};
 use crate::tied::calm_requests_are_tied;
 use proof_in_time::{
-    listeners_hear, nodes_are_plain_by_kind, nodes_are_woken_last, orders_go_whole,
+    commands_go_sealed, listeners_hear, locks_as_made_begin_courses, nodes_are_plain_by_kind,
+    nodes_are_woken_last, orders_go_openly, orders_go_whole,
 };
 
 /// Where all is still by the transcript, these are the nodes for which a command waits, each of these is known and plain, and all of them listen or one sleeps,
@@ -50,7 +56,6 @@ pub fn machines_are_ready()
     calm_hosts_are_done();
     calm_hosts_have_heard_all();
     hosts_are_ready();
-    hosts_know_what_devices_list();
     joined_nodes_are_there();
     listeners_are_there();
     sleepers_are_asleep();
@@ -61,27 +66,45 @@ pub fn machines_are_ready()
 pub fn still_machines_are_ready()
     ensures { AfterLines (λ devices past m. AreUp devices → IsStill (always (listing_of m.outside.devices)) m.outside.devices past (clock_of past) →
         (key : List ℕ) (stretch : List Entry) → is_quiet key m.outside.devices past stretch ≡ true →
-        ArePlain m.outside.devices past stretch → MachineIsReady (marks_of (workers past stretch)) m) }
+        AreFit m.outside.devices past stretch → MachineIsReady (marks_of (workers past stretch)) m) }
 {
     machines_are_ready();
     workers_are_known();
 }
 
-/// So a stretch may begin there for these nodes, where they can be reached by the transcript.
+/// So a stretch may begin there for these nodes, where they can be reached by the transcript: for ones that list neither Transport Service nor Security 0
+/// (`whole`), and for one alone that listens, and lists Transport Service and not Security 0 (`openly`), or Security 0 (`sealed`).
 pub fn stretches_may_begin()
-    ensures { AfterLines (λ devices past m. AreNodes devices → AreUp devices →
+    ensures whole { AfterLines (λ devices past m. AreNodes devices → AreUp devices →
         IsStill (always (listing_of m.outside.devices)) m.outside.devices past (clock_of past) → (key : List ℕ) (stretch : List Entry) →
-        is_quiet key m.outside.devices past stretch ≡ true → ArePlain m.outside.devices past stretch →
-        AreToReach (marks_of (workers past stretch)) devices past →
+        is_quiet key m.outside.devices past stretch ≡ true → AreFit m.outside.devices past stretch →
+        AreToReach (marks_of (workers past stretch)) devices past → ListPlainly (marks_of (workers past stretch)) devices →
         IsReadyFor (marks_of (workers past stretch)) m × SpeakPlainly (marks_of (workers past stretch)) m) }
+    ensures openly { AfterLines (λ devices past m. AreNodes devices → AreUp devices →
+        IsStill (always (listing_of m.outside.devices)) m.outside.devices past (clock_of past) → (key : List ℕ) (stretch : List Entry) →
+        is_quiet key m.outside.devices past stretch ≡ true → AreFit m.outside.devices past stretch →
+        AreToReach (marks_of (workers past stretch)) devices past → (one : OneHears (marks_of (workers past stretch)) past stretch) →
+        lists_a_layer devices one.node ≡ true → lists_security devices one.node ≡ false → IsReadyOpenly (marks_of (workers past stretch)) m) }
+    ensures sealed { AfterLines (λ devices past m. AreNodes devices → AreUp devices →
+        IsStill (always (listing_of m.outside.devices)) m.outside.devices past (clock_of past) → (key : List ℕ) (stretch : List Entry) →
+        is_quiet key m.outside.devices past stretch ≡ true → AreFit m.outside.devices past stretch →
+        AreToReach (marks_of (workers past stretch)) devices past → (one : OneHears (marks_of (workers past stretch)) past stretch) →
+        lists_security devices one.node ≡ true → IsReadyLocked (marks_of (workers past stretch)) m) }
 {
-    still_machines_are_ready();
-    workers_are_known();
-    hosts_know_their_members();
     calm_chips_rest();
+    calm_hosts_are_done();
     calm_machines_have_few_frames();
     calm_requests_are_tied();
+    commands_go_sealed();
+    devices_are_the_same();
+    hosts_know_their_members();
+    hosts_know_what_devices_list();
+    joined_nodes_are_there();
+    listeners_are_there();
+    orders_go_openly();
     orders_go_whole();
+    still_machines_are_ready();
+    workers_are_known();
 }
 
 /// The lines of such a stretch are for the nodes at work in it: none wakes a node, but the one that sleeps, once, after its orders; and each order that is
@@ -97,22 +120,38 @@ pub fn stretches_are_for_their_workers()
     workers_are_known();
 }
 
-/// And their devices take commands in sessions, not sealed, whole, and at once, as they were at first; and so do the orders for them go, in all these lines.
+/// And where the device of one lists no Security 0, it takes commands in sessions, not sealed, as it was at first, and so do the orders for it go, in all these
+/// lines (`openly`); where all of these list neither Transport Service nor Security 0, they take them at once (`whole`). One that lists Security 0 is a lock
+/// (`sealed`).
 pub fn workers_are_plain()
-    ensures { (key : List ℕ) (keys : Keys) (devices : List State) (before lines : List Spoken) → IsStretchByText key keys devices before lines →
-        ArePlainOver (at_work keys devices before lines) devices (events_of (before ++ lines)) }
+    ensures openly { (key : List ℕ) (keys : Keys) (devices : List State) (before lines : List Spoken) → IsStretchByText key keys devices before lines →
+        (n : ℕ) → is_marked (at_work keys devices before lines) n ≡ true → lists_security devices n ≡ false →
+        IsOpenOver devices (events_of (before ++ lines)) n }
+    ensures whole { (key : List ℕ) (keys : Keys) (devices : List State) (before lines : List Spoken) → IsStretchByText key keys devices before lines →
+        ListPlainly (at_work keys devices before lines) devices → ArePlainOver (at_work keys devices before lines) devices (events_of (before ++ lines)) }
+    ensures sealed { (key : List ℕ) (keys : Keys) (devices : List State) (before lines : List Spoken) → IsStretchByText key keys devices before lines →
+        (n : ℕ) → is_marked (at_work keys devices before lines) n ≡ true → lists_security devices n ≡ true → IsLockNode keys devices n }
 {
     devices_are_the_same();
     joined_nodes_are_there();
+    locks_as_made_begin_courses();
     nodes_are_plain_by_kind();
     orders_are_let_in();
     workers_are_known();
 }
 
-/// So such lines are a stretch for the nodes at work in them (`IsStretchFor`), as that is assumed where each command has its outcome in time.
+/// So such lines are a stretch for the nodes at work in them, as that is assumed where each command has its outcome in time: for plain ones (`IsStretchFor`),
+/// or for one alone that listens, and takes segments (`IsOpenStretchFor`), or is a lock (`IsLockStretchFor`).
 pub fn still_stretches_begin()
-    ensures { (key : List ℕ) (keys : Keys) (devices : List State) (before lines : List Spoken) → IsStretchByText key keys devices before lines →
-        IsStretchFor (at_work keys devices before lines) keys devices before lines }
+    ensures whole { (key : List ℕ) (keys : Keys) (devices : List State) (before lines : List Spoken) → IsStretchByText key keys devices before lines →
+        ListPlainly (at_work keys devices before lines) devices → IsStretchFor (at_work keys devices before lines) keys devices before lines }
+    ensures openly { (key : List ℕ) (keys : Keys) (devices : List State) (before lines : List Spoken) → IsStretchByText key keys devices before lines →
+        (one : OneHears (at_work keys devices before lines) (told_before keys devices before) (told_in keys devices before lines)) →
+        lists_a_layer devices one.node ≡ true → lists_security devices one.node ≡ false →
+        IsOpenStretchFor (at_work keys devices before lines) keys devices before lines }
+    ensures sealed { (key : List ℕ) (keys : Keys) (devices : List State) (before lines : List Spoken) → IsStretchByText key keys devices before lines →
+        (one : OneHears (at_work keys devices before lines) (told_before keys devices before) (told_in keys devices before lines)) →
+        lists_security devices one.node ≡ true → IsLockStretchFor (at_work keys devices before lines) keys devices before lines }
 {
     devices_are_the_same();
     joined_nodes_are_there();

@@ -36,7 +36,7 @@ use Rattle.proof_asking.proofs.Carefully.{Leads, found, stepped}
 use Rattle.proof_asking.specs.proof_known.Known.{AreSaidToHost, IsSaidToHost, KnowsRecords}
 use Rattle.proof_asking.proofs.ForHost.{said_for_host}
 use Rattle.proof_noting.specs.Starts.{HasStarted}
-use Rattle.proof_replay.specs.HostSteps.{HaveHeard, HearsMore, HearsRun, Holds, IsRunSteps, StartsAfter, restart_word, texts_told}
+use Rattle.proof_replay.specs.HostSteps.{HaveHeard, HearsFrom, HearsMore, HearsRun, Holds, IsRunSteps, RanBefore, StartsAfter, restart_word, texts_told}
 use Rattle.proof_replay.specs.Laws.{Agrees, HostsKeepLaws, IsHeardAlone}
 use Rattle.proof_replay.specs.Linked.{KnowsLine}
 use Rattle.proof_replay.proofs.Begun.{begun}
@@ -62,10 +62,14 @@ holds_last many (Some texts) held some agrees = agrees
 
 -- ---- the host that starts
 
--- nothing was heard before, where the keeper holds nothing
+-- nothing was heard before a host that starts from these records
+abbrev pub ran_none : HostsObey → (keys : Keys) (number : ℕ) (told held : Option (List (List ℕ))) → Holds number told held → RanBefore (first_alone keys held) keys number told []
+ran_none obey keys number told held holds =
+    record { held = held; state = first_host keys; clock = 0; awaits = false; run = Begins; careful = tt; line = first_rests obey keys; holds = holds; said = tt }
+
+-- so it is where the keeper holds nothing
 pub none_before : HostsObey → (keys : Keys) (number : ℕ) (told : Option (List (List ℕ))) → Holds number told (Some []) → HaveHeard keys number told []
-none_before obey keys number told holds =
-    record { held = Some []; state = first_host keys; clock = 0; awaits = false; run = Begins; careful = tt; line = first_rests obey keys; holds = holds; said = tt }
+none_before obey keys number told holds = ran_none obey keys number told (Some []) holds
 
 none_of : (records : List Record) → length records ≡ 0 → AreTextsOf records []
 none_of [] none = tt
@@ -102,14 +106,10 @@ since_start legal_from keys before key records same (from, starts, is) whole hea
     subst (λ (k : Keys). LegalSince k before key records whole heard told) (sym same)
     (subst (λ (l : List Entry). LegalSince (keys_of key) l key records whole heard told) is (legal_from key records from starts whole heard told))
 
-module _ (laws : (keys : Keys) (whole : Bool) (heard : List Entry) (told : Option (List (List ℕ))) → IsHeardAlone keys whole heard told → HostsKeepLaws keys whole heard told)
-    (legal_so : (key : List ℕ) (whole : Bool) (heard : List Entry) (told : Option (List (List ℕ))) → IsHeardAlone (keys_of key) whole heard told → IsLegalAlone key first_start whole heard told)
-    (legal_from : (key : List ℕ) (records : List (List ℕ)) (from : Start) → StartsFrom records from → (whole : Bool) (heard : List Entry) (told : Option (List (List ℕ)))
-    → (alone : IsHeardAlone (keys_of key) whole (from.before ++ heard) told) → HasStarted from.before records alone.run.0 → IsLegalFrom key records whole heard told)
-    (recorded : (keys : Keys) (heard : List Entry) (m : HostMachine) → Run (first_alone keys (Some [])) Open heard m → IfSome m.records (KnowsRecords heard m.state))
-    (listening : (keys : Keys) (here : Phase) (heard : List Entry) (m : HostMachine) → Run (first_alone keys (Some [])) here heard m → ListensAsTold heard m.state)
-    (obey : HostsObey) (keys : Keys) (number : ℕ) (told : Option (List (List ℕ))) (past : List Entry) (before : HaveHeard keys number told past) (place : Place) (opens : Opens keys number told place.host)
-    (adds : OptAdds told place.shelf.records []) where
+-- ---- from any records
+
+module _ (obey : HostsObey) (start : HostMachine) (keys : Keys) (number : ℕ) (told : Option (List (List ℕ))) (past : List Entry) (before : RanBefore start keys number told past) (place : Place)
+    (opens : Opens keys number told place.host) (adds : OptAdds told place.shelf.records []) where
   abbrev restarted : List Entry
   restarted = past ++ Said restart_word ∷ []
 
@@ -118,10 +118,10 @@ module _ (laws : (keys : Keys) (whole : Bool) (heard : List Entry) (told : Optio
   held_texts = texts_held number told before.held opens.records before.holds opens.many opens.are
 
   abbrev Led : Stage → Phase → List Entry → HostMachine → Type 0
-  Led stage here all m = Started (first_alone keys (Some [])) restarted held_texts.0 stage here all m
+  Led stage here all m = Started start restarted held_texts.0 stage here all m
 
   leads : Leads Led
-  leads = started_leads (first_alone keys (Some [])) restarted held_texts.0
+  leads = started_leads start restarted held_texts.0
 
   opened_from : OpensFrom keys before.held (opened keys opens.records)
   opened_from = subst (λ (o : Option (List (List ℕ))). OpensFrom keys o (opened keys opens.records)) (sym held_texts.1) (opens.records, held_texts.2, opens.legal, refl)
@@ -132,72 +132,56 @@ module _ (laws : (keys : Keys) (whole : Bool) (heard : List Entry) (told : Optio
   agrees_held : Agrees place.shelf.records before.held
   agrees_held = subst (λ (r : Option (List (List ℕ))). Agrees r before.held) (sym (none_added told place.shelf.records adds)) (agrees_first number told before.held before.holds)
 
-  abbrev at_start : HostMachine
+  pub held_told : before.held ≡ Some (texts_told place.shelf.records)
+  held_told = held_texts.1 ∙ ap (λ (texts : List (List ℕ)). Some texts) (sym told_texts)
+
+  abbrev pub at_start : HostMachine
   at_start = host_machine keys before.held place.host.state [] before.clock 0 false
 
   started : Led Fresh Open restarted at_start
   started =
       let state : HostState = opened keys opens.records in
-      let said : CarefulRun (first_alone keys (Some [])) Fresh (Asked lines.Restart) restarted (host_machine keys before.held before.state [] before.clock 0 false) =
+      let said : CarefulRun start Fresh (Asked lines.Restart) restarted (host_machine keys before.held before.state [] before.clock 0 false) =
       stepped (step.Says restart_word lines.Restart) (refl, refl, restart_is, refl) (tt, tt) refl refl refl (found before.run before.careful) in
       let there : Led Fresh Open restarted (host_machine keys before.held state [] before.clock 0 false) =
-      starts_anew (first_alone keys (Some [])) restarted held_texts.0 Fresh (host_machine keys before.held before.state [] before.clock 0 false) state (refl, opened_from, refl) held_texts.1 said restarted
+      starts_anew start restarted held_texts.0 Fresh (host_machine keys before.held before.state [] before.clock 0 false) state (refl, opened_from, refl) held_texts.1 said restarted
       (sym (append-nil restarted)) in
       subst (λ (h : HostParts). Led Fresh Open restarted (host_machine keys before.held h.state [] before.clock 0 false)) (sym opens.state) there
+
+  pub started_run : Run start Open restarted at_start
+  started_run = started.run
 
   started_line : KnowsLine restarted before.clock 0 place.host.state
   started_line =
       subst (λ (h : HostParts). KnowsLine restarted before.clock 0 h.state) (sym opens.state)
       (restart_line obey past before.awaits before.clock before.state before.line restart_word (opened keys opens.records) restart_is (obey.opened keys opens.records))
 
-  -- what stood before shows what the records give
-  starts_so : StartsAfter restarted held_texts.0
-  starts_so =
-      begun past held_texts.0 place.host.state
-      (subst (λ (o : Option (List (List ℕ))). IfSome o (KnowsRecords restarted place.host.state)) held_texts.1 (recorded keys restarted at_start started.run))
-      (listening keys Open restarted at_start started.run)
-
-  -- what was heard, after what had been
-  all_heard : (heard : List Entry) → restarted ++ heard ≡ past ++ Said restart_word ∷ heard
-  all_heard heard = append_assoc past (Said restart_word ∷ []) heard
-
   all_said : (heard : List Entry) → AreSaidToHost heard → AreSaidToHost (restarted ++ heard)
   all_said heard said =
-      subst AreSaidToHost (sym (all_heard heard)) (all-append IsSaidToHost past (Said restart_word ∷ heard) before.said (ap is_of_others restart_is, said))
+      subst AreSaidToHost (sym (append_assoc past (Said restart_word ∷ []) heard)) (all-append IsSaidToHost past (Said restart_word ∷ heard) before.said (ap is_of_others restart_is, said))
 
   -- it was heard, and the host is here
   hears_so : (whole : Bool) (steps : List Step) (last : Place) (heard : List Entry) (stage : Stage) (here : Phase) (m : HostMachine) → HearsRun before.clock steps place last heard → AreSaidToHost heard
       → (run : Led stage here (restarted ++ heard) m) → (whole ≡ true → (here ≡ Resting) × (m.left ≡ 0)) → (whole ≡ true → Agrees last.shelf.records m.records)
-      → KeepsLink Host (ended whole (restarted ++ heard)) → (whole ≡ true → (many : ℕ) → IsSome last.shelf.records → HaveHeard keys many last.shelf.records (restarted ++ heard))
-      → HearsMore keys past before.clock whole steps place last
-  hears_so whole steps last heard stage here m hears said run rests agrees link next =
-      let records : Option (List (List ℕ)) = last.shelf.records in
-      let alone : IsHeardAlone keys whole (restarted ++ heard) records = record {
-        here = here;
-        last = m;
-        run = (run.run, run.careful);
-        rests = rests;
-        agrees = agrees;
-        for_host = said_for_host (restarted ++ heard) (all_said heard said);
-        link = link;
-      } in
-      let keeps : HostsKeepLaws keys whole (restarted ++ heard) records = laws keys whole (restarted ++ heard) records alone in
-      record {
-        heard = heard;
-        hears = hears;
-        keeps = subst (λ (l : List Entry). HostsKeepLaws keys whole l records) (all_heard heard) keeps;
-        legal = λ key same.
-            subst (λ (l : List Entry). IsLegalAlone key first_start whole l records) (all_heard heard) (legal_for legal_so keys whole (restarted ++ heard) records alone key same);
-        starts = subst (StartsAfter restarted) (sym told_texts) starts_so;
-        legal_from = λ key same.
-            subst (λ (texts : List (List ℕ)). IsLegalFrom key texts whole heard records) (sym told_texts)
-            (since_start legal_from keys restarted key held_texts.0 same starts_so whole heard records alone run.has);
-        next = λ is many some. subst (λ (l : List Entry). HaveHeard keys many records l) (all_heard heard) (next is many some);
-      }
+      → KeepsLink Host (ended whole (restarted ++ heard)) → (whole ≡ true → (many : ℕ) → IsSome last.shelf.records → RanBefore start keys many last.shelf.records (restarted ++ heard))
+      → HearsFrom start keys past before.clock whole steps place last
+  hears_so whole steps last heard stage here m hears said run rests agrees link next = record {
+    heard = heard;
+    hears = hears;
+    here = here;
+    last = m;
+    run = (run.run, run.careful);
+    has = subst (λ (texts : List (List ℕ)). HasStarted restarted texts run.run) (sym told_texts) run.has;
+    rests = rests;
+    agrees = agrees;
+    for_host = said_for_host (restarted ++ heard) (all_said heard said);
+    link = link;
+    next = next;
+  }
 
   -- where it came to rest
   rested_so : (whole : Bool) (steps : List Step) (last : Place) (heard : List Entry) (m : Lone) → IsRunSteps whole steps → HearsRun before.clock steps place last heard
-      → serving.Rests0 Led leads keys Agrees agrees_on obey (restarted ++ heard) m → (whole ≡ true → m.records ≡ last.shelf.records) → HearsMore keys past before.clock whole steps place last
+      → serving.Rests0 Led leads keys Agrees agrees_on obey (restarted ++ heard) m → (whole ≡ true → m.records ≡ last.shelf.records) → HearsFrom start keys past before.clock whole steps place last
   rested_so whole steps last heard m orderly hears (awaits, stage, (held, agrees, run, line)) records =
       let said : AreSaidToHost heard = run_said before.clock whole steps place last heard orderly hears in
       let told_so : whole ≡ true → Agrees last.shelf.records held = λ is. subst (λ (r : Option (List (List ℕ))). Agrees r held) (records is) agrees in
@@ -215,22 +199,75 @@ module _ (laws : (keys : Keys) (whole : Bool) (heard : List Entry) (told : Optio
         said = all_said heard said;
       })
 
-  pub hears_more : (whole : Bool) (steps : List Step) (last : Place) (outs : List HostOut) → IsRunSteps whole steps → AllRan steps place last outs
-      → HearsMore keys past before.clock whole steps place last
-  hears_more whole [] last outs none ran =
+  pub hears_from : (whole : Bool) (steps : List Step) (last : Place) (outs : List HostOut) → IsRunSteps whole steps → AllRan steps place last outs
+      → HearsFrom start keys past before.clock whole steps place last
+  hears_from whole [] last outs none ran =
       let not_whole : whole ≡ true → ⊥ = λ is. never (sym none ∙ is) in
       hears_so whole [] last [] Fresh Open at_start (ran.0, refl) tt (subst (λ (l : List Entry). Led Fresh Open l at_start) (sym (append-nil restarted)) started) (λ is. absurd (not_whole is))
       (λ is. absurd (not_whole is))
       (subst (λ (l : List Entry). KeepsLink Host (ended whole l)) (sym (append-nil restarted))
       (subst (λ (b : Bool). KeepsLink Host (ended b restarted)) (sym none) (open_kept obey restarted before.clock 0 place.host.state started_line)))
       (λ is many some. absurd (not_whole is))
-  hears_more whole (Pumps ∷ steps) last outs orderly (mid, first, later, pumped, more, are) =
+  hears_from whole (Pumps ∷ steps) last outs orderly (mid, first, later, pumped, more, are) =
       let (heard, hears, m, rests, records) =
       steps_go Led leads keys Agrees agrees_on obey whole steps (restarted ++ entries_of first) before.clock mid last later orderly more
       (pump_part Led leads keys Agrees agrees_on obey Fresh restarted before.clock place mid first pumped (before.held, agrees_held, started, started_line)) in
       rested_so whole (Pumps ∷ steps) last (entries_of first ++ heard) m orderly (mid, first, heard, pumped, hears, refl)
       (subst (λ (l : List Entry). serving.Rests0 Led leads keys Agrees agrees_on obey l m) (append_assoc restarted (entries_of first) heard) rests) records
-  hears_more whole (Asks line answer ∷ steps) last outs orderly ran = absurd orderly
-  hears_more whole (Takes bytes ∷ steps) last outs orderly ran = absurd orderly
-  hears_more whole (Rests ∷ steps) last outs orderly ran = absurd orderly
-  hears_more whole (Ticks ∷ steps) last outs orderly ran = absurd orderly
+  hears_from whole (Asks line answer ∷ steps) last outs orderly ran = absurd orderly
+  hears_from whole (Takes bytes ∷ steps) last outs orderly ran = absurd orderly
+  hears_from whole (Rests ∷ steps) last outs orderly ran = absurd orderly
+  hears_from whole (Ticks ∷ steps) last outs orderly ran = absurd orderly
+
+-- ---- from those that hosts left
+
+module _ (laws : (keys : Keys) (whole : Bool) (heard : List Entry) (told : Option (List (List ℕ))) → IsHeardAlone keys whole heard told → HostsKeepLaws keys whole heard told)
+    (legal_so : (key : List ℕ) (whole : Bool) (heard : List Entry) (told : Option (List (List ℕ))) → IsHeardAlone (keys_of key) whole heard told → IsLegalAlone key first_start whole heard told)
+    (legal_from : (key : List ℕ) (records : List (List ℕ)) (from : Start) → StartsFrom records from → (whole : Bool) (heard : List Entry) (told : Option (List (List ℕ)))
+    → (alone : IsHeardAlone (keys_of key) whole (from.before ++ heard) told) → HasStarted from.before records alone.run.0 → IsLegalFrom key records whole heard told)
+    (recorded : (keys : Keys) (heard : List Entry) (m : HostMachine) → Run (first_alone keys (Some [])) Open heard m → IfSome m.records (KnowsRecords heard m.state))
+    (listening : (keys : Keys) (here : Phase) (heard : List Entry) (m : HostMachine) → Run (first_alone keys (Some [])) here heard m → ListensAsTold heard m.state)
+    (obey : HostsObey) (keys : Keys) (number : ℕ) (told : Option (List (List ℕ))) (past : List Entry) (before : HaveHeard keys number told past) (place : Place) (opens : Opens keys number told place.host)
+    (adds : OptAdds told place.shelf.records []) where
+  abbrev first : HostMachine
+  first = first_alone keys (Some [])
+
+  abbrev here_started : List Entry
+  here_started = past ++ Said restart_word ∷ []
+
+  -- what stood before shows what the records give
+  starts_so : StartsAfter here_started (texts_told place.shelf.records)
+  starts_so =
+      begun past (texts_told place.shelf.records) place.host.state
+      (subst (λ (o : Option (List (List ℕ))). IfSome o (KnowsRecords here_started place.host.state)) (held_told obey first keys number told past before place opens adds)
+      (recorded keys here_started (at_start obey first keys number told past before place opens adds) (started_run obey first keys number told past before place opens adds)))
+      (listening keys Open here_started (at_start obey first keys number told past before place opens adds) (started_run obey first keys number told past before place opens adds))
+
+  -- over what they heard, and this one by itself, the laws hold
+  more_so : (whole : Bool) (steps : List Step) (last : Place) → HearsFrom first keys past before.clock whole steps place last → HearsMore keys past before.clock whole steps place last
+  more_so whole steps last from =
+      let records : Option (List (List ℕ)) = last.shelf.records in
+      let all_heard : here_started ++ from.heard ≡ past ++ Said restart_word ∷ from.heard = append_assoc past (Said restart_word ∷ []) from.heard in
+      let alone : IsHeardAlone keys whole (here_started ++ from.heard) records = record {
+        here = from.here;
+        last = from.last;
+        run = from.run;
+        rests = from.rests;
+        agrees = from.agrees;
+        for_host = from.for_host;
+        link = from.link;
+      } in
+      record {
+        heard = from.heard;
+        hears = from.hears;
+        keeps = subst (λ (l : List Entry). HostsKeepLaws keys whole l records) all_heard (laws keys whole (here_started ++ from.heard) records alone);
+        legal = λ key same.
+            subst (λ (l : List Entry). IsLegalAlone key first_start whole l records) all_heard (legal_for legal_so keys whole (here_started ++ from.heard) records alone key same);
+        starts = starts_so;
+        legal_from = λ key same. since_start legal_from keys here_started key (texts_told place.shelf.records) same starts_so whole from.heard records alone from.has;
+        next = λ is many some. subst (λ (l : List Entry). HaveHeard keys many records l) all_heard (from.next is many some);
+      }
+
+  pub hears_more : (whole : Bool) (steps : List Step) (last : Place) (outs : List HostOut) → IsRunSteps whole steps → AllRan steps place last outs
+      → HearsMore keys past before.clock whole steps place last
+  hears_more whole steps last outs orderly ran = more_so whole steps last (hears_from obey first keys number told past before place opens adds whole steps last outs orderly ran)

@@ -4,6 +4,9 @@
 use Rattle.std.specs.Prelude.{◌≡◌, ℕ, ◌+◌, Bool, true, false, List, [], ◌∷◌, ◌++◌, codes, Option, Some, None, IsSome}
 use Rattle.std.specs.List.{flat_map}
 use Rattle.s0_crypto.specs.declared.key_pair.Keys.{Keys}
+use Rattle.zw_words.specs.declared.side.Side.TheVariants.{Host}
+use Rattle.law_wire.specs.Links.{KeepsLink}
+use Rattle.law_wire.specs.Serial.{ended}
 use Rattle.zw_text.specs.Line.{first_word}
 use Rattle.zw_text.specs.Transcript.{line_of}
 use Rattle.zw_text.specs.declared.line.Line.{Line}
@@ -25,14 +28,15 @@ use Rattle.run_replay.specs.Machine.{Lone, alone, entries_of, timed}
 use Rattle.proof_asking.specs.proof_requests.law_host.HostLegal.{IsLegalAlone}
 use Rattle.proof_asking.specs.proof_requests.law_host.Notes.{Start, first_start}
 use Rattle.proof_asking.specs.proof_requests.law_host.Starting.{IsLegalFrom, StartsFrom}
-use Rattle.proof_asking.specs.proof_requests.proof_alone.State.{first_alone, host_machine}
-use Rattle.proof_asking.specs.proof_requests.proof_alone.Phases.{Resting}
+use Rattle.proof_asking.specs.proof_requests.proof_alone.State.{HostMachine, first_alone, host_machine}
+use Rattle.proof_asking.specs.proof_requests.proof_alone.Phases.{Phase, Resting}
 use Rattle.proof_asking.specs.proof_requests.proof_alone.Runs.{Run}
-use Rattle.proof_asking.specs.proof_requests.proof_alone.Careful.{Careful}
-use Rattle.proof_asking.specs.proof_known.Known.{AreSaidToHost}
+use Rattle.proof_asking.specs.proof_requests.proof_alone.Careful.{Careful, RunCarefully}
+use Rattle.proof_asking.specs.proof_known.Known.{AreForHost, AreSaidToHost}
+use Rattle.proof_noting.specs.Starts.{HasStarted}
 use Rattle.proof_replay.specs.Heard.{came_of}
 use Rattle.proof_replay.specs.Linked.{LineRests}
-use Rattle.proof_replay.specs.Laws.{HostsKeepLaws}
+use Rattle.proof_replay.specs.Laws.{Agrees, HostsKeepLaws}
 
 -- ---- words
 
@@ -141,18 +145,38 @@ abbrev pub texts_told : Option (List (List ℕ)) → List (List ℕ)
 texts_told None = []
 texts_told (Some texts) = texts
 
--- Hosts with these keys have heard this, in earlier runs, over a keeper that holds so many records now and tells these; so many ticks have passed. The last
+-- From this machine on hosts with these keys have heard this, in earlier runs, over a keeper that holds so many records now and tells these; so many ticks have passed. The last
 -- one was at rest, they judged what came as programs do, their links have kept the rules, and no line was for others.
-pub record HaveHeard (keys : Keys) (number : ℕ) (told : Option (List (List ℕ))) (past : List Entry) : Type 0 where
+pub record RanBefore (start : HostMachine) (keys : Keys) (number : ℕ) (told : Option (List (List ℕ))) (past : List Entry) : Type 0 where
   pub held : Option (List (List ℕ))
   pub state : HostState
   pub clock : ℕ
   pub awaits : Bool
-  pub run : Run (first_alone keys (Some [])) Resting past (host_machine keys held state [] clock 0 awaits)
+  pub run : Run start Resting past (host_machine keys held state [] clock 0 awaits)
   pub careful : Careful run
   pub line : LineRests past awaits clock 0 state
   pub holds : Holds number told held
   pub said : AreSaidToHost past
+
+-- so it is of hosts of which the first had nothing kept
+abbrev pub HaveHeard : Keys → ℕ → Option (List (List ℕ)) → List Entry → Type 0
+HaveHeard keys number told past = RanBefore (first_alone keys (Some [])) keys number told past
+
+-- From its start a host did these steps and heard this, whatever records it started from: with what hosts heard before, a run of a host alone from that machine on tells it, which has gone
+-- through this start. It judged what came as programs do, no line was for others, and its link kept the rules. Where it came to rest, and its keeper tells its records, hosts have heard all
+-- that when the next one starts.
+pub record HearsFrom (start : HostMachine) (keys : Keys) (past : List Entry) (clock : ℕ) (whole : Bool) (steps : List Step) (old new : Place) : Type 0 where
+  pub heard : List Entry
+  pub hears : HearsRun clock steps old new heard
+  pub here : Phase
+  pub last : HostMachine
+  pub run : RunCarefully start here ((past ++ Said restart_word ∷ []) ++ heard) last
+  pub has : HasStarted (past ++ Said restart_word ∷ []) (texts_told old.shelf.records) run.0
+  pub rests : whole ≡ true → (here ≡ Resting) × (last.left ≡ 0)
+  pub agrees : whole ≡ true → Agrees new.shelf.records last.records
+  pub for_host : AreForHost ((past ++ Said restart_word ∷ []) ++ heard)
+  pub link : KeepsLink Host (ended whole ((past ++ Said restart_word ∷ []) ++ heard))
+  pub next : whole ≡ true → (many : ℕ) → IsSome new.shelf.records → RanBefore start keys many new.shelf.records ((past ++ Said restart_word ∷ []) ++ heard)
 
 -- From its start a host did these steps and heard this, and over what hosts have heard by now these laws hold; with a network key they are legal as one host alone is. What stood before it shows
 -- what its keeper's records give, and with a network key it is legal from such a start, by what it heard itself. Where it came to rest, and its keeper tells its records, hosts have heard all that

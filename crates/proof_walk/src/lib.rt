@@ -19,6 +19,6 @@ pub use proof_device::{changes_are_shown, devices_go_on, devices_stay_the_same};
 pub use proof_host::{
     a_host_begins_with_what_is_kept, a_pump_ends, a_restart_keeps_what_is_held, asides_keep_facts,
     attempts_have_what_they_give, events_keep_facts, facts_are_kept, first_facts_hold, laws_follow,
-    nodes_are_told_in_few_turns, restarts_keep_facts,
+    nodes_are_told_in_few_turns, records_keep_facts, restarts_keep_facts,
 };
 pub use time::time_goes_on;

@@ -229,7 +229,9 @@ def keepings():
 KEEPINGS = keepings()
 
 
-HEEDS = ("listing", "taken")
+HEEDS = ("listing", "taken", "counted")
+# of no node a nonce was counted before the transcript
+NONE_COUNTED = Function(lambda node: 0, 1)
 # the messages by which a host may go, and the class of nodes whose reports count where they are sealed
 GONE_BY, SECURITY = ("Told.NonceGet", "Told.NonceReport", "Told.SegmentRequest"), 0x98
 
@@ -244,7 +246,7 @@ class Taken:
 
     def __init__(self, listing, plainly, found):
         self.listing, self.plainly, self.found = listing, plainly, found
-        self.heeds = WORLD.record(HEEDS, (listing, Function(self.of, 3)))
+        self.heeds = WORLD.record(HEEDS, (listing, Function(self.of, 3), NONE_COUNTED))
 
     def of(self, past, rest, carried):
         """Those of a payload, up to its acknowledgement; of one that comes just now what is told as it came."""

@@ -8,7 +8,7 @@ from collections import namedtuple
 from ..entries import transcript_of
 from . import air, doings, stretches
 from .alone import heard_alone, is_alone
-from .courses import HEEDS, Notes, moments_of, parts_of
+from .courses import HEEDS, NONE_COUNTED, Notes, moments_of, parts_of
 from .entries import entry_of
 from .given import GIVEN, LISTING, SIDES, arity_of
 from .running import Names
@@ -86,7 +86,7 @@ def refusals(listing):
 
 def heeds_of_sim():
     """What a host among the devices of `sim` goes by."""
-    return WORLD.record(HEEDS, (LISTING, NAMES.get("law_time.specs.Heeds.taken_plainly")))
+    return WORLD.record(HEEDS, (LISTING, NAMES.get("law_time.specs.Heeds.taken_plainly"), NONE_COUNTED))
 
 
 def test_of(path, wants, heeds, key):

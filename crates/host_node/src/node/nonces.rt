@@ -33,7 +33,8 @@ impl Node {
         drawn: [u8; 8],
     ) -> Result<Payload, NoMemory>
         requires { IsSome self.now.pending }
-        ensures { IfOk result (λ text. SealsText self.now keys.now drawn nonce text) }
+        ensures { IfOk result (λ text.
+            SealsText self.now keys.now drawn nonce text) }
     {
         let bytes = self.sender.seal_pending(keys, nonce, drawn)?.unwrap();
         Ok(Payload::of(bytes.as_slice()).unwrap())

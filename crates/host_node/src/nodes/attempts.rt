@@ -61,7 +61,8 @@ impl Nodes {
     /// The running attempt ends without a report.
     pub fn end_attempt(&mut self, node: NodeId, moment: Moment) -> AttemptEnd
         ensures answer { result ≡ attempt_end (node_of self.old node) }
-        ensures state { self.new ≡ nodes_after self.old node (Ends_attempt moment) }
+        ensures state { self.new ≡
+            nodes_after self.old node (Ends_attempt moment) }
     {
         let one = &mut self.nodes[node.number() as usize];
         let end = one.end_attempt(moment);
@@ -73,8 +74,10 @@ impl Nodes {
     pub fn report(&mut self, node: NodeId, id: u8, status: u8) -> Told
         requires six_bits { id < 64 }
         requires known { IsStatus status }
-        ensures answer { result ≡ told_of (node_of self.old node).book id status }
-        ensures state { self.new ≡ nodes_after self.old node (Reports id status) }
+        ensures answer { result ≡
+            told_of (node_of self.old node).book id status }
+        ensures state { self.new ≡
+            nodes_after self.old node (Reports id status) }
     {
         let one = &mut self.nodes[node.number() as usize];
         let told = one.report(id, status);

@@ -23,7 +23,8 @@ impl Nodes {
 
     /// An interview told whether a node listens, and its class list.
     pub fn interviewed(&mut self, node: NodeId, listens: bool, classes: Bytes)
-        ensures { self.new ≡ nodes_after self.old node (Interviews listens classes) }
+        ensures { self.new ≡ nodes_after self.old node
+            (Interviews listens classes) }
     {
         let one = &mut self.nodes[node.number() as usize];
         one.interviewed(listens, classes);
@@ -34,7 +35,8 @@ impl Nodes {
     /// `take_back` undoes it; once it is, `accept` follows.
     pub fn put(&mut self, node: NodeId, command: u32) -> Result<(), NoMemory>
         requires { length (node_of self.old node).waiting < 16 }
-        ensures ok { OnOk result (self.new ≡ nodes_after self.old node (Puts command)) }
+        ensures ok { OnOk result (self.new ≡
+            nodes_after self.old node (Puts command)) }
         ensures err { OnErr result (self.new ≡ self.old) }
     {
         let one = &mut self.nodes[node.number() as usize];
@@ -63,8 +65,10 @@ impl Nodes {
 
     /// A command that waits is cancelled.
     pub fn cancel(&mut self, node: NodeId, command: u32) -> Result<(), NotWaiting>
-        ensures waits { IsOk result ↔ Contains (node_of self.old node).waiting command }
-        ensures ok { OnOk result (self.new ≡ nodes_after self.old node (Cancels command)) }
+        ensures waits { IsOk result ↔
+            Contains (node_of self.old node).waiting command }
+        ensures ok { OnOk result (self.new ≡
+            nodes_after self.old node (Cancels command)) }
         ensures err { OnErr result (self.new ≡ self.old) }
     {
         let one = &mut self.nodes[node.number() as usize];
@@ -78,7 +82,8 @@ impl Nodes {
         requires waits { 0 < length (node_of self.old node).waiting }
         requires closed { open_session (node_of self.old node).book ≡ None }
         ensures command { result.command ≡ oldest (node_of self.old node) }
-        ensures session { result.session ≡ begun_of (node_of self.new node).book }
+        ensures session { result.session ≡
+            begun_of (node_of self.new node).book }
         ensures state { self.new ≡ nodes_after self.old node Begins }
     {
         let one = &mut self.nodes[node.number() as usize];

@@ -1,7 +1,14 @@
-use Rattle.std.proofs.Common.{[], refl, sym, ◌∙◌}
+use Rattle.std.proofs.Common.{[], ◌∷◌, refl, sym, ◌∙◌}
+use Rattle.zw_text.specs.Transcript.{lines_run}
+use Rattle.law_wire.specs.law_transcript.Nodes.{always, listing_of}
+use Rattle.law_wire.specs.law_transcript.Restarts.{ticks_asked}
+use Rattle.law_wire.specs.law_transcript.Worked.{the_switch}
 use Rattle.law_wire.proofs.Walks.{apart, direct, is_linked}
 use Rattle.law_time.proofs.Computing.{computing}
 use Rattle.law_wire.proofs.Deciding.{not_true}
+use Rattle.law_time.specs.Calm.{IsCalm}
+use Rattle.law_time.specs.Stretches.{IsStretch}
+use Rattle.law_time.specs.WrongWaits.{left_in_time}
 use Rattle.law_time.proofs.calm.rejected_stretches.Goals as goal
 
 pub returns-clause-lossy : goal.returns-clause-lossy
@@ -32,39 +39,33 @@ pub returns-clause-too_soon : goal.returns-clause-too_soon
 unfolding computing
 returns-clause-too_soon c = refl
 
+-- the moment and the stretch of a switch that is left out
+switch_calm : IsCalm (always (listing_of (the_switch ∷ []))) (the_switch ∷ []) [] (ticks_asked (lines_run []))
+unfolding computing
+switch_calm = record {
+  still = record { marks = refl; judged = refl; host = refl; chip = refl; called = refl; settled = refl; air = refl; idle = refl; asleep = refl; working = refl };
+  to_come = refl;
+}
+
+switch_stretch : IsStretch [] (the_switch ∷ []) [] left_in_time
+unfolding computing
+switch_stretch = record {
+  quiet = refl;
+  kept = refl;
+  reached = (record { repeaters = []; route = direct _ _ _ refl; live = is_linked _ _ 1 2 ∙ refl; back = []; way = (direct _ _ _ refl).walk }, tt);
+}
+
 pub returns-clause-missing : goal.returns-clause-missing
 unfolding computing
-returns-clause-missing c = λ law. not_true (law.alone
-    (record {
-      still = record { marks = refl; judged = refl; host = refl; chip = refl; called = refl; settled = refl; air = refl; idle = refl; asleep = refl; working = refl };
-      to_come = refl;
-    })
-    (record {
-      quiet = refl;
-      kept = refl;
-      reached = (
-        record { repeaters = []; route = direct _ _ _ refl; live = is_linked _ _ 1 2 ∙ refl; back = []; way = (direct _ _ _ refl).walk },
-        tt,
-      );
-    })
-    refl refl)
+returns-clause-missing c = λ law. not_true (law.alone switch_calm switch_stretch refl refl)
 
 pub returns-clause-missing_together : goal.returns-clause-missing_together
 unfolding computing
-returns-clause-missing_together c = λ law. not_true (law.together
-    (record {
-      still = record { marks = refl; judged = refl; host = refl; chip = refl; called = refl; settled = refl; air = refl; idle = refl; asleep = refl; working = refl };
-      to_come = refl;
-    })
-    (record {
-      quiet = refl;
-      kept = refl;
-      reached = (
-        record { repeaters = []; route = direct _ _ _ refl; live = is_linked _ _ 1 2 ∙ refl; back = []; way = (direct _ _ _ refl).walk },
-        tt,
-      );
-    })
-    refl refl)
+returns-clause-missing_together c = λ law. not_true (law.together switch_calm switch_stretch refl refl)
+
+pub returns-clause-missing_openly : goal.returns-clause-missing_openly
+unfolding computing
+returns-clause-missing_openly c = λ law. not_true (law switch_calm switch_stretch refl refl)
 
 pub returns-clause-missing_asleep : goal.returns-clause-missing_asleep
 unfolding computing
@@ -148,6 +149,10 @@ returns-clause-woken_twice c = refl
 pub returns-clause-not_alone : goal.returns-clause-not_alone
 unfolding computing
 returns-clause-not_alone c = refl
+
+pub returns-clause-not_open : goal.returns-clause-not_open
+unfolding computing
+returns-clause-not_open c = refl
 
 pub returns-clause-not_plain : goal.returns-clause-not_plain
 unfolding computing

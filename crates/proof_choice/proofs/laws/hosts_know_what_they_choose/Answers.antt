@@ -1,5 +1,5 @@
 -- What is known along the run, put together.
-use Rattle.std.proofs.Common.{ℕ, List, []}
+use Rattle.std.proofs.Common.{ℕ, List, [], refl}
 use Rattle.std.specs.Prelude.{Some}
 use Rattle.s0_crypto.specs.declared.key_pair.Keys.{Keys}
 use Rattle.zw_text.specs.declared.entry.Entry.{Entry}
@@ -111,7 +111,7 @@ module _ (c : goal.After-hosts_show_open_sessions) (keys : Keys) where
         (tied_along start heeds (c.hosts_count_attempts.ensures.known keys taken) run careful sure as_told))
         (wants_along start taken (c.hosts_queue_as_told.ensures.submits keys taken) (c.hosts_queue_as_told.ensures.rests keys taken) run careful sure) in
         so_along start (KnowsSince (ReadyAsTold heeds)) (KnowsReady heeds) (known_ready heeds) run
-        (readies_along grows brings taken (judges_ready stays.inner stays.keeps grows brings taken) (starts_ready c.texts_give_one_thing.ensures.one grows brings taken) start (first_ready heeds keys) grounds_so run
+        (readies_along grows brings taken (judges_ready stays.inner stays.keeps grows brings taken) (starts_ready c.texts_give_one_thing.ensures.one grows brings taken) start (first_ready heeds (λ n. refl) keys) grounds_so run
         as_told ground)
 
 pub returns : goal.returns

@@ -1,5 +1,5 @@
 -- The lines up to the end of the quiet ones were said.
-use Rattle.proof_ready.specs.Stretch.{EndsAsJudged}
+use Rattle.law_time.specs.Stretches.{EndsAsJudged}
 use Rattle.proof_commands.proofs.InTime.{done, answered_so}
 use Rattle.proof_commands.proofs.Speaking.{all_said}
 use Rattle.proof_commands.proofs.laws.stories_end_as_judged.Goals as goal

@@ -1,4 +1,4 @@
--- Over the first lines the host may serve each of these nodes; from then on, one walk counts down the ticks of a command.
+-- What is assumed of a stretch gives what a count of ticks takes of it; and of one node alone that sleeps, the ticks are counted from its `wake` line on.
 use Rattle.std.proofs.Common.{◌≡◌, ◌≤◌, ◌<◌, ℕ, suc, ◌+◌, ◌-◌, ◌&&◌, ◌||◌, inl, inr, Bool, true, false, List, [], ◌∷◌, ◌++◌, length, Some, append_assoc, refl, sym, ap, ◌∙◌, subst, arith}
 use Rattle.std.specs.Prelude.{◌⊎◌}
 use Rattle.zw_text.specs.declared.entry.Entry.{Entry}
@@ -18,8 +18,7 @@ use Rattle.world_model.specs.State.{Machine, first_machine}
 use Rattle.world_lines.specs.Spoken.{Spoken, after_all, transcript_of}
 use Rattle.world_lines.specs.Done.{AreDone, events_of}
 use Rattle.world_lines.specs.Whole.{AreWhole}
-use Rattle.proof_course_plain.specs.proof_host.Tables.{taken_at, taken_by}
-use Rattle.proof_spoken.proofs.SpokenLines.{all_after}
+use Rattle.proof_course_plain.specs.proof_host.Tables.{taken_by}
 use Rattle.proof_answered.specs.proof_calm.proof_traffic.OnAir.{on_air}
 use Rattle.proof_answered.specs.proof_calm.proof_work.Phases.{AsksNothing}
 use Rattle.proof_answered.specs.proof_calm.proof_work.proof_walk.Phases.{Phase, Between}
@@ -35,20 +34,27 @@ use Rattle.proof_answered.proofs.Where.{along_parts, where_whole}
 use Rattle.proof_answered.proofs.WokenLast.{turns_both, unwoken_before}
 use Rattle.proof_answered.proofs.proof_traffic_Parts.{Airs}
 use Rattle.proof_in_time.specs.Asked.{IsAskedNow}
-use Rattle.proof_in_time.specs.Coming.{IsKeptFor, IsReadyFor, KnowPlainly, KnowWaits}
-use Rattle.proof_in_time.specs.InHand.{Accepted_since, AllServe, HasEnded, IsGiven, IsInHand, RestsBefore, SleepsAlone, StandsAt, Waited, ticks_begun, ticks_blocked, ticks_of_all}
-use Rattle.proof_in_time.specs.InStep.{IsPlainly}
+use Rattle.proof_in_time.specs.Coming.{IsKeptFor, IsReadyFor, KnowPlainly, KnowWaits, WaitsFor}
+use Rattle.proof_in_time.specs.InHand.{Accepted_since, AllServe, HasEnded, IsGiven, IsInHand, RestsBefore, SleepsAlone, Waited, ticks_begun, ticks_blocked, ticks_of_all}
+use Rattle.proof_in_time.specs.InStep.{AreInStep, GoesInStep, IsPlainly, StaysInStep}
 use Rattle.proof_in_time.specs.Sleeping.{IsPlainlyUp}
-use Rattle.proof_in_time.specs.Stretch.{IsStretchFor}
-use Rattle.proof_in_time.proofs.Accepted.{FewWait, InHandFrom, KnowAccepted, accepted_walk, asleep_waits, none_yet, soon_of, soon_woken}
+use Rattle.proof_in_time.specs.Locked.{KnowLockedFirst, LockAt, LocksGo}
+use Rattle.proof_in_time.specs.Locks.{LockGoes}
+use Rattle.proof_in_time.specs.Open.{KnowOpenFirst, OpenAt}
+use Rattle.proof_in_time.specs.Stretch.{In_segments, IsListeningFor, IsLockStretchFor, IsOpenStretchFor, IsStretchFor, Sealed_messages, Whole_messages}
+use Rattle.proof_in_time.proofs.Accepted.{FewWait, InHandFrom, KnowAccepted, accepted_walk, asleep_waits, none_yet, soon_woken}
 use Rattle.proof_in_time.proofs.Asking.{AsksAlone, asking_alone}
 use Rattle.proof_in_time.proofs.Bounded.{Devices}
+use Rattle.proof_in_time.proofs.Counted.{Counted, along_later, none_left, rested, was_accepted, was_in_hand}
 use Rattle.proof_in_time.proofs.Endings.{clock_is}
 use Rattle.proof_in_time.proofs.Keeping.{kept_before}
 use Rattle.proof_in_time.proofs.LastOrder.{then_turns, ticks_alone, ticks_both, wake_ticks}
 use Rattle.proof_in_time.proofs.Lasting.{node_within}
 use Rattle.proof_in_time.proofs.Lively.{AllLively, KindsStay, all_up, first_lively}
-use Rattle.proof_in_time.proofs.Nearing.{KnowSoon, Soon, soon_past, soon_rested, soon_then, soon_walk}
+use Rattle.proof_in_time.proofs.LockGround.{lock_begins, lock_ground}
+use Rattle.proof_in_time.proofs.Nearing.{KnowSoon, Soon, soon_past, soon_walk}
+use Rattle.proof_in_time.proofs.OpenGround.{open_begins, open_ground}
+use Rattle.proof_in_time.proofs.PlainGround.{plain_ground, plain_lines}
 use Rattle.proof_in_time.proofs.Plainly.{Tells}
 use Rattle.proof_in_time.proofs.Rising.{RestsAt, rests_at, rests_down, rests_silent, rests_unheard, serve_listen}
 use Rattle.proof_in_time.proofs.Serving.{KnowServed, served_walk}
@@ -56,25 +62,6 @@ use Rattle.proof_in_time.proofs.Spoken.{after_both, done_later, each_along, even
 use Rattle.proof_in_time.proofs.StaysEnded.{IsEnded, ended_on}
 use Rattle.proof_in_time.proofs.Until.{AreUnwoken, Asking, KnowEnded, KnowUntil, KnowUnwoken, ended_walk, until_walk, unwoken_walk}
 use Rattle.proof_in_time.proofs.in_hand.commands_end_in_time.Goals as goal
-
-along_later : (Has : Machine → Event → Type 0) (m : Machine) (before lines : List Spoken) → AllAlong Has m (events_of (before ++ lines)) → AllAlong Has (after_all m before) (events_of lines)
-along_later Has m before lines all =
-    subst (λ (x : Machine). AllAlong Has x (events_of lines)) (sym (all_after m before))
-    (along_parts Has m (events_of before) (events_of lines) (subst (λ (es : List Event). AllAlong Has m es) (events_both before lines) all)).1
-
-none_left : (enough begun : ℕ) → enough ≤ begun → enough - begun ≡ 0
-none_left enough begun more = omega (arith, more)
-
-as_many : (begun more : ℕ) → more ≤ (begun + more) - begun
-as_many begun more = omega arith
-
--- nothing stands among none
-none_stands : (command place : ℕ) → StandsAt command place [] → ⊥
-none_stands command place at = by at.before at.are
-  where
-    by : (before : List ℕ) → [] ≡ before ++ command ∷ at.behind → ⊥
-    by [] are = absurd cc
-    by (first ∷ before) are = absurd cc
 
 -- what is known of devices, and of what they say
 module _ (c : goal.After-waits_never_run_out) where
@@ -109,98 +96,126 @@ begins_plainly : (these : List Bool) (m : Machine) → IsReadyFor these m → Kn
 begins_plainly these m ready =
     ((λ kept. (((λ stretched. (begins_known m ready.tied ready.few, rests_heard m ready.tied.rests), λ stretched. ready.knows), record { lines = tt; speak = ready.speak }), ready.waiting)), λ kept. ready.first)
 
--- lines of a stretch, and those behind: at the first moment it is known what waits, and that these nodes are served; in the end the command has ended
-module _ (c : goal.After-waits_never_run_out) (these : List Bool) (keys : Keys) (devices : List State) (before first lines : List Spoken) (is : IsStretchFor these keys devices before (first ++ lines))
-    (serve : AllServe these (after_all (first_machine keys (Some []) devices) before).host.state) where
+-- where the host takes one of these to be down, it sleeps alone
+sleeps_so : (these : List Bool) (n : ℕ) (m : Machine) → is_marked these n ≡ true → AllServe these m.host.state ⊎ SleepsAlone these m → is_up (node_of m.host.state n) ≡ false → SleepsAlone these m
+sleeps_so these n m marked (inl serve) down = absurd (let wrong : true ≡ false = sym (ap (λ (b : Bool). b || (node_of m.host.state n).awake) (serve.listens n marked)) ∙ down in cc)
+sleeps_so these n m marked (inr sleeps) down = sleeps
+
+-- where the host listens to one of these, it listens to all
+listen_so : (these : List Bool) (n : ℕ) (m : Machine) → is_marked these n ≡ true → IsReadyFor these m → AllServe these m.host.state ⊎ SleepsAlone these m → (node_of m.host.state n).listens ≡ true → AllServe these m.host.state
+listen_so these n m marked ready (inl serve) listens = serve
+listen_so these n m marked ready (inr sleeps) listens =
+    let rests = rests_at these n Between [] m marked sleeps ready.waiting.hears in
+    absurd (let wrong : true ≡ false = sym listens ∙ rests_unheard n rests.0.device Between [] m rests.1 in cc)
+
+-- lines of a stretch for nodes to which the host listens, whose messages go whole
+plain_counted : (c : goal.After-waits_never_run_out) (these : List Bool) (n : ℕ) (keys : Keys) (devices : List State) (before all : List Spoken) → IsStretchFor these keys devices before all → is_marked these n ≡ true
+    → AllServe these (after_all (first_machine keys (Some []) devices) before).host.state → Counted these n 6 keys devices before all (IsPlainlyUp these) (KnowServed true these) (WaitsFor true n)
+plain_counted c these n keys devices before all is marked serve = record {
+  many = is.many;
+  none = is.none;
+  done = is.done;
+  whole = is.whole;
+  kept = is.kept;
+  along = all_up these (kinds c).listener ready_at (events_of all) (serve_listen these Between [] ready_at serve is.ready.waiting.hears).nodes
+      (along_later (IsPlainly these) (first_machine keys (Some []) devices) before all
+      (each_along GoesInStep these (first_machine keys (Some []) devices) (events_of (before ++ all))
+      (λ k other. c.nodes_stay_in_step.ensures.along k keys devices (before ++ all) (subst (λ (l : ℕ). k < l) is.many (marked_within these k other)) (is.plain k other) is.done)));
+  begins = (begins_plainly these ready_at is.ready, λ kept. record { serve = serve; speak = is.speak });
+  ground = plain_ground (airs c) c.devices_stay_the_same.ensures.event these is.many (answers c) n marked (node_within these is.many is.none n marked) true (served c true these is.many is.none);
+}
+  where
+    ready_at : Machine
+    ready_at = after_all (first_machine keys (Some []) devices) before
+
+-- or for one node alone, whose messages may go in segments
+open_counted : (c : goal.After-waits_never_run_out) (these : List Bool) (n : ℕ) (keys : Keys) (devices : List State) (before all : List Spoken) → IsOpenStretchFor these keys devices before all → is_marked these n ≡ true
+    → Counted these n 23 keys devices before all (AreInStep these) (KnowOpenFirst these) (OpenAt these n)
+open_counted c these n keys devices before all is marked = record {
+  many = is.many;
+  none = is.none;
+  done = is.done;
+  whole = is.whole;
+  kept = is.kept;
+  along = along_later (AreInStep these) (first_machine keys (Some []) devices) before all
+      (each_along StaysInStep these (first_machine keys (Some []) devices) (events_of (before ++ all)) (λ k other. c.nodes_stay_in_step.ensures.openly k keys devices (before ++ all) (is.over k other) is.done));
+  begins = open_begins these (after_all (first_machine keys (Some []) devices) before) is.ready;
+  ground = open_ground these n alone (c.open_waits_never_run_out.ensures.counts these n is.many is.none alone) (c.open_waits_never_run_out.ensures.walk these is.many is.none);
+}
+  where
+    alone : IsAlone these n
+    alone = let it = is.ready.openly.alone in record { marked = marked; only = λ k other. it.only k other ∙ sym (it.only n marked) }
+
+-- or for one node alone that is a lock
+lock_counted : (c : goal.After-waits_never_run_out) (these : List Bool) (n : ℕ) (keys : Keys) (devices : List State) (before all : List Spoken) → IsLockStretchFor these keys devices before all → is_marked these n ≡ true
+    → Counted these n 6 keys devices before all (LocksGo these) (KnowLockedFirst these) (LockAt n)
+lock_counted c these n keys devices before all is marked = record {
+  many = is.many;
+  none = is.none;
+  done = is.done;
+  whole = is.whole;
+  kept = is.kept;
+  along = along_later (LocksGo these) (first_machine keys (Some []) devices) before all
+      (each_along LockGoes these (first_machine keys (Some []) devices) (events_of (before ++ all)) (λ k other. c.locks_stay_in_step.ensures.along k keys devices (before ++ all) (is.over k other) is.done));
+  begins = lock_begins these (after_all (first_machine keys (Some []) devices) before) is.ready;
+  ground = lock_ground these n alone (c.locks_never_run_out.ensures.counts these n is.many is.none alone) (c.locks_never_run_out.ensures.walk these is.many is.none);
+}
+  where
+    alone : IsAlone these n
+    alone = let it = is.ready.locked.alone in record { marked = marked; only = λ k other. it.only k other ∙ sym (it.only n marked) }
+
+-- lines of any of these
+module _ (c : goal.After-waits_never_run_out) (long : ℕ) (these : List Bool) (n : ℕ) (keys : Keys) (devices : List State) (before first lines : List Spoken) (marked : is_marked these n ≡ true) where
   abbrev start : Machine
   start = first_machine keys (Some []) devices
 
-  abbrev ready_at : Machine
-  ready_at = after_all start before
+  abbrev counting : ℕ → (Machine → Event → Type 0) → (Phase → List Entry → Machine → Type 0) → (ℕ → Phase → Machine → Type 0) → Type 0
+  counting ticks Up Know Within = Counted these n ticks keys devices before (first ++ lines) Up Know Within
 
-  abbrev then_at : Machine
-  then_at = after_all ready_at first
+  plain : IsStretchFor these keys devices before (first ++ lines) → (node_of (after_all start before).host.state n).listens ≡ true → long ≡ 6 → counting long (IsPlainlyUp these) (KnowServed true these) (WaitsFor true n)
+  plain is listens six =
+      subst (λ (k : ℕ). counting k (IsPlainlyUp these) (KnowServed true these) (WaitsFor true n)) (sym six)
+      (plain_counted c these n keys devices before (first ++ lines) is marked (listen_so these n (after_all start before) marked is.ready is.serves listens))
 
-  done : AreDone ready_at (first ++ lines)
-  done = done_later start before (first ++ lines) is.done
+  parted : IsOpenStretchFor these keys devices before (first ++ lines) → long ≡ 23 → counting long (AreInStep these) (KnowOpenFirst these) (OpenAt these n)
+  parted is many = subst (λ (k : ℕ). counting k (AreInStep these) (KnowOpenFirst these) (OpenAt these n)) (sym many) (open_counted c these n keys devices before (first ++ lines) is marked)
 
-  parts : AreDone ready_at first × AreWhole ready_at first × AreWhole then_at lines
-  parts = whole_parts ready_at first lines done (whole_parts start before (first ++ lines) is.done is.whole).2
+  sealed : IsLockStretchFor these keys devices before (first ++ lines) → long ≡ 6 → counting long (LocksGo these) (KnowLockedFirst these) (LockAt n)
+  sealed is six = subst (λ (k : ℕ). counting k (LocksGo these) (KnowLockedFirst these) (LockAt n)) (sym six) (lock_counted c these n keys devices before (first ++ lines) is marked)
 
-  of_stretch : AllAlong (IsPlainlyUp these) ready_at (events_of (first ++ lines))
-  of_stretch =
-      all_up these (kinds c).listener ready_at (events_of (first ++ lines))
-      (serve_listen these Between [] ready_at serve is.ready.waiting.hears).nodes
-      (along_later (IsPlainly these) start before (first ++ lines)
-      (each_along these start (events_of (before ++ (first ++ lines)))
-      (λ k marked. c.nodes_stay_in_step.ensures.along k keys devices (before ++ (first ++ lines)) (subst (λ (l : ℕ). k < l) is.many (marked_within these k marked)) (is.plain k marked) is.done)))
+  abbrev Lasts : List Spoken → Type 0
+  Lasts all = IsListeningFor these n keys devices before all long
 
-  of_first : AllAlong (IsPlainlyUp these) ready_at (events_of first)
-  of_first = (along_parts (IsPlainlyUp these) ready_at (events_of first) (events_of lines) (subst (λ (es : List Event). AllAlong (IsPlainlyUp these) ready_at es) (events_both first lines) of_stretch)).0
-
-  abbrev NoneBefore : ℕ → List ℕ
-  NoneBefore k = []
-
-  known : KnowAccepted true these (length ready_at.host.state.commands) NoneBefore Between (transcript_of ready_at first) then_at
-  known =
-      where_whole (IsPlainlyUp these) AsksNothing (KnowAccepted true these (length ready_at.host.state.commands) NoneBefore)
-      (accepted_walk (airs c) these is.many is.none c.facts_are_kept.ensures.each true (length ready_at.host.state.commands) NoneBefore (served c true these is.many is.none)) [] ready_at first parts.0 parts.1 of_first (
-        (begins_plainly these ready_at is.ready, λ kept. record { serve = serve; speak = is.speak }),
-        λ kept n marked. none_yet n ready_at.host.state [] (λ command place at. absurd (none_stands command place at)),
-      )
-
-  there : after_all start (before ++ first) ≡ then_at
-  there = after_both start before first
-
-  ended : (n command most : ℕ) → is_marked these n ≡ true → (IsKeptFor these (transcript_of ready_at first) → Soon true these n command (most - ticks_begun then_at) Between (transcript_of ready_at first) then_at)
-      → most ≤ ticks_begun (after_all start (before ++ (first ++ lines))) → HasEnded command (node_of (after_all start (before ++ (first ++ lines))).host.state n).book
-  ended n command most marked soon enough =
-      let node = node_within these is.many is.none n marked in
-      let later : Machine = after_all then_at lines in
-      let past : List Entry = transcript_of ready_at first ++ transcript_of then_at lines in
-      let told : IsKeptFor these past = subst (IsKeptFor these) (told_both ready_at first lines) is.kept in
-      let known_then = where_whole (IsPlainlyUp these) AsksNothing (KnowSoon true these n command most)
-      (soon_walk (airs c) these is.many (answers c) (c.nodes_are_served_in_turn.ensures.workers these) n marked node command c.devices_stay_the_same.ensures.event true most (served c true these is.many is.none)) (transcript_of ready_at first) then_at lines
-      (done_later ready_at first lines done) parts.2 (along_later (IsPlainlyUp these) ready_at first lines of_stretch)
-      (known.0, soon) in
-      let last : after_all start (before ++ (first ++ lines)) ≡ later = after_both start before (first ++ lines) ∙ after_both ready_at first lines in
-      let over : most ≤ ticks_begun later = subst (λ (x : Machine). most ≤ ticks_begun x) last enough in
-      let at_last : Soon true these n command 0 Between past later = subst (λ (ticks : ℕ). Soon true these n command ticks Between past later) (none_left most (ticks_begun later) over) (known_then.1 told) in
-      subst (λ (x : Machine). HasEnded command (node_of x.host.state n).book) (sym last) (soon_past true these n command Between past later at_last)
-
-  was_in_hand : (n command more : ℕ) → is_marked these n ≡ true → IsInHand command more (node_of (after_all start (before ++ first)).host.state n)
-      → ticks_begun (after_all start (before ++ first)) + (ticks_blocked (node_of (after_all start (before ++ first)).host.state n) + ticks_of_all these (suc more)) ≤ ticks_begun (after_all start (before ++ (first ++ lines))) → HasEnded command (node_of (after_all start (before ++ (first ++ lines))).host.state n).book
-  was_in_hand n command more marked hand enough =
-      let few : ℕ = ticks_blocked (node_of then_at.host.state n) + ticks_of_all these (suc more) in
-      let most : ℕ = ticks_begun then_at + few in
-      let in_hand : IsInHand command more (node_of then_at.host.state n) = subst (λ (x : Machine). IsInHand command more (node_of x.host.state n)) there hand in
-      ended n command most marked
-      (λ kept. soon_then these n command more (most - ticks_begun then_at) (transcript_of ready_at first) then_at marked (node_within these is.many is.none n marked) known.0 in_hand (as_many (ticks_begun then_at) few) kept)
-      (subst (λ (x : Machine). ticks_begun x + (ticks_blocked (node_of x.host.state n) + ticks_of_all these (suc more)) ≤ ticks_begun (after_all start (before ++ (first ++ lines)))) there enough)
-
-  rested : (n command more : ℕ) → is_marked these n ≡ true → RestsBefore command more (node_of (after_all start (before ++ first)).host.state n)
-      → ticks_begun (after_all start (before ++ first)) + ((node_of (after_all start (before ++ first)).host.state n).again_wait + (1 + ticks_of_all these (suc (suc more)))) ≤ ticks_begun (after_all start (before ++ (first ++ lines)))
+  in_hand_at : (command more : ℕ) → Lasts (first ++ lines) → IsInHand command more (node_of (after_all start (before ++ first)).host.state n)
+      → ticks_begun (after_all start (before ++ first)) + (ticks_blocked (node_of (after_all start (before ++ first)).host.state n) + ticks_of_all long these (suc more)) ≤ ticks_begun (after_all start (before ++ (first ++ lines)))
       → HasEnded command (node_of (after_all start (before ++ (first ++ lines))).host.state n).book
-  rested n command more marked rests enough =
-      let wait : ℕ = (node_of then_at.host.state n).again_wait + (1 + ticks_of_all these (suc (suc more))) in
-      ended n command (ticks_begun then_at + wait) marked
-      (λ kept. soon_rested these n command more ((ticks_begun then_at + wait) - ticks_begun then_at) (transcript_of ready_at first) then_at marked known.0 (subst (λ (x : Machine). RestsBefore command more (node_of x.host.state n)) there rests)
-      (as_many (ticks_begun then_at) wait) kept)
-      (subst (λ (x : Machine). ticks_begun x + ((node_of x.host.state n).again_wait + (1 + ticks_of_all these (suc (suc more)))) ≤ ticks_begun (after_all start (before ++ (first ++ lines)))) there enough)
+  in_hand_at command more (Whole_messages is listens six) =
+      was_in_hand (airs c) c.facts_are_kept.ensures.each these (c.nodes_are_served_in_turn.ensures.workers these) n marked long (omega (arith, six)) keys devices before first lines (IsPlainlyUp these) (KnowServed true these) (WaitsFor true n) (plain is listens six) command more
+  in_hand_at command more (In_segments is many) =
+      was_in_hand (airs c) c.facts_are_kept.ensures.each these (c.nodes_are_served_in_turn.ensures.workers these) n marked long (omega (arith, many)) keys devices before first lines (AreInStep these) (KnowOpenFirst these) (OpenAt these n) (parted is many) command more
+  in_hand_at command more (Sealed_messages is six) =
+      was_in_hand (airs c) c.facts_are_kept.ensures.each these (c.nodes_are_served_in_turn.ensures.workers these) n marked long (omega (arith, six)) keys devices before first lines (LocksGo these) (KnowLockedFirst these) (LockAt n) (sealed is six) command more
 
-  was_accepted : (n command : ℕ) (found : Command) → is_marked these n ≡ true → command_at (after_all start (before ++ first)).host.state.commands command ≡ Some found → found.order.node ≡ n → length ready_at.host.state.commands + 1 ≤ command
-      → ticks_begun (after_all start (before ++ first)) + (ticks_blocked (node_of (after_all start (before ++ first)).host.state n) + ticks_of_all these 18) ≤ ticks_begun (after_all start (before ++ (first ++ lines)))
+  rested_at : (command more : ℕ) → Lasts (first ++ lines) → RestsBefore command more (node_of (after_all start (before ++ first)).host.state n)
+      → ticks_begun (after_all start (before ++ first)) + ((node_of (after_all start (before ++ first)).host.state n).again_wait + (1 + ticks_of_all long these (suc (suc more)))) ≤ ticks_begun (after_all start (before ++ (first ++ lines)))
       → HasEnded command (node_of (after_all start (before ++ (first ++ lines))).host.state n).book
-  was_accepted n command found marked found_is for_node since enough =
-      let few : ℕ = ticks_blocked (node_of then_at.host.state n) + ticks_of_all these 18 in
-      let most : ℕ = ticks_begun then_at + few in
-      let taken : taken_at then_at.host.state.commands command ≡ Some (record { order = found.order; carriage = found.carriage }) =
-      ap taken_by (subst (λ (x : Machine). command_at x.host.state.commands command ≡ Some found) there found_is) in
-      ended n command most marked
-      (λ kept_first.
-      soon_of these n command (most - ticks_begun then_at) (record { order = found.order; carriage = found.carriage }) (length ready_at.host.state.commands) NoneBefore (transcript_of ready_at first) then_at marked (node_within these is.many is.none n marked) known taken
-      for_node since (as_many (ticks_begun then_at) few) kept_first)
-      (subst (λ (x : Machine). ticks_begun x + (ticks_blocked (node_of x.host.state n) + ticks_of_all these 18) ≤ ticks_begun (after_all start (before ++ (first ++ lines)))) there enough)
+  rested_at command more (Whole_messages is listens six) =
+      rested (airs c) c.facts_are_kept.ensures.each these (c.nodes_are_served_in_turn.ensures.workers these) n marked long (omega (arith, six)) keys devices before first lines (IsPlainlyUp these) (KnowServed true these) (WaitsFor true n) (plain is listens six) command more
+  rested_at command more (In_segments is many) =
+      rested (airs c) c.facts_are_kept.ensures.each these (c.nodes_are_served_in_turn.ensures.workers these) n marked long (omega (arith, many)) keys devices before first lines (AreInStep these) (KnowOpenFirst these) (OpenAt these n) (parted is many) command more
+  rested_at command more (Sealed_messages is six) =
+      rested (airs c) c.facts_are_kept.ensures.each these (c.nodes_are_served_in_turn.ensures.workers these) n marked long (omega (arith, six)) keys devices before first lines (LocksGo these) (KnowLockedFirst these) (LockAt n) (sealed is six) command more
+
+  accepted_at : (command : ℕ) (found : Command) → Lasts (first ++ lines) → command_at (after_all start (before ++ first)).host.state.commands command ≡ Some found → found.order.node ≡ n
+      → length (after_all start before).host.state.commands + 1 ≤ command
+      → ticks_begun (after_all start (before ++ first)) + (ticks_blocked (node_of (after_all start (before ++ first)).host.state n) + ticks_of_all long these 18) ≤ ticks_begun (after_all start (before ++ (first ++ lines)))
+      → HasEnded command (node_of (after_all start (before ++ (first ++ lines))).host.state n).book
+  accepted_at command found (Whole_messages is listens six) =
+      was_accepted (airs c) c.facts_are_kept.ensures.each these (c.nodes_are_served_in_turn.ensures.workers these) n marked long (omega (arith, six)) keys devices before first lines (IsPlainlyUp these) (KnowServed true these) (WaitsFor true n) (plain is listens six) command found
+  accepted_at command found (In_segments is many) =
+      was_accepted (airs c) c.facts_are_kept.ensures.each these (c.nodes_are_served_in_turn.ensures.workers these) n marked long (omega (arith, many)) keys devices before first lines (AreInStep these) (KnowOpenFirst these) (OpenAt these n) (parted is many) command found
+  accepted_at command found (Sealed_messages is six) =
+      was_accepted (airs c) c.facts_are_kept.ensures.each these (c.nodes_are_served_in_turn.ensures.workers these) n marked long (omega (arith, six)) keys devices before first lines (LocksGo these) (KnowLockedFirst these) (LockAt n) (sealed is six) command found
 
 -- one node alone that sleeps, whose `wake` line is one of these
 module _ (c : goal.After-waits_never_run_out) (these : List Bool) (keys : Keys) (devices : List State) (before first : List Spoken) (wake : Spoken) (lines : List Spoken) (is : IsStretchFor these keys devices before (first ++ wake ∷ lines)) (n command : ℕ)
@@ -249,7 +264,7 @@ module _ (c : goal.After-waits_never_run_out) (these : List Bool) (keys : Keys) 
   of_all : AllAlong (IsPlainly these) ready_then (events_of (first ++ wake ∷ lines))
   of_all =
       along_later (IsPlainly these) begin before (first ++ wake ∷ lines)
-      (each_along these begin (events_of (before ++ (first ++ wake ∷ lines)))
+      (each_along GoesInStep these begin (events_of (before ++ (first ++ wake ∷ lines)))
       (λ k other. c.nodes_stay_in_step.ensures.along k keys devices (before ++ (first ++ wake ∷ lines)) (subst (λ (l : ℕ). k < l) is.many (marked_within these k other)) (is.plain k other) is.done))
 
   of_firsts : AllAlong (IsPlainly these) ready_then (events_of first)
@@ -307,7 +322,7 @@ module _ (c : goal.After-waits_never_run_out) (these : List Bool) (keys : Keys) 
   many_then = length ready_then.host.state.commands
 
   abbrev Accepts_so : Phase → List Entry → Machine → Type 0
-  Accepts_so = KnowAccepted false these many_then waited
+  Accepts_so = KnowAccepted (KnowServed false these) these many_then waited
 
   tied : IsTied these ready_then
   tied = is.ready.tied
@@ -332,7 +347,7 @@ module _ (c : goal.After-waits_never_run_out) (these : List Bool) (keys : Keys) 
   asking = asking_alone (airs c) these is.many (kinds c) (c.nodes_are_served_in_turn.ensures.workers these)
 
   accepting : WalkWhere (IsPlainlyUp these) AsksNothing Accepts_so
-  accepting = accepted_walk (airs c) these is.many is.none c.facts_are_kept.ensures.each false many_then waited (served c false these is.many is.none)
+  accepting = accepted_walk (airs c) these is.many is.none c.facts_are_kept.ensures.each (IsPlainlyUp these) (KnowServed false these) (plain_lines these false (served c false these is.many is.none)) many_then waited
 
   waits_of : (here : Phase) (past : List Entry) (m : Machine) → Accepts_so here past m → KnowWaits these here past m
   waits_of here past m known = known.0.0.0
@@ -344,7 +359,7 @@ module _ (c : goal.After-waits_never_run_out) (these : List Bool) (keys : Keys) 
       (unwoken_walk (airs c) (answers c) (tells c) (kinds c) these (AsksAlone these) asking Accepts_so waits_of accepting) [] ready_then first first_parts.0 first_parts.1 of_firsts
       (λ kept none. (first_known, λ k alone. Not_yet refl tt, asked_first)) kept_first unwoken
 
-  few : ticks_of_all these 18 ≤ 144
+  few : ticks_of_all 6 these 18 ≤ 144
   few = ticks_alone these n 18 only
 
   -- after it: no tick has begun in it
@@ -368,7 +383,7 @@ module _ (c : goal.After-waits_never_run_out) (these : List Bool) (keys : Keys) 
       apart = sym (append_assoc before first (wake ∷ lines)) ∙ sym (append_assoc (before ++ first) (wake ∷ []) lines)
 
   abbrev most : ℕ
-  most = ticks_begun woken_then + (2 + ticks_of_all these 18)
+  most = ticks_begun woken_then + (2 + ticks_of_all 6 these 18)
 
   woken_known : Accepts_so Between told_woken woken_then × AllLively these most Between told_woken woken_then × AsksAlone these Between woken_then
   woken_known =
@@ -378,19 +393,21 @@ module _ (c : goal.After-waits_never_run_out) (these : List Bool) (keys : Keys) 
       known.1 kept_woken (omega arith)
 
   abbrev Soon_so : Phase → List Entry → Machine → Type 0
-  Soon_so = KnowSoon false these n command most
+  Soon_so = KnowSoon (KnowServed false these) (WaitsFor true n) false 6 these n command most
 
   soon_waits : (here : Phase) (past : List Entry) (m : Machine) → Soon_so here past m → KnowWaits these here past m
   soon_waits here past m known = known.0.0.0
 
   soons : WalkWhere (IsPlainlyUp these) AsksNothing Soon_so
-  soons = soon_walk (airs c) these is.many (answers c) (c.nodes_are_served_in_turn.ensures.workers these) n marked node command c.devices_stay_the_same.ensures.event false most (served c false these is.many is.none)
+  soons =
+      soon_walk (airs c) 6 these (c.nodes_are_served_in_turn.ensures.workers these) n marked node command (WaitsFor true n) false most (IsPlainlyUp these) (KnowServed false these)
+      (plain_ground (airs c) c.devices_stay_the_same.ensures.event these is.many (answers c) n marked node false (served c false these is.many is.none))
 
   over : (here : Phase) (past : List Entry) (m : Machine) → IsKeptFor these past → Soon_so here past m → most ≤ ticks_begun m → IsEnded n command m
   over here past m kept known reached =
       let at = known.0.0.0 kept in
-      let soon : Soon false these n command 0 here past m = subst (λ (ticks : ℕ). Soon false these n command ticks here past m) (none_left most (ticks_begun m) reached) (known.1 kept) in
-      (((at.0.0.0 kept.worked.stretched).0.tied kept.worked.stretched.quiet).7.facts.nodes.places, soon_past false these n command here past m soon)
+      let soon : Soon (WaitsFor true n) false 6 these n command 0 here past m = subst (λ (ticks : ℕ). Soon (WaitsFor true n) false 6 these n command ticks here past m) (none_left most (ticks_begun m) reached) (known.1 kept) in
+      (((at.0.0.0 kept.worked.stretched).0.tied kept.worked.stretched.quiet).7.facts.nodes.places, soon_past (WaitsFor true n) false 6 these n command here past m (omega arith) soon)
 
   counts : IsGiven n command ready_then.host.state woken_then.host.state → InHandFrom n many_then (waited n) woken_then.host.state → FewWait command (node_of woken_then.host.state n)
   counts (Waited place at) hands = hands.before command place at
@@ -411,7 +428,7 @@ module _ (c : goal.After-waits_never_run_out) (these : List Bool) (keys : Keys) 
             λ kept soon. (
               (
                 woken_known.0.0,
-                λ kept_it. soon_woken these n command (most - ticks_begun woken_then) many_then waited told_woken woken_then marked node woken_known.0 woken (counts given) (as_much (ticks_begun woken_then) (2 + ticks_of_all these 18)) kept_it,
+                λ kept_it. soon_woken these n command (most - ticks_begun woken_then) many_then waited told_woken woken_then marked node woken_known.0 woken (counts given) (as_much (ticks_begun woken_then) (2 + ticks_of_all 6 these 18)) kept_it,
               ),
               woken_known.1,
               woken_known.2,
@@ -423,29 +440,15 @@ module _ (c : goal.After-waits_never_run_out) (these : List Bool) (keys : Keys) 
       ) in
       ((known.1 kept_all) enough).1
 
--- where the host takes one of these to be down, it sleeps alone
-sleeps_so : (these : List Bool) (n : ℕ) (m : Machine) → is_marked these n ≡ true → AllServe these m.host.state ⊎ SleepsAlone these m → is_up (node_of m.host.state n) ≡ false → SleepsAlone these m
-sleeps_so these n m marked (inl serve) down = absurd (let wrong : true ≡ false = sym (ap (λ (b : Bool). b || (node_of m.host.state n).awake) (serve.listens n marked)) ∙ down in cc)
-sleeps_so these n m marked (inr sleeps) down = sleeps
-
--- where the host listens to one of these, it listens to all
-listen_so : (these : List Bool) (n : ℕ) (m : Machine) → is_marked these n ≡ true → IsReadyFor these m → AllServe these m.host.state ⊎ SleepsAlone these m → (node_of m.host.state n).listens ≡ true → AllServe these m.host.state
-listen_so these n m marked ready (inl serve) listens = serve
-listen_so these n m marked ready (inr sleeps) listens =
-    let rests = rests_at these n Between [] m marked sleeps ready.waiting.hears in
-    absurd (let wrong : true ≡ false = sym listens ∙ rests_unheard n rests.0.device Between [] m rests.1 in cc)
-
 pub returns-clause-in_hand : goal.returns-clause-in_hand
-returns-clause-in_hand c = λ these n command more keys devices before first lines is marked listens.
-    was_in_hand c these keys devices before first lines is (listen_so these n (after_all (first_machine keys (Some []) devices) before) marked is.ready is.serves listens) n command more marked
+returns-clause-in_hand c = λ long these n command more keys devices before first lines listening marked hand enough. in_hand_at c long these n keys devices before first lines marked command more listening hand enough
 
 pub returns-clause-rests : goal.returns-clause-rests
-returns-clause-rests c = λ these n command more keys devices before first lines is marked listens.
-    rested c these keys devices before first lines is (listen_so these n (after_all (first_machine keys (Some []) devices) before) marked is.ready is.serves listens) n command more marked
+returns-clause-rests c = λ long these n command more keys devices before first lines listening marked waits enough. rested_at c long these n keys devices before first lines marked command more listening waits enough
 
 pub returns-clause-accepted : goal.returns-clause-accepted
-returns-clause-accepted c = λ these n command found keys devices before first lines is marked listens.
-    was_accepted c these keys devices before first lines is (listen_so these n (after_all (first_machine keys (Some []) devices) before) marked is.ready is.serves listens) n command found marked
+returns-clause-accepted c = λ long these n command found keys devices before first lines listening marked is for_node since enough.
+    accepted_at c long these n keys devices before first lines marked command found listening is for_node since enough
 
 pub returns-clause-woken : goal.returns-clause-woken
 returns-clause-woken c = λ these n command keys devices before first wake lines is marked down wakes given enough.
@@ -457,5 +460,5 @@ returns-clause-woken c = λ these n command keys devices before first wake lines
     after_both begin before (first ++ wake ∷ lines) ∙ after_both ready first (wake ∷ lines) in
     subst (λ (x : Machine). HasEnded command (node_of x.host.state n).book) (sym last)
     (woken_ends c these keys devices before first wake lines is n command marked asleep wakes (subst (λ (x : Machine). IsGiven n command ready.host.state x.host.state) upto given)
-    (subst (λ (x : Machine). ticks_begun x + (2 + ticks_of_all these 18) ≤ ticks_begun (after_all (after_all (after_all ready first) (wake ∷ [])) lines)) upto
-    (subst (λ (x : Machine). ticks_begun (after_all begin (before ++ (first ++ wake ∷ []))) + (2 + ticks_of_all these 18) ≤ ticks_begun x) last enough)))
+    (subst (λ (x : Machine). ticks_begun x + (2 + ticks_of_all 6 these 18) ≤ ticks_begun (after_all (after_all (after_all ready first) (wake ∷ [])) lines)) upto
+    (subst (λ (x : Machine). ticks_begun (after_all begin (before ++ (first ++ wake ∷ []))) + (2 + ticks_of_all 6 these 18) ≤ ticks_begun x) last enough)))

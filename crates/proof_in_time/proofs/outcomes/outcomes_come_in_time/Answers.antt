@@ -1,5 +1,5 @@
 -- The facts of the host and its clock go with the lines: so the table says what was accepted, and the entries what has ended.
-use Rattle.std.proofs.Common.{◌≡◌, ◌≤◌, ℕ, suc, ◌+◌, inl, inr, List, [], ◌∷◌, ◌++◌, Some, append_assoc, append-nil, sym, subst, arith}
+use Rattle.std.proofs.Common.{◌≡◌, ◌≤◌, ℕ, suc, ◌+◌, inl, inr, Bool, List, [], ◌∷◌, ◌++◌, length, Some, append_assoc, append-nil, sym, ap, subst, arith}
 use Rattle.std.specs.Prelude.{◌⊎◌}
 use Rattle.s0_crypto.specs.declared.key_pair.Keys.{Keys}
 use Rattle.zw_text.specs.declared.entry.Entry.{Entry}
@@ -19,8 +19,9 @@ use Rattle.world_lines.specs.Whole.{AreWhole}
 use Rattle.proof_host.specs.Facts.{Facts}
 use Rattle.proof_host.specs.Laws.{numbers_for}
 use Rattle.proof_in_time.specs.InHand.{Accepted_since, IsGiven, IsInHand, RestsBefore, Waited, ticks_begun, ticks_blocked, ticks_of_all}
+use Rattle.proof_in_time.specs.Stretch.{In_segments, IsListeningFor, Sealed_messages, Whole_messages}
 use Rattle.proof_in_time.proofs.Accepted.{all_most, blocked_most}
-use Rattle.proof_in_time.proofs.Endings.{clock_is, ended_final, lines_keep_facts, rests_soon, stands_soon, table_has, waiting_soon}
+use Rattle.proof_in_time.proofs.Endings.{clock_is, ended_final, lines_keep_facts, rests_soon, stands_soon, table_has, waiting_is, waiting_soon}
 use Rattle.proof_in_time.proofs.Spoken.{told_both, whole_parts}
 use Rattle.proof_in_time.proofs.outcomes.outcomes_come_in_time.Goals as goal
 
@@ -69,54 +70,75 @@ given c keys devices n command before upto began are has =
         let above = table.0 in
         Accepted_since table.1.found table.1.is table.1.node (omega (arith, above, counted))
 
+-- the lines of such a stretch were run whole
+run_whole : (these : List Bool) (n : ℕ) (keys : Keys) (devices : List State) (before lines : List Spoken) (long : ℕ) → IsListeningFor these n keys devices before lines long
+    → AreDone (first_machine keys (Some []) devices) (before ++ lines) × AreWhole (first_machine keys (Some []) devices) (before ++ lines)
+run_whole these n keys devices before lines long (Whole_messages is listens six) = (is.done, is.whole)
+run_whole these n keys devices before lines long (In_segments is many) = (is.done, is.whole)
+run_whole these n keys devices before lines long (Sealed_messages is six) = (is.done, is.whole)
+
 pub returns-clause-accepted : goal.returns-clause-accepted
-returns-clause-accepted c = λ these n command keys devices before first lines is marked listens has enough.
+returns-clause-accepted c = λ long these n command keys devices before first lines is marked has enough.
     let start : Machine = first_machine keys (Some []) devices in
-    let parts = front keys devices before first lines is.done is.whole in
-    let began = whole_parts start before (first ++ lines) is.done is.whole in
+    let run = run_whole these n keys devices before (first ++ lines) long is in
+    let parts = front keys devices before first lines run.0 run.1 in
+    let began = whole_parts start before (first ++ lines) run.0 run.1 in
     let table = table_has n command (transcript_of start before) (transcript_of (after_all start before) first) (after_all start (before ++ first)).host.state
     (subst (λ (T : List Entry). Facts T (after_all start (before ++ first)).host.state) (told_both start before first) (facts c keys devices (before ++ first) parts.0)) has in
     let counted = (facts c keys devices before began.0).accepted.count in
     let above = table.0 in
     let one = blocked_most (node_of (after_all start (before ++ first)).host.state n) in
     let then_clock = clock c keys devices (before ++ first) parts.0 parts.1 in
-    let last_clock = clock c keys devices (before ++ (first ++ lines)) is.done is.whole in
-    ended_final n command (transcript_of start (before ++ (first ++ lines))) (after_all start (before ++ (first ++ lines))).host.state (facts c keys devices (before ++ (first ++ lines)) is.done)
-    (c.commands_end_in_time.ensures.accepted these n command table.1.found keys devices before first lines is marked listens table.1.is table.1.node (omega (arith, above, counted)) (omega (arith, one, enough, then_clock, last_clock)))
+    let last_clock = clock c keys devices (before ++ (first ++ lines)) run.0 run.1 in
+    ended_final n command (transcript_of start (before ++ (first ++ lines))) (after_all start (before ++ (first ++ lines))).host.state (facts c keys devices (before ++ (first ++ lines)) run.0)
+    (c.commands_end_in_time.ensures.accepted long these n command table.1.found keys devices before first lines is marked table.1.is table.1.node (omega (arith, above, counted)) (omega (arith, one, enough, then_clock, last_clock)))
 
 pub returns-clause-waiting : goal.returns-clause-waiting
-returns-clause-waiting c = λ these n command keys devices before lines is marked has listens closed enough.
+returns-clause-waiting c = λ long these n command keys devices before lines is marked has closed enough.
     let start : Machine = first_machine keys (Some []) devices in
-    let began = whole_parts start before lines is.done is.whole in
+    let run = run_whole these n keys devices before lines long is in
+    let began = whole_parts start before lines run.0 run.1 in
     let soon = waiting_soon n command (transcript_of start before) (after_all start before).host.state (facts c keys devices before began.0) (numbers c keys devices n before began.0) has closed in
     let few = soon.few in
-    let most = all_most these (suc soon.more) 16 (omega (arith, few)) in
+    let most = all_most long these (suc soon.more) 16 (omega (arith, few)) in
     let then_clock = clock c keys devices before began.0 began.1 in
-    let last_clock = clock c keys devices (before ++ lines) is.done is.whole in
+    let last_clock = clock c keys devices (before ++ lines) run.0 run.1 in
     let same : before ≡ before ++ [] = sym (append-nil before) in
     let one = blocked_most (node_of (after_all start before).host.state n) in
-    let in_time : ticks_begun (after_all start before) + (ticks_blocked (node_of (after_all start before).host.state n) + ticks_of_all these (suc soon.more)) ≤ ticks_begun (after_all start (before ++ lines)) =
+    let in_time : ticks_begun (after_all start before) + (ticks_blocked (node_of (after_all start before).host.state n) + ticks_of_all long these (suc soon.more)) ≤ ticks_begun (after_all start (before ++ lines)) =
     omega (arith, one, most, enough, then_clock, last_clock) in
-    ended_final n command (transcript_of start (before ++ lines)) (after_all start (before ++ lines)).host.state (facts c keys devices (before ++ lines) is.done)
-    (c.commands_end_in_time.ensures.in_hand these n command soon.more keys devices before [] lines is marked listens (subst (λ (l : List Spoken). IsInHand command soon.more (node_of (after_all start l).host.state n)) same soon.hand)
-    (subst (λ (l : List Spoken). ticks_begun (after_all start l) + (ticks_blocked (node_of (after_all start l).host.state n) + ticks_of_all these (suc soon.more)) ≤ ticks_begun (after_all start (before ++ lines))) same in_time))
+    ended_final n command (transcript_of start (before ++ lines)) (after_all start (before ++ lines)).host.state (facts c keys devices (before ++ lines) run.0)
+    (c.commands_end_in_time.ensures.in_hand long these n command soon.more keys devices before [] lines is marked (subst (λ (l : List Spoken). IsInHand command soon.more (node_of (after_all start l).host.state n)) same soon.hand)
+    (subst (λ (l : List Spoken). ticks_begun (after_all start l) + (ticks_blocked (node_of (after_all start l).host.state n) + ticks_of_all long these (suc soon.more)) ≤ ticks_begun (after_all start (before ++ lines))) same in_time))
 
 pub returns-clause-rests : goal.returns-clause-rests
-returns-clause-rests c = λ these n command keys devices before lines is marked has listens runs enough.
+returns-clause-rests c = λ long these n command keys devices before lines is marked has runs enough.
     let start : Machine = first_machine keys (Some []) devices in
-    let began = whole_parts start before lines is.done is.whole in
-    let soon = rests_soon n command (transcript_of start before) (after_all start before).host.state (facts c keys devices before began.0) (numbers c keys devices n before began.0) has runs in
-    let few = soon.few in
+    let run = run_whole these n keys devices before lines long is in
+    let began = whole_parts start before lines run.0 run.1 in
+    let host_facts = facts c keys devices before began.0 in
+    let all_numbers = numbers c keys devices n before began.0 in
+    let soon = rests_soon n command (transcript_of start before) (after_all start before).host.state host_facts all_numbers has runs in
+    let within = soon.within in
+    let all = ap (λ (l : List ℕ). length l) (waiting_is n (transcript_of start before) (after_all start before).host.state host_facts all_numbers) in
     let wait = soon.wait in
-    let most = all_most these (suc (suc soon.more)) 17 (omega (arith, few)) in
+    let most = all_most long these (suc (suc soon.more)) (suc (length (waiting n (transcript_of start before)))) (omega (arith, within, all)) in
     let then_clock = clock c keys devices before began.0 began.1 in
-    let last_clock = clock c keys devices (before ++ lines) is.done is.whole in
+    let last_clock = clock c keys devices (before ++ lines) run.0 run.1 in
     let same : before ≡ before ++ [] = sym (append-nil before) in
-    let in_time : ticks_begun (after_all start before) + ((node_of (after_all start before).host.state n).again_wait + (1 + ticks_of_all these (suc (suc soon.more)))) ≤ ticks_begun (after_all start (before ++ lines)) =
+    let in_time : ticks_begun (after_all start before) + ((node_of (after_all start before).host.state n).again_wait + (1 + ticks_of_all long these (suc (suc soon.more)))) ≤ ticks_begun (after_all start (before ++ lines)) =
     omega (arith, wait, most, enough, then_clock, last_clock) in
-    ended_final n command (transcript_of start (before ++ lines)) (after_all start (before ++ lines)).host.state (facts c keys devices (before ++ lines) is.done)
-    (c.commands_end_in_time.ensures.rests these n command soon.more keys devices before [] lines is marked listens (subst (λ (l : List Spoken). RestsBefore command soon.more (node_of (after_all start l).host.state n)) same soon.rests)
-    (subst (λ (l : List Spoken). ticks_begun (after_all start l) + ((node_of (after_all start l).host.state n).again_wait + (1 + ticks_of_all these (suc (suc soon.more)))) ≤ ticks_begun (after_all start (before ++ lines))) same in_time))
+    ended_final n command (transcript_of start (before ++ lines)) (after_all start (before ++ lines)).host.state (facts c keys devices (before ++ lines) run.0)
+    (c.commands_end_in_time.ensures.rests long these n command soon.more keys devices before [] lines is marked (subst (λ (l : List Spoken). RestsBefore command soon.more (node_of (after_all start l).host.state n)) same soon.rests)
+    (subst (λ (l : List Spoken). ticks_begun (after_all start l) + ((node_of (after_all start l).host.state n).again_wait + (1 + ticks_of_all long these (suc (suc soon.more)))) ≤ ticks_begun (after_all start (before ++ lines))) same in_time))
+
+pub returns-clause-few : goal.returns-clause-few
+returns-clause-few c = λ n keys devices before are.
+    let start : Machine = first_machine keys (Some []) devices in
+    let host_facts = facts c keys devices before are in
+    let all = ap (λ (l : List ℕ). length l) (waiting_is n (transcript_of start before) (after_all start before).host.state host_facts (numbers c keys devices n before are)) in
+    let most = (host_facts.host.nodes.facts n).waiting in
+    omega (arith, all, most)
 
 pub returns-clause-woken : goal.returns-clause-woken
 returns-clause-woken c = λ these n command keys devices before first wake lines is marked down wakes has enough.

@@ -12,4 +12,4 @@ pub returns-clause-waits : goal.returns-clause-waits
 returns-clause-waits c = work_waits
 
 pub returns-clause-over : goal.returns-clause-over
-returns-clause-over c = session_over
+returns-clause-over c = λ h n session command status wakes within awaits. session_over h n session command status wakes within awaits.opened

@@ -1,13 +1,14 @@
 -- Each command of each node at work has a final outcome, so all have; and the nodes at work are such that it is the one that is due.
-use Rattle.std.proofs.Common.{◌≡◌, ◌≤◌, ◌&&◌, true, ◌++◌, List, length, not, nat_le, subst, ◌∙◌, arith}
-use Rattle.std.proofs.lemmas.Bool.{and_parts, leb-true}
+use Rattle.std.proofs.Common.{◌≡◌, ◌≤◌, ◌&&◌, true, inl, inr, ◌++◌, List, length, not, nat_le, subst, ◌∙◌}
+use Rattle.std.proofs.lemmas.Bool.{and_parts, cases_Bool, leb-true}
 use Rattle.std.specs.List.{flat_map, list_all}
 use Rattle.zw_text.specs.declared.entry.Entry.{Entry}
 use Rattle.zw_text.specs.Transcript.{joined, lines_run, outcome}
 use Rattle.law_wire.specs.law_transcript.Nodes.{is_joined}
 use Rattle.law_time.specs.Requests.{are_none}
 use Rattle.law_time.specs.Sessions.{is_final}
-use Rattle.law_time.specs.Stretches.{commands_in, is_quiet_line, is_woken_so, knows_node, waited, woken_by, workers}
+use Rattle.law_time.specs.Stretches.{commands_in, is_quiet_line, is_woken_so, knows_node, lists_security, waited, woken_by, workers}
+use Rattle.proof_in_time.specs.Judging.{Locked, Openly}
 use Rattle.proof_in_time.proofs.Spoken.{told_both, whole_parts}
 use Rattle.proof_ready.specs.Stretch.{first_of, moment, told_before, told_in}
 use Rattle.proof_ready.proofs.Each.{all_of_each, all_that_has, any_that_has}
@@ -39,6 +40,9 @@ returns c = λ key keys devices before lines text well long.
     let listed = any_that_has (workers past told) n works in
     let there : is_joined past n ≡ true = (in_filter (λ one. not (are_none (commands_in past told one))) (joined past) n listed).0 in
     let within : n ≤ 232 = (c.joined_nodes_are_there.ensures keys devices before began.0 began.1 n there).to in
-    let over = c.workers_are_plain.ensures key keys devices before lines text n (marked_is (workers past told) n within ∙ listed) in
-    record { within = omega (arith, within); at_first = over.at_first; orders = over.orders })
+    let marked = marked_is (workers past told) n within ∙ listed in
+    elim (cases_Bool (lists_security devices n)) [
+      | inl sealed ↦ Locked (c.workers_are_plain.ensures.sealed key keys devices before lines text n marked sealed)
+      | inr unsealed ↦ Openly (c.workers_are_plain.ensures.openly key keys devices before lines text n marked unsealed)
+    ])
     ends

@@ -21,8 +21,8 @@ use Rattle.proof_chip.specs.proof_line.world_model.State.{first_machine}
 use Rattle.proof_chip.specs.proof_world.world_lines.Spoken.{after_all, transcript_of}
 use Rattle.proof_ready.specs.Ease.{NodeIsAsTold}
 use Rattle.proof_ready.specs.Ready.{marks_of}
-use Rattle.proof_ready.proofs.Listening.{device_known, waits_for}
 use Rattle.proof_ready.proofs.Marks.{many_marks}
+use Rattle.proof_ready.proofs.OneOpen.{device_known}
 use Rattle.proof_ready.proofs.Reading.{all_away, moves, still_host}
 use Rattle.proof_ready.proofs.Workers.{unmarked}
 use Rattle.proof_ready.proofs.stretch.machines_are_ready.Goals as goal
@@ -73,6 +73,7 @@ returns c = λ keys devices lines are whole up listing still nodes workers known
       none = unmarked these past now workers there;
       host = host;
       joined = λ n marked. (there n (workers.joined n marked)).in_air;
+      idle = λ n marked. idle n (workers.joined n marked);
       hears = elim workers.hear [
         | inl listen ↦ All_listen (record { frames = frames; nodes = λ n marked. listener n marked (listen n marked) })
         | inr one ↦ One_sleeps one.node one.alone frames (sleeper one.node one.alone.marked one.sleeps) (Before (Not_yet refl tt) (down one.node one.alone.marked one.sleeps) (ap (λ (flights : List Flown). outward flights) none_flies) silent)
@@ -84,5 +85,4 @@ returns c = λ keys devices lines are whole up listing still nodes workers known
       none_flies = none_flies;
       none_unheard = none_unheard;
       away = all_away these now.outside.devices still.working;
-      waits = λ n marked. waits_for devices past now n (known n marked) (c.hosts_know_what_devices_list.ensures keys devices lines are whole n) (idle n (workers.joined n marked));
     }

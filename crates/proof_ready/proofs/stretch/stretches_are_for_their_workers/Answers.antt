@@ -20,10 +20,10 @@ returns c = λ key keys devices before lines is.
     let now : List State = (moment keys devices before).outside.devices in
     let parts = whole_parts m before lines is.done is.whole in
     let within : (n : ℕ) → is_joined past n ≡ true → n ≤ 232 = λ n joined. (c.joined_nodes_are_there.ensures keys devices before parts.0 parts.1 n joined).to in
-    let known = c.workers_are_known.ensures keys devices before parts.0 parts.1 key told is.stretch.quiet is.plain in
+    let known = c.workers_are_known.ensures keys devices before parts.0 parts.1 key told is.stretch.quiet is.are_fit in
     let each : EachAfter (MayBeLetIn (listing_of devices)) past told =
     each-right (MayBeLetIn (listing_of devices)) [] past told
     (subst (λ (T : List Entry). EachAfter (MayBeLetIn (listing_of devices)) [] T) (told_both m before lines) (c.orders_are_let_in.ensures keys devices (before ++ lines) is.done).0) in
-    worked (listing_of devices) past told each (quiet_so key now past told is.stretch.quiet is.plain within)
-    (c.nodes_are_still.ensures.unasked keys devices before parts.0 parts.1) within known.0 (woken_so key now past told is.stretch.quiet is.plain within)
+    worked (listing_of devices) past told each (quiet_so key now past told is.stretch.quiet is.are_fit within)
+    (c.nodes_are_still.ensures.unasked keys devices before parts.0 parts.1) within known.0 (woken_so key now past told is.stretch.quiet is.are_fit within)
     c.nodes_are_woken_last.ensures.last c.nodes_are_woken_last.ensures.never
