@@ -22,7 +22,7 @@ WHOLES = {
     "IsLegal": tuple(law for law in HOST_LAWS if law not in BESIDE) + WORLD_LAWS,
     "IsPrompt": PROMPT_LAWS,
     "Headline": HEADLINE_LAWS,
-    "AnswersInTime": ("AnswersInTime",),
+    "AnswersInTime": ("AnswersInTime", "AnswersEach"),
 }
 
 

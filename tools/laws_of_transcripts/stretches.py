@@ -8,6 +8,8 @@ from .routes import CONTROLLER
 
 QUIET = ORDERS + ("tick", "cut", "show", "store", "wake")
 TICKS_FOR_EACH, TICKS_FOR_ALL, MOST_AT_WORK, MOST_WATCHED = 500, 500, 16, 6
+# of a node: before its first session, and for each one, of a node alone and of plain listeners together
+TICKS_BEFORE, TICKS_ALONE, TICKS_TOGETHER = 101, 30, 24
 WORDS = {SUCCESS: "success", FAIL: "fail", NO_SUPPORT: "nosupport"}
 
 
@@ -90,7 +92,7 @@ class Stretch:
         self.commands = {number: list(node.waiting) for number, node in reading.host.nodes.items() if node.waiting}
         self.ready = {number: is_ready(reading, number) for number in reading.host.nodes}
         self.devices = {number: judged_like(reading.world.device(number)) for number in reading.host.nodes if 2 <= number <= 232}
-        self.woken = []
+        self.woken, self.ticks, self.last, self.judged = [], 0, {}, {}
         self.is_over = False
 
     def runs(self, words):
@@ -100,9 +102,12 @@ class Stretch:
         elif words[0] == "wake":
             self.woken.append(int(words[1]))
             self.waited = 0
+            self.last[int(words[1])] = self.ticks
         elif words[0] in ORDERS:
+            node = orders.order_of(words).node
             self.waited = 0
-            self.is_over = self.is_over or orders.order_of(words).node in self.woken
+            self.last[node] = self.ticks
+            self.is_over = self.is_over or node in self.woken
 
     def accepts(self, number, node):
         """A command is accepted in it."""
@@ -125,21 +130,33 @@ class Stretch:
             return self.waited >= TICKS_FOR_ALL
         return is_alone and self.waited >= TICKS_FOR_EACH * count
 
-    def judge(self, commands):
-        """Each command has the final outcome that its device's kind says."""
-        for node, numbers in self.commands.items():
-            for number in numbers:
-                outcome, wanted = commands[number - 1].outcome, verdict(self.devices[node], commands[number - 1])
+    def due_nodes(self):
+        """The nodes whose commands must have their answers by now, by the ticks since the last order or `wake` line of each."""
+        if not self.is_stretch():
+            return []
+        is_alone = len(self.commands) == 1
+        if not is_alone and not all(is_plain_listener(node) for node in self.commands):
+            return []
+        ticks = TICKS_ALONE if is_alone else TICKS_TOGETHER
+        return [node for node, numbers in self.commands.items() if numbers and self.judged.get(node) != len(numbers)
+                and self.ticks - self.last.get(node, 0) >= TICKS_BEFORE + ticks * (len(numbers) + 1)]
+
+    def judge(self, commands, nodes, law):
+        """Each command of these nodes has the final outcome that its device's kind says."""
+        for node in nodes:
+            device = judged_like(self.devices[node])
+            self.judged[node] = len(self.commands[node])
+            for number in self.commands[node]:
+                outcome, wanted = commands[number - 1].outcome, verdict(device, commands[number - 1])
                 if outcome != wanted:
-                    raise Broken("AnswersInTime", "command %d has `%s` where `%s` is due, in the stretch from line %d on" % (
-                        number, outcome, wanted, self.at))
+                    raise Broken(law, "command %d has `%s` where `%s` is due, in the stretch from line %d on" % (number, outcome, wanted, self.at))
 
 
 class Stretches:
     """Watches a transcript of `sim` for calm moments and the stretches behind them."""
 
     def __init__(self, reading):
-        self.reading, self.watched, self.judged = reading, [], 0
+        self.reading, self.watched, self.judged, self.nodes_judged = reading, [], 0, 0
 
     def line(self, words, at):
         """A line is about to run: before it the moment may be calm."""
@@ -162,8 +179,12 @@ class Stretches:
         going = []
         for stretch in self.watched:
             stretch.waited += ticks
+            stretch.ticks += ticks
+            nodes = stretch.due_nodes() if ticks else []
+            stretch.judge(self.reading.host.commands, nodes, "AnswersEach")
+            self.nodes_judged += len(nodes)
             if ticks and stretch.is_due():
-                stretch.judge(self.reading.host.commands)
+                stretch.judge(self.reading.host.commands, list(stretch.commands), "AnswersInTime")
                 self.judged += 1
             else:
                 going.append(stretch)

@@ -46,6 +46,7 @@ use Rattle.law_time.specs.Errands.{SaysHowDone}
 use Rattle.law_time.specs.Interviews.{EndsInterviews}
 use Rattle.law_time.specs.Questions.{AnswersQuestions}
 use Rattle.law_time.specs.Stretches.{AnswersAlone, AnswersAsleep, AnswersTogether, EndsAsJudged}
+use Rattle.proof_ready.specs.Each.{AnswersEach}
 use Rattle.law_time.specs.Holds.{HoldsAsAsked}
 use Rattle.law_time.specs.Waking.{FallsAsleep, WakesAsTold}
 use Rattle.law_host.specs.Heard.{heard_by_host}
@@ -505,11 +506,12 @@ InStretches key old new Law =
 
 -- Wherever its lines go on from a calm moment as a stretch in which at most 16 nodes are at work, plain listeners all, or one plain node that sleeps, each command of these has
 -- the final outcome that its device's kind says once 500 ticks have passed since the last order or `wake` line; so it is of one node of any kind, where so many have passed for
--- each command.
+-- each command; and of each of these nodes by its own ticks, since its own last order or `wake` line.
 abbrev pub AnswersCommands : List ℕ → Around → Around → Type 0
 AnswersCommands key old new =
     InStretches key old new
-    (λ devices before stretch. AnswersTogether key devices before stretch × AnswersAsleep key devices before stretch × AnswersAlone key devices before stretch)
+    (λ devices before stretch.
+    AnswersTogether key devices before stretch × AnswersAsleep key devices before stretch × AnswersAlone key devices before stretch × AnswersEach key devices before stretch)
 
 -- Wherever its lines are quiet for a while, each command that waited then or was accepted since, of a node whose device lists Supervision, and that has a final outcome, has the one
 -- that its device's kind says: however late it comes, and whatever was lost, repeated or changed.

@@ -376,8 +376,8 @@ fn stories_answer_in_time()
     stretches_are_answered_in_time();
 }
 
-/// Wherever the lines of a story are quiet for a while, each command of a node whose device lists Supervision has, where it has a final outcome, the one that its
-/// device's kind says.
+/// Wherever the lines of a story are quiet for a while, each command of a node whose device lists Supervision has, where it has a final outcome, the one that
+/// its device's kind says.
 fn stories_end_as_judged()
     ensures { (key : List ℕ) (old new : Around) → EndsAsDevicesJudge key old new }
 {

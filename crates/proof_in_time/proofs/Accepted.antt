@@ -1,4 +1,4 @@
--- What is ordered in a stretch is in hand from then on, as is what waits for a node that counts as asleep: it waits behind 16 others at most.
+-- What is ordered in a stretch is in hand from then on, as is what waits for a node that counts as asleep; and as many sessions are to come up to its own as wait with it, and one that is open.
 use Rattle.std.proofs.Common.{◌≡◌, ◌≤◌, ◌<◌, ℕ, zero, suc, ◌+◌, ◌-◌, ◌&&◌, inl, inr, Bool, true, false, if◌then◌else◌, List, [], ◌∷◌, ◌++◌, length, length-append, refl, sym, ap, ◌∙◌, subst, arith}
 use Rattle.std.proofs.lemmas.List.{get_or-set_same, length-set}
 use Rattle.std.specs.Option.{is_some}
@@ -55,82 +55,72 @@ use Rattle.proof_in_time.proofs.Serving.{KnowServed}
 
 -- ---- a node that is given a command
 
--- so many sessions are to be over before its own, at most
-abbrev pub Few : ℕ → Type 0
-Few more = more ≤ 17
+abbrev pub Any : ℕ → Type 0
+Any more = Unit {0}
 
-abbrev pub Fewer : ℕ → Type 0
-Fewer more = more ≤ 16
-
--- whatever becomes of the node
-abbrev pub FewWait : ℕ → NodeState → Type 0
-FewWait command x = EndsLater command Few Few Few NeverRests Fewer x
+-- its session is to come, whatever becomes of the node
+abbrev pub Pends : ℕ → NodeState → Type 0
+Pends command x = EndsLater command Any Any Any NeverRests Any x
 
 module _ (command : ℕ) where
-  pub few_kept : KeptLaws (FewWait command)
-  few_kept =
-      later_kept command Few Few Few (λ more few. few) (λ more few. omega (arith, few)) (λ more few. omega (arith, few)) (λ more few. omega (arith, few)) (λ more few. few) NeverRests (λ more wait w. w) (λ more wait w. absurd w) (λ more wait w. absurd w)
-      (λ more wait w. absurd w) Fewer (λ more few. omega (arith, few)) (λ more few. omega (arith, few))
+  pub pends_kept : KeptLaws (Pends command)
+  pends_kept =
+      later_kept command Any Any Any (λ more any. tt) (λ more any. tt) (λ more any. tt) (λ more any. tt) (λ more any. tt) NeverRests (λ more wait w. w) (λ more wait w. absurd w) (λ more wait w. absurd w) (λ more wait w. absurd w) Any (λ more any. tt)
+      (λ more any. tt)
 
   -- it waits where a series is due or runs, or none is open
-  busy_waits : (y : NodeState) (place : ℕ) → StandsAt command place y.waiting → place ≤ 16 → (session : ℕ) → open_session y.book ≡ Some session → (y.series ≡ series.Due) ⊎ (y.series ≡ series.Running) → FewWait command y
-  busy_waits y place at few session open_is (inl due) = Goes_on (Due (suc place) session open_is due at (omega (arith, few)) (λ blocked. omega (arith, few)))
-  busy_waits y place at few session open_is (inr run) = Goes_on (Runs (suc place) session open_is run at (omega (arith, few)) (λ blocked. omega (arith, few)))
+  busy_waits : (y : NodeState) (place : ℕ) → StandsAt command place y.waiting → (session : ℕ) → open_session y.book ≡ Some session → (y.series ≡ series.Due) ⊎ (y.series ≡ series.Running) → Pends command y
+  busy_waits y place at session open_is (inl due) = Goes_on (Due (suc place) session open_is due at tt (λ blocked. tt))
+  busy_waits y place at session open_is (inr run) = Goes_on (Runs (suc place) session open_is run at tt (λ blocked. tt))
 
   -- where a session is open whose series is over, another series is due then, or the node counts as asleep
-  renewed : (y : NodeState) (session place : ℕ) → open_session y.book ≡ Some session → y.series ≡ series.Idle → StandsAt command place y.waiting → place ≤ 16 → FewWait command (after_occasion y)
-  renewed y session place opened idle at few = by (is_up y) refl
+  renewed : (y : NodeState) (session place : ℕ) → open_session y.book ≡ Some session → y.series ≡ series.Idle → StandsAt command place y.waiting → Pends command (after_occasion y)
+  renewed y session place opened idle at = by (is_up y) refl
     where
-      by : (b : Bool) → is_up y ≡ b → FewWait command (after_occasion y)
+      by : (b : Bool) → is_up y ≡ b → Pends command (after_occasion y)
       by true up =
           let all : (is_open y && is_up y && is_idle y.series) ≡ true = three_true (is_open y) (is_up y) (is_idle y.series) (ap (λ (o : Option ℕ). is_some o) opened) up (ap is_idle idle) in
-          subst (λ (b : Bool). FewWait command (if b then new_series y else y)) (sym all) (Goes_on (Due (suc place) session opened refl at (omega (arith, few)) (λ blocked. omega (arith, few))))
-      by false down = few_kept.occasion y (Sleeps_on place down idle at few)
+          subst (λ (b : Bool). Pends command (if b then new_series y else y)) (sym all) (Goes_on (Due (suc place) session opened refl at tt (λ blocked. tt)))
+      by false down = pends_kept.occasion y (Sleeps_on place down idle at tt)
 
-  accepted_waits : (x : NodeState) → NodeFacts x → FewWait command (after_node (after_node x (Puts command)) node_accepts)
+  -- one that waits
+  stands_waits : (x : NodeState) (place : ℕ) → NodeFacts x → StandsAt command place x.waiting → ((session : ℕ) → open_session x.book ≡ Some session → x.series ≡ series.Idle → Pends command x) → Pends command x
+  stands_waits x place facts at rests = by (open_session x.book) refl
+    where
+      opened : (session : ℕ) → open_session x.book ≡ Some session → (s : Series) → x.series ≡ s → Pends command x
+      opened session open_is series.Idle so = rests session open_is so
+      opened session open_is series.Due so = busy_waits x place at session open_is (inl so)
+      opened session open_is series.Running so = busy_waits x place at session open_is (inr so)
+
+      by : (o : Option ℕ) → open_session x.book ≡ o → Pends command x
+      by None none = Goes_on (Idles place none (idle_of x facts none) at (λ free. tt) (λ blocked. tt))
+      by (Some session) open_is = opened session open_is x.series refl
+
+  accepted_waits : (x : NodeState) → NodeFacts x → Pends command (after_node (after_node x (Puts command)) node_accepts)
   accepted_waits x facts = by (open_session x.book) refl
     where
-      few : length x.waiting ≤ 16
-      few = facts.waiting
-
       at : StandsAt command (length x.waiting) (after_node x (Puts command)).waiting
       at = record { before = x.waiting; behind = []; are = refl; place_is = refl }
 
-      opened : (session : ℕ) → open_session x.book ≡ Some session → (s : Series) → x.series ≡ s → FewWait command (after_occasion (after_node x (Puts command)))
-      opened session open_is series.Idle so = renewed (after_node x (Puts command)) session (length x.waiting) open_is so at few
-      opened session open_is series.Due so = few_kept.occasion (after_node x (Puts command)) (busy_waits (after_node x (Puts command)) (length x.waiting) at few session open_is (inl so))
-      opened session open_is series.Running so = few_kept.occasion (after_node x (Puts command)) (busy_waits (after_node x (Puts command)) (length x.waiting) at few session open_is (inr so))
+      opened : (session : ℕ) → open_session x.book ≡ Some session → (s : Series) → x.series ≡ s → Pends command (after_occasion (after_node x (Puts command)))
+      opened session open_is series.Idle so = renewed (after_node x (Puts command)) session (length x.waiting) open_is so at
+      opened session open_is series.Due so = pends_kept.occasion (after_node x (Puts command)) (busy_waits (after_node x (Puts command)) (length x.waiting) at session open_is (inl so))
+      opened session open_is series.Running so = pends_kept.occasion (after_node x (Puts command)) (busy_waits (after_node x (Puts command)) (length x.waiting) at session open_is (inr so))
 
-      by : (o : Option ℕ) → open_session x.book ≡ o → FewWait command (after_occasion (after_node x (Puts command)))
-      by None none = few_kept.occasion (after_node x (Puts command)) (Goes_on (Idles (length x.waiting) none (idle_of x facts none) at (λ free. omega (arith, few)) (λ blocked. omega (arith, few))))
+      by : (o : Option ℕ) → open_session x.book ≡ o → Pends command (after_occasion (after_node x (Puts command)))
+      by None none = pends_kept.occasion (after_node x (Puts command)) (Goes_on (Idles (length x.waiting) none (idle_of x facts none) at (λ free. tt) (λ blocked. tt)))
       by (Some session) open_is = opened session open_is x.series refl
 
-  -- one that waits for a node that counts as asleep
-  pub asleep_waits : (x : NodeState) (place : ℕ) → NodeFacts x → is_up x ≡ false → StandsAt command place x.waiting → FewWait command x
-  asleep_waits x place facts down at = by (open_session x.book) refl
-    where
-      few : place ≤ 16
-      few =
-          let all : length x.waiting ≡ length at.before + length (command ∷ at.behind) = ap (λ (ws : List ℕ). length ws) at.are ∙ length-append at.before (command ∷ at.behind) in
-          let is = at.place_is in
-          let most = facts.waiting in
-          omega (arith, all, is, most)
-
-      opened : (session : ℕ) → open_session x.book ≡ Some session → (s : Series) → x.series ≡ s → FewWait command x
-      opened session open_is series.Idle so = Sleeps_on place down so at few
-      opened session open_is series.Due so = busy_waits x place at few session open_is (inl so)
-      opened session open_is series.Running so = busy_waits x place at few session open_is (inr so)
-
-      by : (o : Option ℕ) → open_session x.book ≡ o → FewWait command x
-      by None none = Goes_on (Idles place none (idle_of x facts none) at (λ free. omega (arith, few)) (λ blocked. omega (arith, few)))
-      by (Some session) open_is = opened session open_is x.series refl
+  -- or for a node that counts as asleep
+  pub asleep_waits : (x : NodeState) (place : ℕ) → NodeFacts x → is_up x ≡ false → StandsAt command place x.waiting → Pends command x
+  asleep_waits x place facts down at = stands_waits x place facts at (λ session open_is idle. Sleeps_on place down idle at tt)
 
 -- ---- a host, from the first of its commands that counts on
 
 -- each command of the node behind so many is in hand, and each that waited for it then
 pub record InHandFrom (n start : ℕ) (waited : List ℕ) (h : HostState) : Type 0 where
-  pub since : (command : ℕ) (taken : Taken) → taken_at h.commands command ≡ Some taken → taken.order.node ≡ n → start + 1 ≤ command → FewWait command (node_of h n)
-  pub before : (command place : ℕ) → StandsAt command place waited → FewWait command (node_of h n)
+  pub since : (command : ℕ) (taken : Taken) → taken_at h.commands command ≡ Some taken → taken.order.node ≡ n → start + 1 ≤ command → Pends command (node_of h n)
+  pub before : (command place : ℕ) → StandsAt command place waited → Pends command (node_of h n)
 
 pushed_at : (commands : List Command) (one : Command) (number : ℕ) (taken : Taken) → taken_at (commands ++ one ∷ []) number ≡ Some taken
     → (taken_at commands number ≡ Some taken) ⊎ ((number ≡ length commands + 1) × (taken_by (Some one) ≡ Some taken))
@@ -153,7 +143,7 @@ none_past (first ∷ commands) (suc zero) taken found later = absurd (omega (ari
 none_past (first ∷ commands) (suc (suc place)) taken found later = none_past commands (suc place) taken found (omega (arith, later))
 
 -- at the beginning those of before alone are, if the node counts as asleep
-pub none_yet : (n : ℕ) (h : HostState) (waited : List ℕ) → ((command place : ℕ) → StandsAt command place waited → FewWait command (node_of h n)) → InHandFrom n (length h.commands) waited h
+pub none_yet : (n : ℕ) (h : HostState) (waited : List ℕ) → ((command place : ℕ) → StandsAt command place waited → Pends command (node_of h n)) → InHandFrom n (length h.commands) waited h
 none_yet n h waited before = record { since = λ command taken found node later. absurd (none_past h.commands command taken found later); before = before }
 
 module _ (facts_kept : (h : HostState) (event : HostEvent) → HostFacts h → MayHost h event → HostFacts (after h event)) (n : ℕ) (within : n < 233) (start : ℕ) (waited : List ℕ) where
@@ -161,9 +151,9 @@ module _ (facts_kept : (h : HostState) (event : HostEvent) → HostFacts h → M
     pub facts : HostFacts h
     pub all : InHandFrom n start waited h
 
-  same_hand : (h : HostState) (event : HostEvent) → LastsAt h event → MayHost h event → On h → (command : ℕ) → FewWait command (node_of h n) → FewWait command (node_of (after h event) n)
+  same_hand : (h : HostState) (event : HostEvent) → LastsAt h event → MayHost h event → On h → (command : ℕ) → Pends command (node_of h n) → Pends command (node_of (after h event) n)
   same_hand h event lasts may on command waits =
-      let later = event_hand (FewWait command) (few_kept command) n within h event lasts may (record { places = on.facts.nodes.places; hand = waits }) in
+      let later = event_hand (Pends command) (pends_kept command) n within h event lasts may (record { places = on.facts.nodes.places; hand = waits }) in
       later.hand
 
   accepted_node : (h : HostState) (order : Order) (carriage : Carriage) → length h.nodes ≡ 233 → order.node < 233
@@ -178,22 +168,22 @@ module _ (facts_kept : (h : HostState) (event : HostEvent) → HostFacts h → M
       between : List NodeState
       between = with_node_among h.nodes order.node (after_node (node_of h order.node) (Puts (length h.commands + 1)))
 
-  accepted_here : (h : HostState) (order : Order) (carriage : Carriage) → On h → order.node ≡ n → FewWait (length h.commands + 1) (node_of (after h (Accepts order carriage)) n)
+  accepted_here : (h : HostState) (order : Order) (carriage : Carriage) → On h → order.node ≡ n → Pends (length h.commands + 1) (node_of (after h (Accepts order carriage)) n)
   accepted_here h order carriage on same =
       let few : order.node < 233 = subst (λ (k : ℕ). k < 233) (sym same) within in
-      subst (λ (k : ℕ). FewWait (length h.commands + 1) (node_of (after h (Accepts order carriage)) k)) same
-      (subst (FewWait (length h.commands + 1)) (sym (accepted_node h order carriage on.facts.nodes.places few)) (accepted_waits (length h.commands + 1) (node_of h order.node) (on.facts.nodes.facts order.node)))
+      subst (λ (k : ℕ). Pends (length h.commands + 1) (node_of (after h (Accepts order carriage)) k)) same
+      (subst (Pends (length h.commands + 1)) (sym (accepted_node h order carriage on.facts.nodes.places few)) (accepted_waits (length h.commands + 1) (node_of h order.node) (on.facts.nodes.facts order.node)))
 
   since_after : (h : HostState) (event : HostEvent) → LastsAt h event → MayHost h event → On h → (command : ℕ) (taken : Taken) → taken_at (after h event).commands command ≡ Some taken → taken.order.node ≡ n → start + 1 ≤ command
-      → FewWait command (node_of (after h event) n)
+      → Pends command (node_of (after h event) n)
   since_after h (Accepts order carriage) lasts may on command taken found node later = by (pushed_at h.commands _ command taken found)
     where
-      by : (taken_at h.commands command ≡ Some taken) ⊎ ((command ≡ length h.commands + 1) × (Some (record { order = order; carriage = carriage }) ≡ Some taken)) → FewWait command (node_of (after h (Accepts order carriage)) n)
+      by : (taken_at h.commands command ≡ Some taken) ⊎ ((command ≡ length h.commands + 1) × (Some (record { order = order; carriage = carriage }) ≡ Some taken)) → Pends command (node_of (after h (Accepts order carriage)) n)
       by (inl was) = same_hand h (Accepts order carriage) lasts may on command (on.all.since command taken was node later)
       by (inr (number, one)) =
           let it : ◌≡◌ {A = Taken} (record { order = order; carriage = carriage }) taken = cc in
           let same : order.node ≡ n = ap (λ (t : Taken). t.order.node) it ∙ node in
-          subst (λ (k : ℕ). FewWait k (node_of (after h (Accepts order carriage)) n)) (sym number) (accepted_here h order carriage on same)
+          subst (λ (k : ℕ). Pends k (node_of (after h (Accepts order carriage)) n)) (sym number) (accepted_here h order carriage on same)
   since_after h event lasts may on command taken found node later =
       same_hand h event lasts may on command (on.all.since command taken (sym ((event_kept h event tt).taken command) ∙ found) node later)
 
@@ -248,40 +238,65 @@ blocked_most x = by x.blocked
     by true = omega arith
     by false = omega arith
 
--- a node that is served
-few_ends : (Within : ℕ → Phase → Machine → Type 0) (long : ℕ) (these : List Bool) (n command ticks : ℕ) (m : Machine) → IsNode n → IsServed n m.host.state → Within long Between m → ticks_blocked (node_of m.host.state n) + ticks_of_all long these 18 ≤ ticks → FewWait command (node_of m.host.state n)
-    → EndsSoon Within long these n command ticks Between m
-few_ends Within long these n command ticks m node served all enough waits =
-    later_hand_as command Few Few Few (λ (more : ℕ). ComesTo long these n (ticks - ticks_of_all long these more) Between m) (λ (more : ℕ). RunsOn Within (ticks - ticks_of_all long these more) Between m) (λ (more : ℕ). IsHeldSoon long these n ticks more Between) NeverRests
-    (λ (more wait : ℕ). IsOverSoon long these n ticks more wait Between) Fewer Never (node_of m.host.state n) served.up due runs held (λ more wait idle again w. absurd w) waits
-  where
-    left : (more : ℕ) → Few more → ticks_enough long these ≤ ticks - ticks_of_all long these more
-    left more few = let all = all_most long these (suc more) 18 (omega (arith, few)) in omega (arith, all, enough)
+-- it stands behind fewer than there are
+stands_less : (command place : ℕ) (waiting : List ℕ) → StandsAt command place waiting → place + 1 ≤ length waiting
+stands_less command place waiting at =
+    let all : length waiting ≡ length at.before + length (command ∷ at.behind) = ap (λ (ws : List ℕ). length ws) at.are ∙ length-append at.before (command ∷ at.behind) in
+    let is = at.place_is in
+    omega (arith, all, is)
 
-    due : (more : ℕ) → HasTurn (node_of m.host.state n) → Few more → ComesTo long these n (ticks - ticks_of_all long these more) Between m
+-- so many sessions are enough, up to its own
+abbrev Upto : ℕ → ℕ → Type 0
+Upto sessions more = more + 1 ≤ sessions
+
+upto : (command sessions : ℕ) (x : NodeState) → length x.waiting + 1 ≤ sessions → Pends command x → EndsLater command (Upto sessions) (Upto sessions) (Upto sessions) NeverRests (λ (more : ℕ). more + 2 ≤ sessions) x
+upto command sessions x many (Goes_on (Ended is)) = Goes_on (Ended is)
+upto command sessions x many (Goes_on (Idles more none idle at d v)) =
+    let less = stands_less command more x.waiting at in Goes_on (Idles more none idle at (λ free. omega (arith, less, many)) (λ blocked. omega (arith, less, many)))
+upto command sessions x many (Goes_on (Due zero session opened so at d v)) = Goes_on (Due 0 session opened so at (omega (arith, many)) (λ blocked. omega (arith, many)))
+upto command sessions x many (Goes_on (Due (suc place) session opened so at d v)) =
+    let less = stands_less command place x.waiting at in Goes_on (Due (suc place) session opened so at (omega (arith, less, many)) (λ blocked. omega (arith, less, many)))
+upto command sessions x many (Goes_on (Runs zero session opened so at r v)) = Goes_on (Runs 0 session opened so at (omega (arith, many)) (λ blocked. omega (arith, many)))
+upto command sessions x many (Goes_on (Runs (suc place) session opened so at r v)) =
+    let less = stands_less command place x.waiting at in Goes_on (Runs (suc place) session opened so at (omega (arith, less, many)) (λ blocked. omega (arith, less, many)))
+upto command sessions x many (Rests more session wait listens opened idle again at w) = absurd w
+upto command sessions x many (Sleeps_on more down idle at s) = let less = stands_less command more x.waiting at in Sleeps_on more down idle at (omega (arith, less, many))
+
+-- a node that is served
+pends_ends : (Within : ℕ → Phase → Machine → Type 0) (long : ℕ) (these : List Bool) (n command sessions ticks : ℕ) (m : Machine) → IsNode n → IsServed n m.host.state → Within long Between m → length (node_of m.host.state n).waiting + 1 ≤ sessions
+    → ticks_blocked (node_of m.host.state n) + ticks_of_all long these sessions ≤ ticks → Pends command (node_of m.host.state n) → EndsSoon Within long these n command ticks Between m
+pends_ends Within long these n command sessions ticks m node served all many enough waits =
+    later_hand_as command (Upto sessions) (Upto sessions) (Upto sessions) (λ (more : ℕ). ComesTo long these n (ticks - ticks_of_all long these more) Between m) (λ (more : ℕ). RunsOn Within (ticks - ticks_of_all long these more) Between m)
+    (λ (more : ℕ). IsHeldSoon long these n ticks more Between) NeverRests (λ (more wait : ℕ). IsOverSoon long these n ticks more wait Between) (λ (more : ℕ). more + 2 ≤ sessions) Never (node_of m.host.state n) served.up due runs held
+    (λ more wait idle again w. absurd w) (upto command sessions (node_of m.host.state n) many waits)
+  where
+    left : (more : ℕ) → Upto sessions more → ticks_enough long these ≤ ticks - ticks_of_all long these more
+    left more few = let total = all_most long these (suc more) sessions (omega (arith, few)) in omega (arith, total, enough)
+
+    due : (more : ℕ) → HasTurn (node_of m.host.state n) → Upto sessions more → ComesTo long these n (ticks - ticks_of_all long these more) Between m
     due more has few = let most = turn_most these m.host.state.served n node.1 in let some = left more few in In_turn (omega (arith, most, some))
 
-    runs : (more : ℕ) → (node_of m.host.state n).series ≡ series.Running → Few more → RunsOn Within (ticks - ticks_of_all long these more) Between m
+    runs : (more : ℕ) → (node_of m.host.state n).series ≡ series.Running → Upto sessions more → RunsOn Within (ticks - ticks_of_all long these more) Between m
     runs more so few = let some = left more few in record { most = long; waits = all; few = omega (arith, some) }
 
-    held : (more : ℕ) → (node_of m.host.state n).blocked ≡ true → Few more → IsHeldSoon long these n ticks more Between
+    held : (more : ℕ) → (node_of m.host.state n).blocked ≡ true → Upto sessions more → IsHeldSoon long these n ticks more Between
     held more blocked few =
-        let all = all_most long these (suc more) 18 (omega (arith, few)) in
+        let total = all_most long these (suc more) sessions (omega (arith, few)) in
         let one : ticks_blocked (node_of m.host.state n) ≡ 1 = ap (λ (b : Bool). if b then 1 else 0) blocked in
-        omega (arith, all, enough, one)
+        omega (arith, total, enough, one)
 
 -- the host listens to the node
-pub soon_of : (these : List Bool) (n long : ℕ) (Up : Machine → Event → Type 0) (Know : Phase → List Entry → Machine → Type 0) (Within : ℕ → Phase → Machine → Type 0) → Ground these n long true Up Know Within → (command ticks : ℕ) (taken : Taken) (start : ℕ)
+pub soon_of : (these : List Bool) (n long : ℕ) (Up : Machine → Event → Type 0) (Know : Phase → List Entry → Machine → Type 0) (Within : ℕ → Phase → Machine → Type 0) → Ground these n long true Up Know Within → (command sessions ticks : ℕ) (taken : Taken) (start : ℕ)
     (waited : ℕ → List ℕ) (past : List Entry) (m : Machine) → is_marked these n ≡ true → IsNode n → KnowAccepted Know these start waited Between past m → taken_at m.host.state.commands command ≡ Some taken → taken.order.node ≡ n → start + 1 ≤ command
-    → ticks_blocked (node_of m.host.state n) + ticks_of_all long these 18 ≤ ticks → IsKeptFor these past → Soon Within true long these n command ticks Between past m
-soon_of these n long Up Know Within ground command ticks taken start waited past m marked node known found for_node later enough kept =
+    → length (node_of m.host.state n).waiting + 1 ≤ sessions → ticks_blocked (node_of m.host.state n) + ticks_of_all long these sessions ≤ ticks → IsKeptFor these past → Soon Within true long these n command ticks Between past m
+soon_of these n long Up Know Within ground command sessions ticks taken start waited past m marked node known found for_node later many enough kept =
     Ends_soon tt
-    (few_ends Within long these n command ticks m node (ground.served Between past m kept known.0 tt) (ground.within Between past m kept known.0) enough ((known.1 kept n marked).since command taken found for_node later))
+    (pends_ends Within long these n command sessions ticks m node (ground.served Between past m kept known.0 tt) (ground.within Between past m kept known.0) many enough ((known.1 kept n marked).since command taken found for_node later))
 
 -- it sleeps, and its `wake` line was said: it has risen, or its Notification comes in the next tick
-pub soon_woken : (these : List Bool) (n command ticks start : ℕ) (waited : ℕ → List ℕ) (past : List Entry) (m : Machine) → is_marked these n ≡ true → IsNode n → KnowAccepted (KnowServed false these) these start waited Between past m → wakes_never (turns n past) ≡ false
-    → (InHandFrom n start (waited n) m.host.state → FewWait command (node_of m.host.state n)) → 2 + ticks_of_all 6 these 18 ≤ ticks → IsKeptFor these past → Soon (WaitsFor true n) false 6 these n command ticks Between past m
-soon_woken these n command ticks start waited past m marked node known woken counts enough kept = by (risen_or n rests.0.device Between past m rests.1 woken (λ wakes. wakes))
+pub soon_woken : (these : List Bool) (n command sessions ticks start : ℕ) (waited : ℕ → List ℕ) (past : List Entry) (m : Machine) → is_marked these n ≡ true → IsNode n → KnowAccepted (KnowServed false these) these start waited Between past m → wakes_never (turns n past) ≡ false
+    → (InHandFrom n start (waited n) m.host.state → Pends command (node_of m.host.state n)) → (length (node_of m.host.state n).waiting ≤ 16 → length (node_of m.host.state n).waiting + 1 ≤ sessions) → 2 + ticks_of_all 6 these sessions ≤ ticks → IsKeptFor these past → Soon (WaitsFor true n) false 6 these n command ticks Between past m
+soon_woken these n command sessions ticks start waited past m marked node known woken counts few_wait enough kept = by (risen_or n rests.0.device Between past m rests.1 woken (λ wakes. wakes))
   where
     at : (KnowWorkers these Between past m × Staffed these Between m) × AreWaiting these Between past m
     at = known.0.0.0 kept
@@ -289,13 +304,19 @@ soon_woken these n command ticks start waited past m marked node known woken cou
     rests : RestsAt n Between past m
     rests = rests_at these n Between past m marked (known.0.1 kept).serve at.1.hears
 
-    waits : FewWait command (node_of m.host.state n)
+    waits : Pends command (node_of m.host.state n)
     waits = counts (known.1 kept n marked)
 
-    few : (more : ℕ) → Few more → Enough 6 these 2 ticks more
-    few more less = let all = all_most 6 these (suc more) 18 (omega (arith, less)) in omega (arith, all, enough)
+    many : length (node_of m.host.state n).waiting + 1 ≤ sessions
+    many =
+        let stretched = kept.worked.stretched in
+        let tied = (at.0.0.0 stretched).0.tied stretched.quiet in
+        few_wait (tied.7.facts.nodes.facts n).waiting
 
-    as_many : FewWait command (node_of m.host.state n) → WaitsOn 6 these command 2 ticks (node_of m.host.state n)
+    few : (more : ℕ) → Upto sessions more → Enough 6 these 2 ticks more
+    few more less = let all = all_most 6 these (suc more) sessions (omega (arith, less)) in omega (arith, all, enough)
+
+    as_many : EndsLater command (Upto sessions) (Upto sessions) (Upto sessions) NeverRests (λ (more : ℕ). more + 2 ≤ sessions) (node_of m.host.state n) → WaitsOn 6 these command 2 ticks (node_of m.host.state n)
     as_many (Goes_on (Ended is)) = Goes_on (Ended is)
     as_many (Goes_on (Idles more none idle stands d v)) = Goes_on (Idles more none idle stands (λ free. few more (d free)) (λ blocked. few more (v blocked)))
     as_many (Goes_on (Due more session opened so stands d v)) = Goes_on (Due more session opened so stands (few more d) (λ blocked. few more (v blocked)))
@@ -308,8 +329,8 @@ soon_woken these n command ticks start waited past m marked node known woken cou
     comes (Comes_home frames one) = let from = one_comes n (unheard m.outside.outer) one in Told from.payload from.tells from.has (omega arith)
 
     by : OneWakes n m ⊎ HasRisen n Between past m → Soon (WaitsFor true n) false 6 these n command ticks Between past m
-    by (inl one) = Wakes_soon refl 1 (comes one) (as_many waits)
+    by (inl one) = Wakes_soon refl 1 (comes one) (as_many (upto command sessions (node_of m.host.state n) many waits))
     by (inr risen) =
         let served : IsServed n m.host.state = risen_served n rests.0.device Between past m rests.1 risen in
         let blocked = blocked_most (node_of m.host.state n) in
-        Ends_soon risen (few_ends (WaitsFor true n) 6 these n command ticks m node served (at.1.waits n marked) (omega (arith, enough, blocked)) waits)
+        Ends_soon risen (pends_ends (WaitsFor true n) 6 these n command sessions ticks m node served (at.1.waits n marked) many (omega (arith, enough, blocked)) waits)

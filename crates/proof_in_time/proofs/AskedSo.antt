@@ -10,7 +10,7 @@ use Rattle.serial_frame.specs.declared.item.Item.{Item}
 use Rattle.serial_link.specs.declared.turn.Turn.{Turn}
 use Rattle.serial_link.specs.declared.turn.Turn.TheVariants.{Copied, Idle as no_turn, Paused}
 use Rattle.route_table.specs.declared.route.Route.{Route}
-use Rattle.supervision.specs.Host.{begun_of}
+use Rattle.supervision.specs.Host.{HostBook, begun_of}
 use Rattle.chip_sim.specs.Did.{judged_all}
 use Rattle.chip_sim.specs.Nodes.{is_marked}
 use Rattle.chip_sim.specs.State.{ChipState}
@@ -67,7 +67,8 @@ use Rattle.proof_in_time.specs.Asked.{AreAskedSo, IsAskedNow, IsMessageOf, IsPla
 use Rattle.proof_in_time.specs.Coming.{GoesWhole, GoWhole, IsAsking, IsMessage}
 use Rattle.proof_in_time.proofs.Aired.{frame_airs, same_taken}
 use Rattle.proof_in_time.proofs.Commands.{plain_start}
-use Rattle.proof_in_time.proofs.RequestStays.{GoesSteady, IsSteady, sessions_on, steady_on, steady_still, takes_steady}
+use Rattle.proof_in_time.proofs.NodeWaits.{own_book}
+use Rattle.proof_in_time.proofs.RequestStays.{GoesSteady, IsSteady, steady_on, steady_still, takes_steady}
 
 -- ---- a request goes on
 
@@ -250,7 +251,7 @@ module _ (these : List Bool) (many : length these ≡ 233) (m : Machine) (facts 
       marked = workers n (starts_next m n plan more payload may)
 
       same : (node_of (after h (Starts n plan more payload)) n).book.commands ≡ (node_of h n).book.commands
-      same = let less = marked_within these n marked in sessions_on h (Starts n plan more payload) facts.nodes.places tt n (omega (arith, less, many))
+      same = let less = marked_within these n marked in ap (λ (b : HostBook). b.commands) (own_book n (omega (arith, less, many)) h plan more payload facts.nodes.places)
 
       message : IsMessageOf h n payload
       message = record { begun = starts_begun m n plan more payload may; message = plain_start these m (Starts n plan more payload) may facts go marked }

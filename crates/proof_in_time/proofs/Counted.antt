@@ -135,15 +135,16 @@ module _ (airs : Airs) (facts_kept : (h : HostState) (event : HostEvent) → Hos
       (subst (λ (x : Machine). RestsBefore command more (node_of x.host.state n)) there rests) (as_many (ticks_begun then_at) wait) kept)
       (subst (λ (x : Machine). ticks_begun x + ((node_of x.host.state n).again_wait + (1 + ticks_of_all long these (suc (suc more)))) ≤ ticks_begun (after_all start (before ++ (first ++ lines)))) there enough)
 
-  pub was_accepted : (command : ℕ) (found : Command) → command_at (after_all start (before ++ first)).host.state.commands command ≡ Some found → found.order.node ≡ n → length ready_at.host.state.commands + 1 ≤ command
-      → ticks_begun (after_all start (before ++ first)) + (ticks_blocked (node_of (after_all start (before ++ first)).host.state n) + ticks_of_all long these 18) ≤ ticks_begun (after_all start (before ++ (first ++ lines)))
+  pub was_accepted : (command sessions : ℕ) (found : Command) → command_at (after_all start (before ++ first)).host.state.commands command ≡ Some found → found.order.node ≡ n → length ready_at.host.state.commands + 1 ≤ command
+      → length (node_of (after_all start (before ++ first)).host.state n).waiting + 1 ≤ sessions
+      → ticks_begun (after_all start (before ++ first)) + (ticks_blocked (node_of (after_all start (before ++ first)).host.state n) + ticks_of_all long these sessions) ≤ ticks_begun (after_all start (before ++ (first ++ lines)))
       → HasEnded command (node_of (after_all start (before ++ (first ++ lines))).host.state n).book
-  was_accepted command found found_is for_node since enough =
-      let few : ℕ = ticks_blocked (node_of then_at.host.state n) + ticks_of_all long these 18 in
+  was_accepted command sessions found found_is for_node since waits enough =
+      let few : ℕ = ticks_blocked (node_of then_at.host.state n) + ticks_of_all long these sessions in
       let most : ℕ = ticks_begun then_at + few in
       let taken : taken_at then_at.host.state.commands command ≡ Some (record { order = found.order; carriage = found.carriage }) =
       ap taken_by (subst (λ (x : Machine). command_at x.host.state.commands command ≡ Some found) there found_is) in
       ended command most
-      (λ kept. soon_of these n long Up Know Within is.ground command (most - ticks_begun then_at) (record { order = found.order; carriage = found.carriage }) (length ready_at.host.state.commands) NoneBefore (transcript_of ready_at first) then_at marked node known
-      taken for_node since (as_many (ticks_begun then_at) few) kept)
-      (subst (λ (x : Machine). ticks_begun x + (ticks_blocked (node_of x.host.state n) + ticks_of_all long these 18) ≤ ticks_begun (after_all start (before ++ (first ++ lines)))) there enough)
+      (λ kept. soon_of these n long Up Know Within is.ground command sessions (most - ticks_begun then_at) (record { order = found.order; carriage = found.carriage }) (length ready_at.host.state.commands) NoneBefore (transcript_of ready_at first) then_at marked node known
+      taken for_node since (subst (λ (x : Machine). length (node_of x.host.state n).waiting + 1 ≤ sessions) there waits) (as_many (ticks_begun then_at) few) kept)
+      (subst (λ (x : Machine). ticks_begun x + (ticks_blocked (node_of x.host.state n) + ticks_of_all long these sessions) ≤ ticks_begun (after_all start (before ++ (first ++ lines)))) there enough)

@@ -253,28 +253,25 @@ waiting_is n past h facts numbers =
     (λ k. sym (waiting_recorded (outcome_in h.commands k)) ∙ ap is_waiting (sym (facts.entered k)) ∙ waiting_recorded (outcome k past)) (numbers_for n past)
     ∙ ap (λ (l : List ℕ). filter (λ (k : ℕ). is_waiting (outcome k past)) l) (sym numbers)
 
--- it stands behind 15 others at most
+-- it stands behind fewer than there are
 pub record StandsSoon (n command : ℕ) (h : HostState) : Type 0 where
   pub more : ℕ
-  pub few : more ≤ 15
   pub within : more + 1 ≤ length (node_of h n).waiting
   pub stands : StandsAt command more (node_of h n).waiting
 
 pub stands_soon : (n command : ℕ) (past : List Entry) (h : HostState) → Facts past h → numbers_of (accepted n past) ≡ numbers_for n past → Has (waiting n past) command → StandsSoon n command h
 stands_soon n command past h facts numbers has =
     let at = stands_in (node_of h n).waiting command (subst (λ (l : List ℕ). Has l command) (sym (waiting_is n past h facts numbers)) has) in
-    let within = at.1.0 in
-    let most = (facts.host.nodes.facts n).waiting in
-    record { more = at.0; few = omega (arith, within, most); within = within; stands = at.1.1 }
+    record { more = at.0; within = at.1.0; stands = at.1.1 }
 
 -- so it is in hand
 pub record IsInHandSoon (n command : ℕ) (h : HostState) : Type 0 where
   pub more : ℕ
-  pub few : more ≤ 15
+  pub within : more + 1 ≤ length (node_of h n).waiting
   pub hand : IsInHand command more (node_of h n)
 
 pub waiting_soon : (n command : ℕ) (past : List Entry) (h : HostState) → Facts past h → numbers_of (accepted n past) ≡ numbers_for n past → Has (waiting n past) command → is_open n past ≡ false → IsInHandSoon n command h
-waiting_soon n command past h facts numbers has closed = let at = stands_soon n command past h facts numbers has in record { more = at.more; few = at.few; hand = Unopened (none_open n past h facts closed) at.stands }
+waiting_soon n command past h facts numbers has closed = let at = stands_soon n command past h facts numbers has in record { more = at.more; within = at.within; hand = Unopened (none_open n past h facts closed) at.stands }
 
 -- or it comes after a session whose series is over, where its wait runs
 pub record RestsSoon (n command : ℕ) (h : HostState) : Type 0 where

@@ -1,8 +1,8 @@
--- After the line that asked for a command, or the `wake` line of a node behind its orders, the lines of a stretch ask for as many ticks as have passed since its last such line.
+-- After the line that asked for a command, or the `wake` line of a node behind its orders, the lines of a stretch ask for as many ticks as have passed since the last such line of the node.
 use Rattle.std.proofs.Common.{◌≡◌, ◌≤◌, ℕ, zero, suc, ◌+◌, ◌*◌, inl, inr, true, false, if◌then◌else◌, List, [], ◌∷◌, ◌++◌, append-nil, refl, sym, ap, ap₂, ◌∙◌, subst, arith}
 use Rattle.std.proofs.lemmas.Bool.{eq-eqb}
 use Rattle.std.proofs.lemmas.List.Concat.{flat_map-append}
-use Rattle.std.specs.Prelude.{◌⊎◌, Bool}
+use Rattle.std.specs.Prelude.{◌⊎◌, ◌==◌, Bool}
 use Rattle.std.specs.List.{AllByRecursion, flat_map}
 use Rattle.zw_base.specs.declared.order.Order.{Order}
 use Rattle.zw_text.specs.declared.entry.Entry.{Entry}
@@ -32,27 +32,47 @@ use Rattle.proof_answered.proofs.WokenLast.{turns_both}
 use Rattle.chip_sim.specs.Nodes.{is_marked}
 use Rattle.proof_walk.proofs.Clock.{asked-append}
 use Rattle.proof_in_time.specs.InHand.{ticks_of_all}
+use Rattle.proof_in_time.specs.Waited.{waited_by_for, waited_step_for}
 use Rattle.proof_in_time.proofs.Spoken.{told_both}
 use Rattle.proof_in_time.proofs.Endings.{is_accepted}
 
 -- ---- ticks
 
-step_most : (ticks : ℕ) (one : Line) → waited_step ticks one ≤ ticks + ticks_of one
-step_most ticks (line.Command order) = omega arith
-step_most ticks (line.Wake node) = omega arith
-step_most ticks (line.Tick count) = omega arith
-step_most ticks one = omega arith
+step_most : (n ticks : ℕ) (one : Line) → waited_step_for n ticks one ≤ ticks + ticks_of one
+step_most n ticks (line.Command order) = by (order.node == n)
+  where
+    by : (b : Bool) → (if b then 0 else ticks) ≤ ticks + 0
+    by true = omega arith
+    by false = omega arith
+step_most n ticks (line.Wake node) = by (node == n)
+  where
+    by : (b : Bool) → (if b then 0 else ticks) ≤ ticks + 0
+    by true = omega arith
+    by false = omega arith
+step_most n ticks (line.Tick count) = omega arith
+step_most n ticks one = omega arith
 
-pub waited_most : (ticks : ℕ) (lines : List Line) → waited_by ticks lines ≤ ticks + ticks_asked lines
-waited_most ticks [] = omega arith
-waited_most ticks (one ∷ lines) =
-    let first = step_most ticks one in
-    let rest = waited_most (waited_step ticks one) lines in
+pub waited_most : (n ticks : ℕ) (lines : List Line) → waited_by_for n ticks lines ≤ ticks + ticks_asked lines
+waited_most n ticks [] = omega arith
+waited_most n ticks (one ∷ lines) =
+    let first = step_most n ticks one in
+    let rest = waited_most n (waited_step_for n ticks one) lines in
     omega (arith, first, rest)
 
-waited_both : (ticks : ℕ) (first later : List Line) → waited_by ticks (first ++ later) ≡ waited_by (waited_by ticks first) later
-waited_both ticks [] later = refl
-waited_both ticks (one ∷ first) later = waited_both (waited_step ticks one) first later
+waited_both : (n ticks : ℕ) (first later : List Line) → waited_by_for n ticks (first ++ later) ≡ waited_by_for n (waited_by_for n ticks first) later
+waited_both n ticks [] later = refl
+waited_both n ticks (one ∷ first) later = waited_both n (waited_step_for n ticks one) first later
+
+-- since the last line of a node as many have passed at least as since the last of any
+step_fewer : (n ticks more : ℕ) (one : Line) → ticks ≤ more → waited_step ticks one ≤ waited_step_for n more one
+step_fewer n ticks more (line.Command order) fewer = omega arith
+step_fewer n ticks more (line.Wake node) fewer = omega arith
+step_fewer n ticks more (line.Tick count) fewer = omega (arith, fewer)
+step_fewer n ticks more one fewer = fewer
+
+pub waited_fewer : (n ticks more : ℕ) (lines : List Line) → ticks ≤ more → waited_by ticks lines ≤ waited_by_for n more lines
+waited_fewer n ticks more [] fewer = fewer
+waited_fewer n ticks more (one ∷ lines) fewer = waited_fewer n (waited_step ticks one) (waited_step_for n more one) lines (step_fewer n ticks more one fewer)
 
 pub ticks_most : (these : List Bool) (sessions : ℕ) → marked_to these 232 ≤ 16 → ticks_of_all 6 these sessions ≤ 23 * sessions
 ticks_most these zero few = omega arith
@@ -124,7 +144,7 @@ module _ (listing : List Entry → ℕ → List ℕ) (commands : List Command) (
     pub later : List Spoken
     pub are : lines ≡ first ++ later
     pub has : Has (shown (accepted_for n) (transcript_of m first)) command
-    pub waits : (ticks : ℕ) → waited_by ticks (lines_run (transcript_of m lines)) ≤ ticks_asked (lines_run (transcript_of (after_all m first) later))
+    pub waits : (ticks : ℕ) → waited_by_for n ticks (lines_run (transcript_of m lines)) ≤ ticks_asked (lines_run (transcript_of (after_all m first) later))
 
   shown_both : (first later : List Entry) → shown (accepted_for n) (first ++ later) ≡ shown (accepted_for n) first ++ shown (accepted_for n) later
   shown_both first later = flat_map-append (accepted_for n) first later
@@ -158,9 +178,10 @@ module _ (listing : List Entry → ℕ → List ℕ) (commands : List Command) (
             are = refl;
             has = subst (λ (l : List Entry). Has (shown (accepted_for n) l) command) (sym (append-nil (entries_of m spoken))) own;
             waits = λ ticks.
-                let same : waited_by ticks (lines_run (entries_of m spoken ++ transcript_of (after m spoken) more)) ≡ waited_by 0 (lines_run (transcript_of (after m spoken) more)) =
-                ap (λ (l : List Line). waited_by ticks l) (lines_both (entries_of m spoken) (transcript_of (after m spoken) more) ∙ ap (λ (l : List Line). l ++ lines_run (transcript_of (after m spoken) more)) lines_are) in
-                let most = waited_most 0 (lines_run (transcript_of (after m spoken) more)) in
+                let same : waited_by_for n ticks (lines_run (entries_of m spoken ++ transcript_of (after m spoken) more)) ≡ waited_by_for n 0 (lines_run (transcript_of (after m spoken) more)) =
+                ap (λ (l : List Line). waited_by_for n ticks l) (lines_both (entries_of m spoken) (transcript_of (after m spoken) more) ∙ ap (λ (l : List Line). l ++ lines_run (transcript_of (after m spoken) more)) lines_are)
+                ∙ ap (λ (b : Bool). waited_by_for n (if b then 0 else ticks) (lines_run (transcript_of (after m spoken) more))) (eq-eqb asked.order.node n asked.node) in
+                let most = waited_most n 0 (lines_run (transcript_of (after m spoken) more)) in
                 omega (arith, same, most);
           }
 
@@ -172,9 +193,9 @@ module _ (listing : List Entry → ℕ → List ℕ) (commands : List Command) (
         has = subst (λ (l : List ℕ). Has l command) (sym (shown_both (entries_of m spoken) (transcript_of (after m spoken) asked.first)))
             (has_right (shown (accepted_for n) (entries_of m spoken)) (shown (accepted_for n) (transcript_of (after m spoken) asked.first)) command asked.has);
         waits = λ ticks.
-            let same : waited_by ticks (lines_run (entries_of m spoken ++ transcript_of (after m spoken) more)) ≡ waited_by (waited_by ticks (lines_run (entries_of m spoken))) (lines_run (transcript_of (after m spoken) more)) =
-            ap (λ (l : List Line). waited_by ticks l) (lines_both (entries_of m spoken) (transcript_of (after m spoken) more)) ∙ waited_both ticks (lines_run (entries_of m spoken)) (lines_run (transcript_of (after m spoken) more)) in
-            let most = asked.waits (waited_by ticks (lines_run (entries_of m spoken))) in
+            let same : waited_by_for n ticks (lines_run (entries_of m spoken ++ transcript_of (after m spoken) more)) ≡ waited_by_for n (waited_by_for n ticks (lines_run (entries_of m spoken))) (lines_run (transcript_of (after m spoken) more)) =
+            ap (λ (l : List Line). waited_by_for n ticks l) (lines_both (entries_of m spoken) (transcript_of (after m spoken) more)) ∙ waited_both n ticks (lines_run (entries_of m spoken)) (lines_run (transcript_of (after m spoken) more)) in
+            let most = asked.waits (waited_by_for n ticks (lines_run (entries_of m spoken))) in
             omega (arith, same, most);
       }
 
@@ -238,16 +259,24 @@ module _ (n : ℕ) where
     pub are : lines ≡ first ++ wake ∷ later
     pub wakes : turn_of n wake.line ≡ Wakes ∷ []
     pub none : turns n (transcript_of (after_all m (first ++ wake ∷ [])) later) ≡ []
-    pub waits : (ticks : ℕ) → waited_by ticks (lines_run (transcript_of m lines)) ≤ ticks_asked (lines_run (transcript_of (after_all m (first ++ wake ∷ [])) later))
+    pub waits : (ticks : ℕ) → waited_by_for n ticks (lines_run (transcript_of m lines)) ≤ ticks_asked (lines_run (transcript_of (after_all m (first ++ wake ∷ [])) later))
 
   none_behind : (ts : List Turn) → wakes_last (Wakes ∷ ts) ≡ true → ts ≡ []
   none_behind [] last = refl
   none_behind (one ∷ ts) last = absurd (let wrong : false ≡ true = last in cc)
 
   -- a line that wakes it begins to wait anew
-  anew : (ticks : ℕ) (one : Line) → turn_of n one ≡ Wakes ∷ [] → waited_step ticks one ≡ 0
-  anew ticks (line.Command order) is = refl
-  anew ticks (line.Wake node) is = refl
+  anew : (ticks : ℕ) (one : Line) → turn_of n one ≡ Wakes ∷ [] → waited_step_for n ticks one ≡ 0
+  anew ticks (line.Command order) is = absurd (by (order.node == n) is)
+    where
+      by : (b : Bool) → (if b then Orders ∷ [] else []) ≡ Wakes ∷ [] → ⊥
+      by true wrong = cc
+      by false wrong = cc
+  anew ticks (line.Wake node) is = by (node == n) is
+    where
+      by : (b : Bool) → (if b then Wakes ∷ [] else []) ≡ Wakes ∷ [] → (if b then 0 else ticks) ≡ 0
+      by true own = refl
+      by false wrong = absurd cc
   anew ticks one is = absurd cc
 
   -- and asks for no tick
@@ -270,9 +299,9 @@ module _ (n : ℕ) where
       split : (ts : List Turn) → turn_of n spoken.line ≡ ts → wakes_last (ts ++ turns n (transcript_of (after m spoken) more)) ≡ true
       split ts is = subst (λ (l : List Turn). wakes_last l ≡ true) (then_turns m spoken more are.0 ∙ ap (λ (l : List Turn). l ++ turns n (transcript_of (after m spoken) more)) is) last
 
-      waited_first : (ticks : ℕ) → waited_by ticks (lines_run (transcript_of m (spoken ∷ more))) ≡ waited_by (waited_step ticks spoken.line) (lines_run (transcript_of (after m spoken) more))
+      waited_first : (ticks : ℕ) → waited_by_for n ticks (lines_run (transcript_of m (spoken ∷ more))) ≡ waited_by_for n (waited_step_for n ticks spoken.line) (lines_run (transcript_of (after m spoken) more))
       waited_first ticks =
-          ap (λ (l : List Line). waited_by ticks l)
+          ap (λ (l : List Line). waited_by_for n ticks l)
           (flat_map-append line_of (entries_of m spoken) (transcript_of (after m spoken) more) ∙ ap (λ (l : List Line). l ++ lines_run (transcript_of (after m spoken) more)) (one_line more m spoken are.0))
 
       there : WokenAt (after m spoken) more → WokenAt m (spoken ∷ more)
@@ -283,7 +312,7 @@ module _ (n : ℕ) where
         are = ap (λ (l : List Spoken). spoken ∷ l) at.are;
         wakes = at.wakes;
         none = at.none;
-        waits = λ ticks. let same = waited_first ticks in let most = at.waits (waited_step ticks spoken.line) in omega (arith, same, most);
+        waits = λ ticks. let same = waited_first ticks in let most = at.waits (waited_step_for n ticks spoken.line) in omega (arith, same, most);
       }
 
       by : IsTurn n spoken.line → (wakes_last (turns n (transcript_of (after m spoken) more)) ≡ true → WokenAt m (spoken ∷ more)) → WokenAt m (spoken ∷ more)
@@ -299,7 +328,7 @@ module _ (n : ℕ) where
         waits = λ ticks.
             let same = waited_first ticks in
             let anew_is = anew ticks spoken.line is in
-            let most = waited_most (waited_step ticks spoken.line) (lines_run (transcript_of (after m spoken) more)) in
+            let most = waited_most n (waited_step_for n ticks spoken.line) (lines_run (transcript_of (after m spoken) more)) in
             omega (arith, same, anew_is, most);
       }
 

@@ -44,11 +44,11 @@ use Rattle.zw_text.specs.Transcript.{line_of, lines_run}
 use Rattle.mesh_sim.specs.Air.{is_joined}
 use Rattle.proof_answered.specs.proof_calm.Quiet.{AreQuiet}
 use Rattle.proof_answered.specs.Few.{Knows}
-use Rattle.proof_answered.specs.FirstAttempts.{AndInTime, IsInTime, KnowFirst}
+use Rattle.proof_answered.specs.FirstAttempts.{AllFirst, AndInTime, IsInTime, KnowFirst}
 use Rattle.proof_answered.specs.Heard.{IsHeardThen}
 use Rattle.proof_answered.specs.Outward.{AllFor, AllListen, IsSentTo}
 use Rattle.proof_answered.specs.Sleepers.{AllHear, All_listen, AreWokenSo, HasSleeper, IsAlone, One_sleeps, SaysAs, SleeperAt, StaysUp}
-use Rattle.proof_answered.specs.Workers.{IsWorkedFor, KnowStaff, KnowsWorkers}
+use Rattle.proof_answered.specs.Workers.{IsWorkedFor, KnowStaff, KnowWorkers, KnowsWorkers, Staffed}
 use Rattle.proof_answered.proofs.AwakeNodes.{all_heard}
 use Rattle.proof_answered.proofs.Outwards.{awaits_of, marked_within}
 use Rattle.proof_answered.proofs.Staffing.{sent_on}
@@ -300,6 +300,38 @@ in_time these here past m (Host_does (Node_ticks n)) is known =
 in_time these here past m (Host_does event) is known = tt
 in_time these here past m event is known = tt
 
+-- ---- with the first attempts
+
+-- what is known on a walk, and that each series is at its first attempt
+module _ (these : List Bool) (Has : Machine → Event → Type 0) (Knows : Phase → List Entry → Machine → Type 0) (walk : WalkWhere Has AsksNothing Knows)
+    (staff : (here : Phase) (past : List Entry) (m : Machine) → IsKeptFor these past → Knows here past m → KnowWorkers these here past m × Staffed these here m)
+    (heard : (here : Phase) (past : List Entry) (m : Machine) (event : Event) → IsKeptFor these past → Knows here past m → AndInTime IsHeardThen m event) where
+  pub with_first : WalkWhere (AndInTime IsHeardThen) AsksNothing (KnowFirst (IsWorkedFor these) (KnowStaff these)) → WalkWhere Has AsksNothing (λ here past m. Knows here past m × (IsKeptFor these past → AllFirst m.host.state))
+  with_first first = record {
+    said = λ past m words line read known. (
+      tt,
+      (
+        (walk.said past m words line read known.0).1,
+        λ is.
+            let before = kept_before these past (entry.Said words ∷ []) is in
+            ((first.said past m words line read (λ worked. staff Between past m before known.0, λ worked. known.1 before)).1).1 is.worked,
+      ),
+    );
+    event = λ here next past m event goes may has known. (
+      nothing_asked past (entries m event),
+      (
+        (walk.event here next past m event goes may has known.0).1,
+        λ is.
+            let before = kept_before these past (entries m event) is in
+            ((first.event here next past m event goes may (heard here past m event before known.0) (λ worked. staff here past m before known.0, λ worked. known.1 before)).1).1 is.worked,
+      ),
+    );
+    turn = λ here next past m turns known. (
+      walk.turn here next past m turns known.0,
+      λ is. ((first.turn here next past m turns (λ worked. staff here past m is known.0, λ worked. known.1 is)).1) is.worked,
+    );
+  }
+
 -- what is proved of the frames of the host, and of the device of a node that listens, or sleeps
 pub record Hearing (these : List Bool) : Type 0 where
   pub frames : (here next : Phase) (past : List Entry) (m : Machine) (event : Event) → Goes here m event next → May m event → AreQuiet past → Knows these here past m → IsSentTo these m event → AllFor these m → AllFor these (happens m event)
@@ -450,27 +482,6 @@ module _ (airs : Airs) (these : List Bool) (many : length these ≡ 233) (none :
 
   -- so each series stays at its first attempt
   pub plainly_walk : WalkWhere (AndInTime IsHeardThen) AsksNothing (KnowFirst (IsWorkedFor these) (KnowStaff these)) → WalkWhere (IsPlainlyUp these) AsksNothing (KnowPlainly these)
-  plainly_walk first = record {
-    said = λ past m words line read known. (
-      tt,
-      (
-        (waits_walk.said past m words line read known.0).1,
-        λ is.
-            let before = kept_before these past (entry.Said words ∷ []) is in
-            ((first.said past m words line read (λ worked. (known.0 before).0, λ worked. known.1 before)).1).1 is.worked,
-      ),
-    );
-    event = λ here next past m event goes may has known. (
-      nothing_asked past (entries m event),
-      (
-        (waits_walk.event here next past m event goes may has known.0).1,
-        λ is.
-            let before = kept_before these past (entries m event) is in
-            ((first.event here next past m event goes may (heard_then here past m event before known.0, in_time these here past m event before known.0) (λ worked. (known.0 before).0, λ worked. known.1 before)).1).1 is.worked,
-      ),
-    );
-    turn = λ here next past m turns known. (
-      waits_walk.turn here next past m turns known.0,
-      λ is. ((first.turn here next past m turns (λ worked. (known.0 is).0, λ worked. known.1 is)).1) is.worked,
-    );
-  }
+  plainly_walk first =
+      with_first these (IsPlainlyUp these) (KnowWaits these) waits_walk (λ here past m is known. (known is).0)
+      (λ here past m event is known. (heard_then here past m event is known, in_time these here past m event is known)) first

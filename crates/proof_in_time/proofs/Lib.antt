@@ -40,6 +40,7 @@ mod TrailQuiet
 mod TrailAsked
 mod OpenSteps
 mod TrailSteps
+mod AloneWalk
 mod OpenWaits
 mod Reported
 mod SealedReports
@@ -97,8 +98,9 @@ pub mod Until
 pub mod Asking
 mod Accepted
 mod Counted
+mod FewerWait
 pub mod Endings
-mod LastOrder
+pub mod LastOrder
 mod BegunBefore
 mod EndedSessions
 mod FromFirst

@@ -1,9 +1,6 @@
 -- A count of ticks over lines for one node alone that is a lock: the host listens to it.
-use Rattle.std.proofs.Common.{◌≡◌, ℕ, ◌||◌, inl, inr, Bool, true, false, List, [], ap, sym, ◌∙◌, subst}
-use Rattle.std.specs.Prelude.{◌⊎◌}
-use Rattle.host_node.specs.declared.series.Series.TheVariants as series
+use Rattle.std.proofs.Common.{◌≡◌, ℕ, Bool, true, List, [], subst}
 use Rattle.host_model.specs.State.{node_of}
-use Rattle.world_model.specs.Events.{happens}
 use Rattle.world_model.specs.State.{Machine}
 use Rattle.proof_answered.specs.proof_calm.proof_work.Phases.{AsksNothing}
 use Rattle.proof_answered.specs.proof_calm.proof_work.proof_walk.Phases.{Between, Phase}
@@ -11,9 +8,8 @@ use Rattle.proof_answered.specs.proof_calm.proof_work.proof_walk.Walk.{WalkWhere
 use Rattle.proof_answered.specs.Sleepers.{IsAlone}
 use Rattle.proof_answered.proofs.HeardCalls.{rests_heard}
 use Rattle.proof_answered.proofs.Walking.{begins_known}
-use Rattle.proof_in_time.specs.Coming.{most_then}
 use Rattle.proof_in_time.specs.Locked.{IsLocked, IsReadyLocked, KnowLockedFirst, LockAt, LockCounts, LocksGo}
-use Rattle.proof_in_time.proofs.Counting.{Ground}
+use Rattle.proof_in_time.proofs.Counting.{Ground, alone_ground}
 use Rattle.proof_in_time.proofs.LockWaits.{lock_empty, lock_in_time}
 
 -- as a stretch begins
@@ -29,32 +25,20 @@ module _ (these : List Bool) (n : ℕ) (alone : IsAlone these n) where
   listens_of : (here : Phase) (m : Machine) → IsLocked these here m → (node_of m.host.state n).listens ≡ true
   listens_of here m o = subst (λ (k : ℕ). (node_of m.host.state k).listens ≡ true) (alone.only o.n o.alone.marked) o.served
 
-  -- an attempt that runs
-  still_runs : (most : ℕ) (next : Phase) (m later : Machine) → (node_of m.host.state n).series ≡ series.Running → LockAt n most next later ⊎ (((node_of m.host.state n).series ≡ series.Due) × LockAt n 6 next later) → LockAt n most next later
-  still_runs most next m later runs (inl at) = at
-  still_runs most next m later runs (inr (due, at)) = absurd (let wrong : series.Due ≡ series.Running = sym due ∙ runs in cc)
-
   pub lock_ground : LockCounts these n → WalkWhere (LocksGo these) AsksNothing (KnowLockedFirst these) → Ground these n 6 true (LocksGo these) (KnowLockedFirst these) (LockAt n)
-  lock_ground counts walk = record {
-    lines = record {
-      walk = walk;
-      workers = λ here past m kept known. (known.0 kept).0;
-      in_time = λ here past m event kept known. lock_in_time these here past m event kept known.0;
-    };
-    listens = λ here past m is kept known. listens_of here m (known.0 kept).1;
-    served = λ here past m kept known risen. record {
-      up = λ left. ap (λ (b : Bool). b || (node_of m.host.state n).awake) (listens_of here m (known.0 kept).1);
-      empty = λ turn. lock_empty n 6 here m turn.0 (at_of here m (known.0 kept).1);
-    };
-    within = λ here past m kept known. at_of here m (known.0 kept).1;
-    some = λ most ticks m runs at. counts.some most ticks m runs at;
-    on = λ here next past m event step most runs at.
-        still_runs (most_then most here) next m (happens m event) runs (counts.later here next past m event step.goes step.may step.up step.kept step.was.0 step.then_is.0 most at);
-    turn = λ here next past m turn most at. counts.turned here next past m turn.turns turn.kept turn.was.0 turn.then_is.0 most at;
-    said = λ line m most at. counts.said line m most at;
-    risen_on = λ here next past m event step risen. tt;
-    risen_turn = λ here next past m turn risen. tt;
-    risen_said = λ past m words line read is risen. tt;
-    comes_on = λ here next past m event step sleeps left up. absurd (let wrong : true ≡ false = sleeps in cc);
-    comes_turn = λ here next past m turn sleeps left up. absurd (let wrong : true ≡ false = sleeps in cc);
-  }
+  lock_ground counts walk =
+      alone_ground these n 6 (LocksGo these) (KnowLockedFirst these) (LockAt n)
+      (record {
+        lines = record {
+          walk = walk;
+          workers = λ here past m kept known. (known.0 kept).0;
+          in_time = λ here past m event kept known. lock_in_time these here past m event kept known.0;
+        };
+        listens = λ here past m kept known. listens_of here m (known.0 kept).1;
+        at = λ here past m kept known. at_of here m (known.0 kept).1;
+        empty = λ here m rests at. lock_empty n 6 here m rests at;
+        some = counts.some;
+        later = λ here next past m event step most at. counts.later here next past m event step.goes step.may step.up step.kept step.was.0 step.then_is.0 most at;
+        turned = λ here next past m turn most at. counts.turned here next past m turn.turns turn.kept turn.was.0 turn.then_is.0 most at;
+        said = counts.said;
+      })

@@ -1,11 +1,10 @@
 -- Over lines for one node alone that is a lock and listens, no wait of an attempt runs out.
-use Rattle.std.proofs.Common.{◌≡◌, ◌≢◌, ◌≤◌, ◌<◌, ℕ, suc, inl, inr, Bool, true, false, List, [], ◌∷◌, length, sym, ap, ◌∙◌, subst, arith}
+use Rattle.std.proofs.Common.{◌≡◌, ◌≢◌, ◌≤◌, ◌<◌, ℕ, suc, inl, inr, Bool, true, List, [], ◌∷◌, length, sym, ap, ◌∙◌, subst, arith}
 use Rattle.std.specs.Prelude.{◌⊎◌}
 use Rattle.zw_text.specs.declared.entry.Entry.{Entry}
 use Rattle.zw_text.specs.declared.line.Line.{Line}
 use Rattle.supervision.specs.Host.{begun_of}
 use Rattle.chip_functions.specs.Field.{IsNode}
-use Rattle.chip_sim.specs.Nodes.{is_marked}
 use Rattle.host_node.specs.Facts.{NodeFacts}
 use Rattle.host_node.specs.State.{NodeState}
 use Rattle.host_node.specs.declared.attempt.Plan.{Plan}
@@ -23,14 +22,13 @@ use Rattle.world_model.specs.State.{Machine}
 use Rattle.proof_answered.specs.proof_calm.proof_work.proof_walk.Phases.{Arriving, Between, Doing, Giving, Goes, Moved, Moving, Phase, Said_line, Sleeping, Submitting, Ticking_chip, Ticking_decoder, Ticking_devices, Ticking_host, To_tick, Turns}
 use Rattle.proof_answered.specs.FirstAttempts.{IsInTime}
 use Rattle.proof_answered.specs.Sleepers.{IsAlone}
-use Rattle.proof_answered.specs.Workers.{KnowWorkers, Staffed}
 use Rattle.proof_answered.proofs.AttemptEnds.{LastsAt}
-use Rattle.proof_answered.proofs.Speaking.{either_mark}
 use Rattle.proof_answered.proofs.proof_traffic_Parts.{Airs}
 use Rattle.proof_in_time.specs.Coming.{IsKeptFor, most_then, own_ticks}
 use Rattle.proof_in_time.specs.Exchanging.{RestsSealed, WaitsSealed}
 use Rattle.proof_in_time.specs.Locked.{IsLocked, KnowLocked, LockAt, Seals, Still}
-use Rattle.proof_in_time.proofs.Bounded.{either_node, idle_lasts, waits_none}
+use Rattle.proof_in_time.proofs.AloneWalk.{OneAlone, alone_in_time}
+use Rattle.proof_in_time.proofs.Bounded.{either_node, waits_none}
 use Rattle.proof_in_time.proofs.Carried.{ticks_once}
 use Rattle.proof_in_time.proofs.ExchangeKept.{HasLeft}
 use Rattle.proof_in_time.proofs.ExchangeOwed.{AroundSealed}
@@ -55,23 +53,12 @@ lock_lasts : (n most : ℕ) (here : Phase) (m : Machine) → NodeFacts (node_of 
 lock_lasts n most here m facts (Still once r) one = let none = waits_none (node_of m.host.state n) facts r.rests in omega (arith, none, one)
 lock_lasts n most here m facts (Seals w) one = not_last (node_of m.host.state n).attempt_wait w.left (own_ticks n here) w.waits one
 
-pub known_tied : (these : List Bool) (here : Phase) (past : List Entry) (m : Machine) → IsKeptFor these past → KnowWorkers these here past m → AllTied these here m
-known_tied these here past m is known = (known.0 is.worked.stretched).0.tied is.worked.stretched.quiet
+-- it is one that listens, and its wait is not at its last tick
+pub lock_one : (these : List Bool) (here : Phase) (m : Machine) → IsLocked these here m → OneAlone these (IsLocked these) here m
+lock_one these here m o = record { n = o.n; alone = o.alone; listen = o.listen; lasts = λ facts. lock_lasts o.n 6 here m facts o.at }
 
 pub lock_in_time : (these : List Bool) (here : Phase) (past : List Entry) (m : Machine) (event : Event) → IsKeptFor these past → KnowLocked these here past m → IsInTime m event
-lock_in_time these here past m (Host_does (Node_ticks k)) is known = by (either_mark these k)
-  where
-    at : (KnowWorkers these here past m × Staffed these here m) × IsLocked these here m
-    at = known is
-
-    facts : (j : ℕ) → NodeFacts (node_of m.host.state j)
-    facts j = (known_tied these here past m is at.0.0).7.facts.nodes.facts j
-
-    by : (is_marked these k ≡ true) ⊎ (is_marked these k ≡ false) → (node_of m.host.state k).attempt_wait ≢ 1
-    by (inl marked) = subst (λ (j : ℕ). (node_of m.host.state j).attempt_wait ≢ 1) (sym (at.1.alone.only k marked)) (lock_lasts at.1.n 6 here m (facts at.1.n) at.1.at)
-    by (inr other) = idle_lasts (node_of m.host.state k) (facts k) ((at.0.0.1 is.worked.stretched).others k other).idle
-lock_in_time these here past m (Host_does event) is known = tt
-lock_in_time these here past m event is known = tt
+lock_in_time these here past m event is known = alone_in_time these (IsLocked these) (lock_one these) here past m event is known
 
 -- ---- what it lists stays
 

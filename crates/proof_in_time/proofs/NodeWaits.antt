@@ -25,6 +25,7 @@ use Rattle.host_requests.specs.declared.task.Purpose.TheVariants.{Housekeeping, 
 use Rattle.host_node.specs.declared.attempt.AttemptEnd.{AttemptEnd}
 use Rattle.host_node.specs.declared.attempt.AttemptEnd.TheVariants.{NoneRan, Again, Unanswered}
 use Rattle.host_node.specs.declared.attempt.Plan.{Plan}
+use Rattle.host_node.specs.declared.attempt.Plan.TheVariants.{Sealed, Segments, Whole}
 use Rattle.host_model.specs.After.{after, node_does}
 use Rattle.host_model.specs.Ends.{attempt_ended, PartEnd, Good, Passed_over, Bad, part_end}
 use Rattle.host_model.specs.Sessions.{open_command}
@@ -181,6 +182,11 @@ tick_from n lasts = by ((before_attempt n).attempt_wait == 1) refl
 
 -- ---- one node of a host, at its events
 
+start_book : (x : NodeState) (plan : Plan) → (after_start x plan).book ≡ x.book
+start_book x Whole = refl
+start_book x (Segments count) = refl
+start_book x (Sealed plain) = refl
+
 module _ (n : ℕ) where
   abbrev pub AllowsOf : ℕ → NodeState → NodeEvent → Type 0
   AllowsOf k state event = IsLoose event ⊎ (k ≢ n)
@@ -271,3 +277,7 @@ module _ (n : ℕ) where
   -- an attempt of its own starts
   pub own_start : (within : n < 233) (h : HostState) (plan : Plan) (more : Bool) (payload : List ℕ) → length h.nodes ≡ 233 → node_of (after h (Starts_of n plan more payload)) n ≡ after_start (node_of h n) plan
   own_start within h plan more payload places = get_or-set_same h.nodes n (after_start (node_of h n) plan) (unknown 0) (subst (λ (l : ℕ). n < l) (sym places) within)
+
+  -- with the sessions as they were
+  pub own_book : (within : n < 233) (h : HostState) (plan : Plan) (more : Bool) (payload : List ℕ) → length h.nodes ≡ 233 → (node_of (after h (Starts_of n plan more payload)) n).book ≡ (node_of h n).book
+  own_book within h plan more payload places = ap (λ (x : NodeState). x.book) (own_start within h plan more payload places) ∙ start_book (node_of h n) plan

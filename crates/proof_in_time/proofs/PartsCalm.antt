@@ -36,7 +36,7 @@ use Rattle.proof_answered.proofs.Followed.{payload_all}
 use Rattle.proof_answered.proofs.Judging.{Follow, MayTell}
 use Rattle.proof_in_time.proofs.JudgedWaits.{IsTold, told_beside, told_followers}
 use Rattle.proof_in_time.proofs.NodeWaits.{OnTable, beside_table}
-use Rattle.proof_in_time.proofs.PartsKept.{GivesAs, LeavesAsked, LeavesParts, LeavesTasks, event_as, event_on, gives_itself}
+use Rattle.proof_in_time.proofs.PartsKept.{GivesAs, LeavesAsked, LeavesParts, LeavesTasks, event_as, event_on, gives_itself, gives_then}
 
 -- ---- events at which nothing comes to wait
 
@@ -125,14 +125,7 @@ HasPlaces h = length h.nodes ≡ 233
 
 pub then_kept : (n : ℕ) (a b c : HostState) → KeptFor n a b → KeptFor n b c → KeptFor n a c
 then_kept n a b c first later = record {
-  node = record {
-    running = first.node.running;
-    commands_are = later.node.commands_are ∙ first.node.commands_are;
-    next_is = later.node.next_is ∙ first.node.next_is;
-    count = later.node.count ∙ first.node.count;
-    text_is = later.node.text_is ∙ first.node.text_is;
-    pending_is = later.node.pending_is ∙ first.node.pending_is;
-  };
+  node = gives_then (node_of a n) (node_of b n) (node_of c n) first.node later.node;
   outcome = later.outcome ∙ first.outcome;
   queue = later.queue ∙ first.queue;
   last_id = later.last_id ∙ first.last_id;

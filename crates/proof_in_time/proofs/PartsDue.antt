@@ -76,9 +76,6 @@ module _ (airs : Airs) (laws : SliceLaws) (these : List Bool) (n : ℕ) (marked 
     unfolding May
     due_waits bare = by due_parts
       where
-        then_m : Machine
-        then_m = happens m (Host_does (Starts n plan more payload))
-
         host : (happens m (Host_does (Starts n plan more payload))).host.state ≡ after m.host.state (Starts n plan more payload)
         host = host_then m (Starts n plan more payload)
 

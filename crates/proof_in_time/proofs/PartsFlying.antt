@@ -18,7 +18,7 @@ use Rattle.proof_answered.specs.proof_calm.Tied.{At_chip, Called, IsOf, LeaveIt,
 use Rattle.proof_answered.proofs.Arrivals.{outward-append}
 use Rattle.proof_in_time.specs.Parts.{AllPlain, Amid, AmidTwo, ComesPlainly, HasCall}
 use Rattle.proof_in_time.proofs.Lasting.{no_call}
-use Rattle.proof_in_time.proofs.PartsCarried.{AllHome, call_last}
+use Rattle.proof_in_time.proofs.PartsCarried.{call_last}
 use Rattle.proof_in_time.proofs.PartsLanded.{SaidBy}
 
 -- ---- frames of devices
@@ -35,10 +35,6 @@ said_out n [] [] said = refl
 said_out n [] (frame ∷ news) said = absurd said
 said_out n (reply ∷ replies) [] said = absurd said
 said_out n (reply ∷ replies) (frame ∷ news) said = home_out frame news said.0.1.0 ∙ said_out n replies news said.1
-
-pub home_all_out : (flights : List Flown) → AllHome flights → outward flights ≡ 0
-home_all_out [] all = refl
-home_all_out (frame ∷ flights) all = home_out frame flights all.0 ∙ home_all_out flights all.1
 
 pub none_out : (a b : List Flown) → outward a ≡ 0 → outward b ≡ 0 → outward (a ++ b) ≡ 0
 none_out a b first later = let both = outward-append a b in omega (arith, both, first, later)

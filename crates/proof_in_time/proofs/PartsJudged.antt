@@ -67,7 +67,7 @@ use Rattle.proof_in_time.proofs.PartsCalm.{HasPlaces, KeptFor, LeavesRunning, Ru
 use Rattle.proof_in_time.proofs.PartsCarried.{SameFor, Wraps, amid_next, give_on, itself_wraps, same_for, way_on}
 use Rattle.proof_in_time.proofs.PartsGiven.{wanted_at}
 use Rattle.proof_in_time.proofs.PartsHosted.{cut_same}
-use Rattle.proof_in_time.proofs.PartsKept.{GivesAs}
+use Rattle.proof_in_time.proofs.PartsKept.{GivesAs, gives_then}
 use Rattle.proof_in_time.proofs.PartsPhases.{StaysSo, cut_so, same_first, within_so}
 
 -- ---- what stands in front, and behind
@@ -98,28 +98,14 @@ pub record TakesTask (n : ℕ) (task : Task) (old new : HostState) : Type 0 wher
 
 kept_takes : (n : ℕ) (task : Task) (a b c : HostState) → KeptFor n a b → TakesTask n task b c → TakesTask n task a c
 kept_takes n task a b c first later = record {
-  node = record {
-    running = first.node.running;
-    commands_are = later.node.commands_are ∙ first.node.commands_are;
-    next_is = later.node.next_is ∙ first.node.next_is;
-    count = later.node.count ∙ first.node.count;
-    text_is = later.node.text_is ∙ first.node.text_is;
-    pending_is = later.node.pending_is ∙ first.node.pending_is;
-  };
+  node = gives_then (node_of a n) (node_of b n) (node_of c n) first.node later.node;
   queue = later.queue;
   orders = λ number. later.orders number ∙ first.orders number;
 }
 
 takes_kept : (n : ℕ) (task : Task) (a b c : HostState) → TakesTask n task a b → KeptFor n b c → TakesTask n task a c
 takes_kept n task a b c first later = record {
-  node = record {
-    running = first.node.running;
-    commands_are = later.node.commands_are ∙ first.node.commands_are;
-    next_is = later.node.next_is ∙ first.node.next_is;
-    count = later.node.count ∙ first.node.count;
-    text_is = later.node.text_is ∙ first.node.text_is;
-    pending_is = later.node.pending_is ∙ first.node.pending_is;
-  };
+  node = gives_then (node_of a n) (node_of b n) (node_of c n) first.node later.node;
   queue = later.queue ∙ first.queue;
   orders = λ number. later.orders number ∙ first.orders number;
 }

@@ -71,6 +71,17 @@ IsAside event = Unit {0}
 pub gives_itself : (n : NodeState) → Gives n n
 gives_itself n = λ run. record { running = run; commands_are = refl; next_is = refl; count = refl; text_is = refl; pending_is = refl }
 
+-- one after the other
+pub gives_then : (a b c : NodeState) → GivesAs a b.book.commands b.next_segment b.segments b.text b.pending → GivesAs b c.book.commands c.next_segment c.segments c.text c.pending → GivesAs a c.book.commands c.next_segment c.segments c.text c.pending
+gives_then a b c first later = record {
+  running = first.running;
+  commands_are = later.commands_are ∙ first.commands_are;
+  next_is = later.next_is ∙ first.next_is;
+  count = later.count ∙ first.count;
+  text_is = later.text_is ∙ first.text_is;
+  pending_is = later.pending_is ∙ first.pending_is;
+}
+
 not_due : series.Due ≢ series.Running
 not_due e = absurd cc
 

@@ -79,9 +79,6 @@ module _ (airs : Airs) (these : List Bool) (many : length these ≡ 233) (n sess
     (later_tie : TieOf true (chip_taken m rest ways) []) (sent : IsSentTo these m (Outside_does (Chip_takes (length m.outside.outer.to_chip.bytes) rest ways))) (peopled : IsPeopled these m)
     (sends : one_if (is_some m.outside.outer.chip.state.sending) ≡ outward (on_air m.outside.outer.air.frames))
     (then_sends : one_if (is_some (chip_taken m rest ways).outside.outer.chip.state.sending) ≡ outward (on_air (chip_taken m rest ways).outside.outer.air.frames)) where
-  abbrev then_taken : Machine
-  then_taken = chip_taken m rest ways
-
   abbrev Comes : FrameParts → Type 0
   Comes frame = IsFromSaying these TellsPlainly frame
 

@@ -12,7 +12,7 @@ use Rattle.host_node.specs.declared.attempt.Plan.{Plan}
 use Rattle.host_node.specs.declared.attempt.Plan.TheVariants.{Segments}
 use Rattle.host_node.specs.declared.series.Series.TheVariants as series
 use Rattle.host_model.specs.After.{after}
-use Rattle.host_model.specs.Events.{HostEvent, Starts}
+use Rattle.host_model.specs.Events.{Starts}
 use Rattle.host_model.specs.Facts.{HostFacts}
 use Rattle.host_model.specs.Sessions.{segment_count}
 use Rattle.host_model.specs.State.{HostState, node_of}
@@ -43,17 +43,8 @@ use Rattle.proof_in_time.proofs.PartsPhases.{same_first, within_so}
 module _ (airs : Airs) (laws : SliceLaws) (these : List Bool) (n : ℕ) (marked : is_marked these n ≡ true) (within : n < 233) (passes ticks : ℕ) (m : Machine) (plan : Plan) (more : Bool) (payload : List ℕ) (facts : HostFacts m.host.state) (go : GoOpenly these m.host.state.commands)
     (places : length m.host.state.nodes ≡ 233) (due : (node_of m.host.state n).series ≡ series.Due) (empty : m.host.state.requests.queue ≡ []) (gives : GivesFirst these m.host.state n facts go marked plan payload)
     (takes : TakesParts n (begun_of (node_of m.host.state n).book) m) (plain : AllPlain these (on_air m.outside.outer.air.frames)) (told : AllTold these (unheard m.outside.outer)) where
-  abbrev event : HostEvent
-  event = Starts n plan more payload
-
   abbrev then_done : Machine
   then_done = happens m (Host_does (Starts n plan more payload))
-
-  session : ℕ
-  session = begun_of (node_of m.host.state n).book
-
-  old : NodeState
-  old = node_of m.host.state n
 
   node_then : node_of (after m.host.state (Starts n plan more payload)) n ≡ after_start (node_of m.host.state n) (Segments (segment_count gives.message))
   node_then = own_start n within m.host.state plan more payload places ∙ ap (after_start (node_of m.host.state n)) gives.plan_is

@@ -24,13 +24,11 @@ use Rattle.host_requests.specs.declared.task.Purpose.{Purpose}
 use Rattle.host_requests.specs.declared.task.Purpose.TheVariants.{Attempt}
 use Rattle.host_requests.specs.declared.under_way.UnderWay.{UnderWay}
 use Rattle.host_node.specs.State.{NodeState, has_waiting, is_idle, is_open, is_running, is_up}
-use Rattle.host_node.specs.Steps.{after_again, after_again_tick, after_attempt_end, after_attempt_tick, after_attempts, after_hold_tick, after_no_more, after_occasion, after_sign, after_sleep, after_start, after_told, as_recorded, asleep, new_series, next_due, series_over, tried_again, wait_ticks, with_again, with_wait, without_attempt}
+use Rattle.host_node.specs.Steps.{after_again, after_again_tick, after_attempt_end, after_attempt_tick, after_attempts, after_hold_tick, after_no_more, after_occasion, after_sign, after_sleep, after_told, asleep, new_series, next_due, series_over, tried_again, wait_ticks, with_again, with_wait, without_attempt}
 use Rattle.host_node.specs.Events.{NodeEvent, after as after_node}
 use Rattle.host_node.specs.Events.NodeEvent.{Accepts as node_accepts, Begins as node_begins, Ends_attempt, Ends_no_more, Notifies as node_notifies, Reports, Restarts, Sleeps, Starts as node_starts, Succeeds, Ticks as node_ticks}
 use Rattle.host_node.specs.declared.attempt.Moment.{Moment}
 use Rattle.host_node.specs.declared.attempt.Moment.TheVariants.{BetweenTicks}
-use Rattle.host_node.specs.declared.attempt.Plan.{Plan}
-use Rattle.host_node.specs.declared.attempt.Plan.TheVariants.{Sealed, Segments, Whole}
 use Rattle.host_node.specs.declared.no_more.NoMore.TheVariants.{Unasked}
 use Rattle.host_model.specs.After.{after, failing_if, gives_up, line_ticked, requests_do}
 use Rattle.host_model.specs.Did.{after_all}
@@ -51,18 +49,19 @@ use Rattle.proof_answered.proofs.proof_traffic_Parts.{Airs}
 use Rattle.proof_answered.proofs.NodeSteps.{AllowsAt, AllowsEnd, AllowsEndIf, AllowsPart, IsAside, IsFree, event_is}
 use Rattle.proof_answered.proofs.SleeperHosts.{PlaceIs, each_place}
 
--- ---- the sessions of a node
+-- ---- the sessions of a node, and the segments of its attempt
 
--- a session begins, or the host starts again
+-- no session begins, no attempt starts, nor does the host start again
 abbrev KeepsBook : NodeEvent → Type 0
 KeepsBook node_begins = ⊥
+KeepsBook (node_starts plan) = ⊥
 KeepsBook Restarts = ⊥
 KeepsBook event = Unit {0}
 
-module _ (sessions : List ℕ) where
-  -- these are those of a node
+module _ (sessions : List ℕ) (count : ℕ) where
+  -- these are the sessions of a node, and its attempt has so many segments, or none
   abbrev Had : NodeState → Type 0
-  Had x = x.book.commands ≡ sessions
+  Had x = (x.book.commands ≡ sessions) × ((x.segments ≡ 0) ⊎ (x.segments ≡ count))
 
   either_had : (b : Bool) (x y : NodeState) → Had x → Had y → Had (if b then x else y)
   either_had true x y first later = first
@@ -82,7 +81,7 @@ module _ (sessions : List ℕ) where
 
   end_had : (x : NodeState) (moment : Moment) → Had x → Had (after_attempt_end x moment)
   end_had x moment had =
-      either_had (is_running x.series) (after_attempts (without_attempt x) (x.book.attempts + 1) moment) x (attempts_had (without_attempt x) (x.book.attempts + 1) moment had) had
+      either_had (is_running x.series) (after_attempts (without_attempt x) (x.book.attempts + 1) moment) x (attempts_had (without_attempt x) (x.book.attempts + 1) moment (had.0, inl refl)) had
 
   again_had : (x : NodeState) → Had x → Had (after_again x)
   again_had x had = either_had (has_waiting x) (after_occasion x) x (occasion_had x had) had
@@ -94,19 +93,14 @@ module _ (sessions : List ℕ) where
   attempt_tick_had x had = either_had (x.attempt_wait == 1) (after_attempt_end x BetweenTicks) (with_wait x (x.attempt_wait - 1)) (end_had x BetweenTicks had) had
 
   told_had : (x : NodeState) (status : ℕ) (it : Told) → Had x → Had (after_told x status it)
-  told_had x status (Final session) had = had
+  told_had x status (Final session) had = (had.0, inl refl)
   told_had x status Working had = sign_had x had
   told_had x status Old had = had
-
-  start_had : (x : NodeState) (plan : Plan) → Had x → Had (after_start x plan)
-  start_had x Whole had = had
-  start_had x (Segments count) had = had
-  start_had x (Sealed plain) had = had
 
   node_had : (x : NodeState) (event : NodeEvent) → KeepsBook event → Had x → Had (after_node x event)
   node_had x node_accepts keeps had = occasion_had x had
   node_had x node_begins keeps had = absurd keeps
-  node_had x (node_starts plan) keeps had = start_had x plan had
+  node_had x (node_starts plan) keeps had = absurd keeps
   node_had x Succeeds keeps had = sign_had x had
   node_had x (Ends_attempt moment) keeps had = end_had x moment had
   node_had x (Reports id status) keeps had = told_had x status (told_of x.book id status) had
@@ -123,11 +117,13 @@ KeepsAny n x event = KeepsBook event
 
 free_keeps : (n : ℕ) (x : NodeState) (event : NodeEvent) → IsFree event → KeepsAny n x event
 free_keeps n x node_begins free = absurd free
+free_keeps n x (node_starts plan) free = absurd free
 free_keeps n x Restarts free = absurd free
 free_keeps n x event free = tt
 
 aside_keeps : (x : NodeState) (event : NodeEvent) → IsAside event → KeepsBook event
 aside_keeps x node_begins aside = absurd aside
+aside_keeps x (node_starts plan) aside = absurd aside
 aside_keeps x Restarts aside = absurd aside
 aside_keeps x event aside = tt
 
@@ -146,133 +142,30 @@ end_if_keeps h (Some end) moment = end_keeps h end.purpose end.how moment
 
 -- ---- an event of the host
 
--- it begins no session; and where the line counts a tick, no frame of the host's own is on it
+-- it begins no session, and starts no attempt; and where the line counts a tick, no frame of the host's own is on it
 abbrev BeginsNone : HostState → HostEvent → Type 0
 BeginsNone h (Begins n session command) = ⊥
+BeginsNone h (Starts n plan more payload) = ⊥
 BeginsNone h Line_ticks = h.side.turn ≡ no_turn
 BeginsNone h event = Unit {0}
 
 none_begins : (h : HostState) (event : HostEvent) → BeginsNone h event → AllowsAt KeepsAny h event
 none_begins h (Requests_do event moment) none = end_if_keeps h (end_at h.requests event) moment
 none_begins h (Begins k session command) none = absurd none
+none_begins h (Starts k plan more payload) none = absurd none
 none_begins h Line_ticks none = none
 none_begins h event none = tt
 
--- the table has as many nodes, and one of them its sessions
-had_on : (h : HostState) (event : HostEvent) → length h.nodes ≡ 233 → BeginsNone h event → (n : ℕ) → n < 233 → PlaceIs (Had (node_of h n).book.commands) n (after h event).nodes
+-- those of a node of it, or no segments
+abbrev Was : HostState → ℕ → NodeState → Type 0
+Was h n x = Had (node_of h n).book.commands (node_of h n).segments x
+
+-- the table has as many nodes, and so it is of each
+had_on : (h : HostState) (event : HostEvent) → length h.nodes ≡ 233 → BeginsNone h event → (n : ℕ) → n < 233 → PlaceIs (Was h n) n (after h event).nodes
 had_on h event places none n within =
-    event_is KeepsAny (PlaceIs (Had sessions) n) free_keeps (λ nodes k one keeps at. each_place (Had sessions) (λ x e. KeepsBook e) aside_keeps (node_had sessions) n within nodes k one (λ same. keeps) at) h event (none_begins h event none)
-    (record { places = places; is = refl })
-  where
-    sessions : List ℕ
-    sessions = (node_of h n).book.commands
-
-pub sessions_on : (h : HostState) (event : HostEvent) → length h.nodes ≡ 233 → BeginsNone h event → (n : ℕ) → n < 233 → (node_of (after h event) n).book.commands ≡ (node_of h n).book.commands
-sessions_on h event places none n within = (had_on h event places none n within).is
-
--- ---- the segments of the attempt of a node
-
--- an attempt starts
-abbrev StartsNone : NodeEvent → Type 0
-StartsNone (node_starts plan) = ⊥
-StartsNone event = Unit {0}
-
-module _ (count : ℕ) where
-  -- there are none, or so many
-  abbrev Cut : NodeState → Type 0
-  Cut x = (x.segments ≡ 0) ⊎ (x.segments ≡ count)
-
-  either_cut : (b : Bool) (x y : NodeState) → Cut x → Cut y → Cut (if b then x else y)
-  either_cut true x y first later = first
-  either_cut false x y first later = later
-
-  occasion_cut : (x : NodeState) → Cut x → Cut (after_occasion x)
-  occasion_cut x cut = either_cut (is_open x && is_up x && is_idle x.series) (new_series x) x cut cut
-
-  sleep_cut : (x : NodeState) → Cut x → Cut (after_sleep x)
-  sleep_cut x cut = either_cut x.listens x (asleep x) cut cut
-
-  sign_cut : (x : NodeState) → Cut x → Cut (after_sign x)
-  sign_cut x cut = either_cut (is_running x.series) (with_wait x wait_ticks) x cut cut
-
-  attempts_cut : (x : NodeState) (attempts : ℕ) (moment : Moment) → Cut x → Cut (after_attempts x attempts moment)
-  attempts_cut x attempts moment cut = either_cut (nat_lt attempts 3) (next_due x attempts) (after_sleep (series_over x attempts moment)) cut (sleep_cut (series_over x attempts moment) cut)
-
-  end_cut : (x : NodeState) (moment : Moment) → Cut x → Cut (after_attempt_end x moment)
-  end_cut x moment cut =
-      either_cut (is_running x.series) (after_attempts (without_attempt x) (x.book.attempts + 1) moment) x (attempts_cut (without_attempt x) (x.book.attempts + 1) moment (inl refl)) cut
-
-  again_cut : (x : NodeState) → Cut x → Cut (after_again x)
-  again_cut x cut = either_cut (has_waiting x) (after_occasion x) x (occasion_cut x cut) cut
-
-  again_tick_cut : (x : NodeState) → Cut x → Cut (after_again_tick x)
-  again_tick_cut x cut = either_cut (x.again_wait == 1) (after_again (with_again x 0)) (with_again x (x.again_wait - 1)) (again_cut (with_again x 0) cut) cut
-
-  attempt_tick_cut : (x : NodeState) → Cut x → Cut (after_attempt_tick x)
-  attempt_tick_cut x cut = either_cut (x.attempt_wait == 1) (after_attempt_end x BetweenTicks) (with_wait x (x.attempt_wait - 1)) (end_cut x BetweenTicks cut) cut
-
-  told_cut : (x : NodeState) (status : ℕ) (it : Told) → Cut x → Cut (after_told x status it)
-  told_cut x status (Final session) cut = inl refl
-  told_cut x status Working cut = sign_cut x cut
-  told_cut x status Old cut = cut
-
-  node_cut : (x : NodeState) (event : NodeEvent) → StartsNone event → Cut x → Cut (after_node x event)
-  node_cut x node_accepts none cut = occasion_cut x cut
-  node_cut x (node_starts plan) none cut = absurd none
-  node_cut x Succeeds none cut = sign_cut x cut
-  node_cut x (Ends_attempt moment) none cut = end_cut x moment cut
-  node_cut x (Reports id status) none cut = told_cut x status (told_of x.book id status) cut
-  node_cut x node_notifies none cut = occasion_cut (record x { awake = true; no_more = tried_again x.no_more }) cut
-  node_cut x Sleeps none cut = sleep_cut x cut
-  node_cut x Ends_no_more none cut = sleep_cut (after_no_more x Unasked) cut
-  node_cut x node_ticks none cut = attempt_tick_cut (after_again_tick (after_hold_tick x)) (again_tick_cut (after_hold_tick x) cut)
-  node_cut x Restarts none cut = occasion_cut (as_recorded x) (inl refl)
-  node_cut x event none cut = cut
-
-abbrev StartsNoneOf : ℕ → NodeState → NodeEvent → Type 0
-StartsNoneOf n x event = StartsNone event
-
-free_starts : (n : ℕ) (x : NodeState) (event : NodeEvent) → IsFree event → StartsNoneOf n x event
-free_starts n x (node_starts plan) free = absurd free
-free_starts n x event free = tt
-
-aside_starts : (x : NodeState) (event : NodeEvent) → IsAside event → StartsNone event
-aside_starts x (node_starts plan) aside = absurd aside
-aside_starts x event aside = tt
-
-part_starts : (h : HostState) (k : ℕ) (end : PartEnd) (moment : Moment) → AllowsPart StartsNoneOf k (node_of h k) end moment
-part_starts h k Good moment = tt
-part_starts h k Passed_over moment = tt
-part_starts h k Bad moment = tt
-
-end_starts : (h : HostState) (purpose : Purpose) (how : How) (moment : Moment) → AllowsEnd StartsNoneOf h purpose how moment
-end_starts h (Attempt k more payload) how moment = part_starts h k (part_end more how) moment
-end_starts h purpose how moment = tt
-
-end_if_starts : (h : HostState) (end : Option End) (moment : Moment) → AllowsEndIf StartsNoneOf h end moment
-end_if_starts h None moment = tt
-end_if_starts h (Some end) moment = end_starts h end.purpose end.how moment
-
--- none starts at an event of the host; and where the line counts a tick, no frame of the host's own is on it
-abbrev pub StartsNo : HostState → HostEvent → Type 0
-StartsNo h (Starts n plan more payload) = ⊥
-StartsNo h Line_ticks = h.side.turn ≡ no_turn
-StartsNo h event = Unit {0}
-
-none_starts : (h : HostState) (event : HostEvent) → StartsNo h event → AllowsAt StartsNoneOf h event
-none_starts h (Requests_do event moment) none = end_if_starts h (end_at h.requests event) moment
-none_starts h (Starts k plan more payload) none = absurd none
-none_starts h Line_ticks none = none
-none_starts h event none = tt
-
--- an attempt of the node has none then, or as many as before
-pub segments_on : (h : HostState) (event : HostEvent) → length h.nodes ≡ 233 → StartsNo h event → (n : ℕ) → n < 233 → ((node_of (after h event) n).segments ≡ 0) ⊎ ((node_of (after h event) n).segments ≡ (node_of h n).segments)
-segments_on h event places none n within =
-    (event_is StartsNoneOf (PlaceIs (Cut count) n) free_starts (λ nodes k one keeps at. each_place (Cut count) (λ x e. StartsNone e) aside_starts (node_cut count) n within nodes k one (λ same. keeps) at) h event (none_starts h event none)
-    (record { places = places; is = inr refl })).is
-  where
-    count : ℕ
-    count = (node_of h n).segments
+    event_is KeepsAny (PlaceIs (Was h n) n) free_keeps
+    (λ nodes k one keeps at. each_place (Was h n) (λ x e. KeepsBook e) aside_keeps (node_had (node_of h n).book.commands (node_of h n).segments) n within nodes k one (λ same. keeps) at) h event (none_begins h event none)
+    (record { places = places; is = (refl, inr refl) })
 
 -- ---- from one host to another
 
@@ -336,13 +229,9 @@ IsSteady h event = IsApart event
 
 steady_begins : (h : HostState) (event : HostEvent) → IsSteady h event → BeginsNone h event
 steady_begins h (Begins n session command) steady = absurd steady
+steady_begins h (Starts n plan more payload) steady = absurd steady
 steady_begins h Line_ticks steady = steady
 steady_begins h event steady = tt
-
-steady_starts : (h : HostState) (event : HostEvent) → IsSteady h event → StartsNo h event
-steady_starts h (Starts n plan more payload) steady = absurd steady
-steady_starts h Line_ticks steady = steady
-steady_starts h event steady = tt
 
 kept_request : (h g : HostState) → kept g ≡ kept h → (v : UnderWay) → g.requests.under_way ≡ Some v → (u : UnderWay) × ((h.requests.under_way ≡ Some u) × (v.purpose ≡ u.purpose))
 kept_request h g same v is = (v, (sym (ap (λ (k : OfHost). k.1) same) ∙ is, refl))
@@ -372,8 +261,8 @@ pub steady_on : (h : HostState) (event : HostEvent) → length h.nodes ≡ 233 �
 steady_on h event places steady = record {
   request = one_request h event steady;
   places = (had_on h event places (steady_begins h event steady) 0 (omega arith)).places;
-  sessions = sessions_on h event places (steady_begins h event steady);
-  segments = segments_on h event places (steady_starts h event steady);
+  sessions = λ n within. (had_on h event places (steady_begins h event steady) n within).is.0;
+  segments = λ n within. (had_on h event places (steady_begins h event steady) n within).is.1;
 }
 
 -- ---- what the host judges

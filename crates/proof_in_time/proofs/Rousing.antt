@@ -84,9 +84,6 @@ lands_up airs m is drawn route at given later room n live left frames ticks (Fli
     by (length stands.before) (omega (arith, few))
     (stands_next (IsNotification n) at.frame at.rest (record { before = stands.before; frame = stands.frame; behind = stands.behind; are = sym at.were ∙ stands.are; is = stands.is }))
   where
-    then_there : Machine
-    then_there = happens m (Outside_does (Arrives drawn route))
-
     by : (place : ℕ) → unless_ticking (nat_lt place (suc frames)) ≤ left → IsNotification n at.frame ⊎ ((on : Stands (IsNotification n) at.rest) × (place ≡ suc (length on.before)))
         → ComesUp n left (Arriving frames ticks) (happens m (Outside_does (Arrives drawn route)))
     by place soon (inl tells) =

@@ -11,7 +11,6 @@ use Rattle.serial_link.specs.declared.turn.Turn.{Turn}
 use Rattle.serial_link.specs.declared.turn.Turn.TheVariants.{Idle as no_turn}
 use Rattle.chip_functions.specs.Field.{IsNode}
 use Rattle.chip_sim.specs.Nodes.{is_marked}
-use Rattle.chip_sim.specs.State.{ChipState}
 use Rattle.device_sim.specs.State.{State}
 use Rattle.host_heard.specs.declared.told.Told.{Told}
 use Rattle.host_heard.specs.declared.told.Told.TheVariants.{NonceGet, NonceReport, Notification, Report, SegmentRequest, Values}
@@ -131,12 +130,6 @@ module _ (n session : ℕ) (within : n < 233) where
         → AllByRecursion (SaysOn n session within these only) (unheard m.outside.outer) → RunIn m → RunIn (happens m (Host_takes (length m.outside.outer.to_host.bytes) rest items events))
     takes_runs b passes m rest items events may at tie says r = by at
       where
-        s : ChipState
-        s = m.outside.outer.chip.state
-
-        then_m : Machine
-        then_m = happens m (Host_takes (length m.outside.outer.to_host.bytes) rest items events)
-
         idles : (host turn : Turn) (frames : List FrameParts) → OnLine [] [] host turn frames m → RunIn (happens m (Host_takes (length m.outside.outer.to_host.bytes) rest items events))
         idles host turn frames line = host_run m (Host_takes (length m.outside.outer.to_host.bytes) rest items events) (host_idles m host turn frames rest items events line may).2 r
 

@@ -21,7 +21,7 @@ use Rattle.air_frames.specs.declared.frame.Heading.TheVariants.{Homeward, Outwar
 use Rattle.device_kinds.specs.Kind.{lists}
 use Rattle.host_node.specs.Search.{next_of}
 use Rattle.host_node.specs.State.{NodeState, unknown}
-use Rattle.host_node.specs.Steps.{after_segment}
+use Rattle.host_node.specs.Steps.{after_begin, after_block, after_segment}
 use Rattle.host_requests.specs.Frames.{frame_of}
 use Rattle.host_requests.specs.declared.task.Purpose.TheVariants.{Attempt}
 use Rattle.host_requests.specs.declared.under_way.Progress.TheVariants.{Submitted}
@@ -69,7 +69,7 @@ use Rattle.proof_in_time.proofs.PartsHosted.{host_then}
 use Rattle.proof_in_time.proofs.PartsMoved.{busy_air, carried_sends, free_air}
 use Rattle.proof_in_time.proofs.PartsPhases.{FirstStays, same_first}
 use Rattle.proof_in_time.proofs.PartsSupplied.{TiedAt}
-use Rattle.proof_in_time.proofs.RequestStays.{GoesSteady, StartsNo, segments_on}
+use Rattle.proof_in_time.proofs.RequestStays.{GoesSteady}
 use Rattle.proof_in_time.proofs.Settled.{chip_devices}
 use Rattle.proof_in_time.proofs.TrailDevices.{AgainLaws, LandsAt, first_on, heard_so, home_first, out_taken, taken_so}
 
@@ -200,18 +200,25 @@ module _ (airs : Airs) (devices : Devices) (laws : SegmentLaws) (again : AgainLa
         by (inl none) = none
         by (inr has) = absurd (let wrong : None ≡ Some has.session = sym closed ∙ has.opened in cc)
 
-    still_none : (event : HostEvent) → StartsNo m.host.state event → open_session (node_of m.host.state n).book ≡ None → 1 ≤ (node_of (after m.host.state event) n).segments → ⊥
-    still_none event none closed some = by (segments_on m.host.state event tied.peopled.facts.nodes.places none n within)
-      where
-        by : ((node_of (after m.host.state event) n).segments ≡ 0) ⊎ ((node_of (after m.host.state event) n).segments ≡ (node_of m.host.state n).segments) → ⊥
-        by (inl zero_is) = absurd (omega (arith, some, zero_is))
-        by (inr same) = let before = idle_none closed in absurd (omega (arith, some, same, before))
-
     begins_none : (was : Was) (session command : ℕ) → MayHost m.host.state (Begins n session command) → Asks (Begins n session command)
-    begins_none was session command may = nothing was (Begins n session command) refl may.0.free (λ some. absurd (still_none (Begins n session command) tt may.1.1 some))
+    begins_none was session command may =
+        nothing was (Begins n session command) refl may.0.free
+        (λ some.
+        let there : node_of (after m.host.state (Begins n session command)) n ≡ after_begin (node_of m.host.state n) =
+        get_or-set_same m.host.state.nodes n (after_begin (node_of m.host.state n)) (unknown 0) (subst (λ (l : ℕ). n < l) (sym tied.peopled.facts.nodes.places) within) in
+        let before : 1 ≤ (node_of m.host.state n).segments = subst (λ (x : NodeState). 1 ≤ x.segments) there some in
+        let none = idle_none may.1.1 in
+        absurd (omega (arith, before, none)))
 
     unkept_none : (was : Was) → MayHost m.host.state (Begin_unkept n) → Asks (Begin_unkept n)
-    unkept_none was may = nothing was (Begin_unkept n) refl may.0.free (λ some. absurd (still_none (Begin_unkept n) tt may.1.1 some))
+    unkept_none was may =
+        nothing was (Begin_unkept n) refl may.0.free
+        (λ some.
+        let there : node_of (after m.host.state (Begin_unkept n)) n ≡ after_block (node_of m.host.state n) =
+        get_or-set_same m.host.state.nodes n (after_block (node_of m.host.state n)) (unknown 0) (subst (λ (l : ℕ). n < l) (sym tied.peopled.facts.nodes.places) within) in
+        let before : 1 ≤ (node_of m.host.state n).segments = subst (λ (x : NodeState). 1 ≤ x.segments) there some in
+        let none = idle_none may.1.1 in
+        absurd (omega (arith, before, none)))
 
     each : Was → SubmittedAre Is
     each was = record {

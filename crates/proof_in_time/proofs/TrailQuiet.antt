@@ -48,7 +48,7 @@ use Rattle.proof_in_time.specs.Trail.{GivesPlainly, HasTaken, Is_again, Is_whole
 use Rattle.proof_in_time.proofs.AskedSo.{Goes_on, Step, Submits, Takes, starts_begun, step_of}
 use Rattle.proof_in_time.proofs.Bounded.{Devices}
 use Rattle.proof_in_time.proofs.InTurn.{left_of}
-use Rattle.proof_in_time.proofs.NodeWaits.{own_start}
+use Rattle.proof_in_time.proofs.NodeWaits.{own_book, own_start}
 use Rattle.proof_in_time.proofs.OpenBeside.{Beside, BesideTurn, StartsNone}
 use Rattle.proof_in_time.proofs.OpenSpeaks.{says_then, speaks_then}
 use Rattle.proof_in_time.proofs.PartsArriving.{SegmentLaws}
@@ -58,7 +58,6 @@ use Rattle.proof_in_time.proofs.PartsHosted.{host_then}
 use Rattle.proof_in_time.proofs.PartsSupplied.{TiedAt}
 use Rattle.proof_in_time.proofs.Plainly.{Tells}
 use Rattle.proof_in_time.proofs.Queued.{queue_on}
-use Rattle.proof_in_time.proofs.RequestStays.{sessions_on}
 use Rattle.proof_in_time.proofs.TrailDevices.{AgainLaws, says_plainly}
 use Rattle.proof_in_time.proofs.TrailOut.{IsOutPlainly, steady_plainly, submits_plainly, takes_plainly}
 
@@ -133,7 +132,7 @@ module _ (airs : Airs) (devices : Devices) (laws : SegmentLaws) (again : AgainLa
     begun_then : length m.host.state.nodes ≡ 233 → last_begun n (happens m (Host_does (Starts n plan more payload))) ≡ last_begun n m
     begun_then places =
         ap (λ (g : HostState). begun_of (node_of g n).book) (host_then m (Starts n plan more payload))
-        ∙ ap (λ (l : List ℕ). length l) (sessions_on m.host.state (Starts n plan more payload) places tt n within)
+        ∙ ap begun_of (own_book n within m.host.state plan more payload places)
 
     starts_out : (passes ticks : ℕ) → TiedAt these (Submitting passes ticks) m → May m (Host_does (Starts n plan more payload)) → IsHeardPlainly n (happens m (Host_does (Starts n plan more payload))) payload
         → (1 ≤ (node_of (happens m (Host_does (Starts n plan more payload))).host.state n).segments → HasTaken n (happens m (Host_does (Starts n plan more payload))))

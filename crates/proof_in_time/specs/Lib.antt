@@ -18,6 +18,7 @@ pub mod Exchange
 pub mod SealedHosts
 pub mod Exchanging
 pub mod Locked
+pub mod Waited
 pub mod Stretch
 pub use Rattle.proof_course_sealed.specs.LockNodes
 pub use Rattle.proof_answered.specs as proof_answered

@@ -37,11 +37,12 @@ pub fn messages_are_answered()
     when_changes_come();
 }
 
-/// A device that takes its commands in segments, awake and in step with the host, makes this of a segment of the message of that session: where it has not taken
-/// the session, it keeps the slice and says nothing, or asks for the first slice that is missing, or hears the message and answers it; where it has, it
+/// A device that takes its commands in segments, awake and in step with the host, makes this of a segment of the message of that session: where it has not
+/// taken the session, it keeps the slice and says nothing, or asks for the first slice that is missing, or hears the message and answers it; where it has, it
 /// tells the status again at the last segment.
 pub fn segments_are_answered()
-    ensures { (orders : List Asked) (commands : List ℕ) (device : State) (drawn payload : List ℕ) (session : ℕ) (is : IsSegmentOf orders commands session payload) →
+    ensures { (orders : List Asked) (commands : List ℕ) (device : State) (drawn payload : List ℕ) (session : ℕ)
+        (is : IsSegmentOf orders commands session payload) →
         device.awake ≡ true → device.kind ≡ Configurable → IsInStep session device → KeepsNext orders commands (device.sessions.taken + 1) device.reassembly →
         AnswersPart session is.place is.message payload device (device_after device (Hears payload drawn)) (device_replies device (Hears payload drawn)) }
 {

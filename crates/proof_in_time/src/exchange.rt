@@ -57,7 +57,8 @@ pub fn hosts_go_on_in_exchanges()
         HasSubmitted n (λ payload. payload ≡ form NonceGet) now old passes ticks m → NoneGo n m → TextWaits n session m.host.state → 6 ≤ left →
         Exchange n session left (Submitting passes ticks) m }
     ensures sealed { (n session left : ℕ) (here : Phase) (device : State) (old : HostState) (events : List HostEvent) (m : Machine) →
-        SealsForLive n session device old events → m.host.state ≡ after_all old events → old.requests.queue ≡ [] → NoneGo n m → (at : IsThere n m.outside.devices) →
+        SealsForLive n session device old events → m.host.state ≡ after_all old events → old.requests.queue ≡ [] → NoneGo n m →
+        (at : IsThere n m.outside.devices) →
         at.device ≡ device → IsOwed here m → 4 ≤ left → Exchange n session left here m }
     ensures texts { (n session left passes ticks : ℕ) (device : State) (now : NodeState) (old : HostState) (m : Machine) →
         HasSubmitted n (IsForLive session device) now old passes ticks m → NoneGo n m → (at : IsThere n m.outside.devices) → at.device ≡ device → 4 ≤ left →
@@ -69,8 +70,8 @@ pub fn hosts_go_on_in_exchanges()
         HasSubmitted n (OffersLive n old) now old passes ticks m → NoneGo n m → (at : IsThere n m.outside.devices) → ReportWaits session at.device → 2 ≤ left →
         Exchange n session left (Submitting passes ticks) m }
 {}
-/// A lock in step is as it was after an event at which no frame of the host for it arrives, and none is heard again (`same`). So what shows its live nonce does so
-/// still, as what is sealed for that is, and the report that waits for a nonce of the host waits still.
+/// A lock in step is as it was after an event at which no frame of the host for it arrives, and none is heard again (`same`). So what shows its live nonce
+/// does so still, as what is sealed for that is, and the report that waits for a nonce of the host waits still.
 pub fn locks_stay_as_they_were()
     ensures same { (n : ℕ) (m : Machine) (event : Event) → LockInStep n m → IsUnheardAt n m event → (at : IsThere n m.outside.devices)
         (later : IsThere n (happens m event).outside.devices) → SameLock at.device later.device }

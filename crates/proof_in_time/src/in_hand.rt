@@ -30,11 +30,11 @@ use proof_walk::time_goes_on;
 /// turn of the node comes nearer, and from its attempt on as many ticks begin at most until the host is told as that takes (`long`): six and one where messages
 /// go whole, sealed or not, 23 and one where they may go in segments. One that waits after a session that is open and whose series is over has it once the wait
 /// until the next series has gone down, and as many ticks for its own session and each of those before (`rests`). So each command that was accepted in these
-/// lines has it within 18 times as many ticks (`accepted`), and that one more, since at most 16 wait. As the stretch begins no task of the host waits, what is
-/// on its way to it asks for none, and it listens to these nodes. So it stays where no attempt runs: what they answer asks for a nonce or a segment only while
-/// one does. Of one node alone that sleeps, each command that waited as the stretch began, or was accepted in it, has it within 18 times as many ticks, and two
-/// more, from the end of its `wake` line on (`woken`): its Notification comes to the host in the next tick, and the node stays up while something is left for
-/// it.
+/// lines has it (`accepted`) within as many such spans as commands wait for its node there, and one more for the session that is open, and that one tick more
+/// where the node is blocked: it stands among those that wait, or its session is open. As the stretch begins no task of the host waits, what is on its way to
+/// it asks for none, and it listens to these nodes. So it stays where no attempt runs: what they answer asks for a nonce or a segment only while one does. Of
+/// one node alone that sleeps, each command that waited as the stretch began, or was accepted in it, has it within as many spans, and two ticks more, from the
+/// end of its `wake` line on (`woken`): its Notification comes to the host in the next tick, and the node stays up while something is left for it.
 pub fn commands_end_in_time()
     ensures in_hand { (long : ℕ) (these : List Bool) (n command more : ℕ) (keys : Keys) (devices : List State) (before first lines : List Spoken) →
         IsListeningFor these n keys devices before (first ++ lines) long → is_marked these n ≡ true →
@@ -51,23 +51,25 @@ pub fn commands_end_in_time()
         (1 + ticks_of_all long these (suc (suc more)))) ≤
         ticks_begun (after_all (first_machine keys (Some []) devices) (before ++ (first ++ lines))) →
         HasEnded command (node_of (after_all (first_machine keys (Some []) devices) (before ++ (first ++ lines))).host.state n).book }
-    ensures accepted { (long : ℕ) (these : List Bool) (n command : ℕ) (found : Command) (keys : Keys) (devices : List State)
+    ensures accepted { (long : ℕ) (these : List Bool) (n command sessions : ℕ) (found : Command) (keys : Keys) (devices : List State)
         (before first lines : List Spoken) →
         IsListeningFor these n keys devices before (first ++ lines) long → is_marked these n ≡ true →
         command_at (after_all (first_machine keys (Some []) devices) (before ++ first)).host.state.commands command ≡ Some found →
         found.order.node ≡ n →
         length (after_all (first_machine keys (Some []) devices) before).host.state.commands + 1 ≤ command →
+        length (node_of (after_all (first_machine keys (Some []) devices) (before ++ first)).host.state n).waiting + 1 ≤ sessions →
         ticks_begun (after_all (first_machine keys (Some []) devices) (before ++ first)) +
-        (ticks_blocked (node_of (after_all (first_machine keys (Some []) devices) (before ++ first)).host.state n) + ticks_of_all long these 18) ≤
+        (ticks_blocked (node_of (after_all (first_machine keys (Some []) devices) (before ++ first)).host.state n) + ticks_of_all long these sessions) ≤
         ticks_begun (after_all (first_machine keys (Some []) devices) (before ++ (first ++ lines))) →
         HasEnded command (node_of (after_all (first_machine keys (Some []) devices) (before ++ (first ++ lines))).host.state n).book }
-    ensures woken { (these : List Bool) (n command : ℕ) (keys : Keys) (devices : List State) (before first : List Spoken) (wake : Spoken)
+    ensures woken { (these : List Bool) (n command sessions : ℕ) (keys : Keys) (devices : List State) (before first : List Spoken) (wake : Spoken)
         (lines : List Spoken) →
         IsStretchFor these keys devices before (first ++ wake ∷ lines) → is_marked these n ≡ true →
         is_up (node_of (after_all (first_machine keys (Some []) devices) before).host.state n) ≡ false → turn_of n wake.line ≡ Wakes ∷ [] →
         IsGiven n command (after_all (first_machine keys (Some []) devices) before).host.state
         (after_all (first_machine keys (Some []) devices) (before ++ (first ++ wake ∷ []))).host.state →
-        ticks_begun (after_all (first_machine keys (Some []) devices) (before ++ (first ++ wake ∷ []))) + (2 + ticks_of_all 6 these 18) ≤
+        length (node_of (after_all (first_machine keys (Some []) devices) (before ++ (first ++ wake ∷ []))).host.state n).waiting + 1 ≤ sessions →
+        ticks_begun (after_all (first_machine keys (Some []) devices) (before ++ (first ++ wake ∷ []))) + (2 + ticks_of_all 6 these sessions) ≤
         ticks_begun (after_all (first_machine keys (Some []) devices) (before ++ (first ++ wake ∷ lines))) →
         HasEnded command (node_of (after_all (first_machine keys (Some []) devices) (before ++ (first ++ wake ∷ lines))).host.state n).book }
 {

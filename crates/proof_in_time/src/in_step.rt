@@ -18,8 +18,9 @@ use proof_course_plain::{
 
 /// Over any lines from the first machine on, whatever is lost, repeated or changed and however often the host starts again: where the first device of a node
 /// takes what is not sealed, and the orders for the node go unsealed, at each event it is in step with the host: the host's last session of it is the last
-/// that it took, or the next one, and then it is at no work. Where it is at work it is to tell the end of that within five ticks. And each order for the node
-/// is for an end point up to 127. A device that takes what it takes whole still does.
+/// that it took, or the next one, and then it is at no work. Where it is at work it is to tell the end of that within five ticks. While it has not taken the
+/// last session, nothing on its way to the host tells the end of that. And each order for the node is for an end point up to 127. A device that takes what it
+/// takes whole still does.
 pub fn nodes_stay_in_step()
     ensures along { (n : ℕ) (keys : Keys) (devices : List State) (lines : List Spoken) → n < 233 → IsPlainOver devices (events_of lines) n →
         AreDone (first_machine keys (Some []) devices) lines → AllAlong (GoesInStep n) (first_machine keys (Some []) devices) (events_of lines) }

@@ -16,8 +16,8 @@ ghost use Rattle.proof_in_time.specs.Exchange.{IsCounted, IsHome, ShowsLive};
 use proof_course_plain::at_most_two_are_on_the_air;
 use proof_course_sealed::exchanges_go_on;
 
-/// Where the courses of a lock are where the machine is, each frame of the lock on the air holds what they say, and so does each payload of it that the chip has
-/// for the host; where such a payload shows the live nonce of the lock, the host counts that as the last that it saw, or the next.
+/// Where the courses of a lock are where the machine is, each frame of the lock on the air holds what they say, and so does each payload of it that the chip
+/// has for the host; where such a payload shows the live nonce of the lock, the host counts that as the last that it saw, or the next.
 pub fn what_locks_say_is_in_their_courses()
     ensures flies { (past : Past) (n : ℕ) (c : Courses) (up down : List Item) (m : Machine) (payload : List ℕ) → WorldFollows past n c up down m →
         Stands (IsHome n (λ said. said ≡ payload)) (on_air m.outside.outer.air.frames) → (held : Held) × NodeMeans past n payload held }

@@ -34,25 +34,14 @@ use proof_spoken::{
 
 /// Over any lines from the first machine on, the last of which an allocation failure may have cut short, and however often the host starts again: where the
 /// devices of some nodes list neither Security 0 nor Transport Service, each command that was ever accepted for one of these goes whole and unsealed, and so
-/// does each order. For the host takes no such node to list one of the two, and refuses an order for it whose message has no room in one payload.
-pub fn orders_go_whole()
-    ensures { (these : List Bool) (keys : Keys) (devices : List State) (lines : List Spoken) → ListOpenly these devices →
+/// does each order. For the host takes no such node to list one of the two, and refuses an order for it whose message has no room in one payload. And where
+/// they do not list Security 0, each goes unsealed, whole or in segments.
+pub fn orders_go_unsealed()
+    ensures whole { (these : List Bool) (keys : Keys) (devices : List State) (lines : List Spoken) → ListOpenly these devices →
         AreDone (first_machine keys (Some []) devices) lines →
         GoWhole these (after_all (first_machine keys (Some []) devices) lines).host.state.commands ×
         ((n : ℕ) → is_marked these n ≡ true → AllByRecursion (OrdersPlain n) (events_of lines)) }
-{
-    interviews_give_what_is_known();
-    interviews_tell_what_nodes_list();
-    lines_ask_plainly();
-    lines_keep_and_ask_well();
-    restarts_go_on();
-    the_machine_keeps_facts();
-}
-
-/// And where the devices of some nodes do not list Security 0, each command that was ever accepted for one of these goes unsealed, whole or in segments, and so
-/// does each order.
-pub fn orders_go_openly()
-    ensures { (these : List Bool) (keys : Keys) (devices : List State) (lines : List Spoken) → ListUnsealed these devices →
+    ensures openly { (these : List Bool) (keys : Keys) (devices : List State) (lines : List Spoken) → ListUnsealed these devices →
         AreDone (first_machine keys (Some []) devices) lines →
         GoOpenly these (after_all (first_machine keys (Some []) devices) lines).host.state.commands ×
         ((n : ℕ) → is_marked these n ≡ true → AllByRecursion (OrdersPlain n) (events_of lines)) }
@@ -65,8 +54,8 @@ pub fn orders_go_openly()
     the_machine_keeps_facts();
 }
 
-/// Where the device of a node lists Security 0, and the host knew so as it accepted each command of the node that is not over, each of these that waits or whose
-/// session is open goes sealed.
+/// Where the device of a node lists Security 0, and the host knew so as it accepted each command of the node that is not over, each of these that waits or
+/// whose session is open goes sealed.
 pub fn commands_go_sealed()
     ensures { (these : List Bool) (n : ℕ) (keys : Keys) (devices : List State) (lines : List Spoken) → is_marked these n ≡ true → n < 233 →
         AreDone (first_machine keys (Some []) devices) lines → lists (listing_of devices n) 0x98 ≡ true →
@@ -87,9 +76,9 @@ pub fn commands_go_sealed()
     the_machine_keeps_facts();
 }
 
-/// So nodes whose devices are of kinds that take commands in sessions, not sealed, whole, are what `nodes_stay_in_step` asks of nodes, over any lines, where all
-/// devices are as their makers left them. Where they take commands in sessions, not sealed, in segments too, they are what its `openly` asks of nodes. All are at
-/// no work.
+/// So nodes whose devices are of kinds that take commands in sessions, not sealed, whole, are what `nodes_stay_in_step` asks of nodes, over any lines, where
+/// all devices are as their makers left them. Where they take commands in sessions, not sealed, in segments too, they are what its `openly` asks of nodes.
+/// All are at no work.
 pub fn nodes_are_plain_by_kind()
     ensures plain { (these : List Bool) (key : List ℕ) (keys : Keys) (devices : List State) (lines : List Spoken) →
         AllByRecursion (IsAsMade key) devices → ArePlainByKind these devices → AreDone (first_machine keys (Some []) devices) lines →
@@ -101,6 +90,5 @@ pub fn nodes_are_plain_by_kind()
 {
     devices_follow_the_course();
     idle_devices_stay_idle();
-    orders_go_openly();
-    orders_go_whole();
+    orders_go_unsealed();
 }

@@ -70,8 +70,8 @@ pub fn hosts_exchange_nonces()
     exchanges_go_on();
 }
 
-/// As the host submits something for a lock alone in a sealed exchange, that is the text or the nonce that waited, which is on its way then; at all other places
-/// of the exchange nothing is submitted.
+/// As the host submits something for a lock alone in a sealed exchange, that is the text or the nonce that waited, which is on its way then; at all other
+/// places of the exchange nothing is submitted.
 pub fn exchanges_are_submitted()
     ensures { (n session left passes ticks : ℕ) (m : Machine) (event : HostEvent) → n < length m.host.state.nodes →
         ((k : ℕ) → next_of m.host.state.nodes m.host.state.served ≡ Some k → k ≡ n) → (node_of m.host.state n).series ≡ Running →

@@ -1,5 +1,5 @@
--- A stretch for one node alone that does not list Security 0: 500 ticks have passed where each of its commands has had that many; and one that sleeps takes no segments.
-use Rattle.std.proofs.Common.{◌≡◌, ◌≤◌, ◌+◌, ◌*◌, ◌==◌, ◌||◌, ℕ, Bool, true, false, List, [], ◌∷◌, length, refl, sym, ap, ◌∙◌, arith}
+-- A stretch for one node alone: it has had its own ticks where each of its commands has had 500; and one that sleeps takes no segments.
+use Rattle.std.proofs.Common.{◌≡◌, ◌≤◌, ◌+◌, ◌*◌, ◌==◌, ◌||◌, ℕ, suc, Bool, true, false, List, [], ◌∷◌, length, refl, sym, ap, ◌∙◌, arith}
 use Rattle.std.proofs.lemmas.Bool.{false≢true, leb-true}
 use Rattle.std.specs.Prelude.{Option, Some, None}
 use Rattle.std.specs.List.{list_any}
@@ -7,12 +7,15 @@ use Rattle.device_kinds.specs.Kind.{classes_of, listens as kind_listens}
 use Rattle.device_kinds.specs.declared.kind.Kind.{Kind}
 use Rattle.device_kinds.specs.declared.kind.Kind.TheVariants.{Relay, Switch, Dimmer, Lock, Sensor, Thermostat, Strip, Configurable}
 use Rattle.zw_text.specs.declared.entry.Entry.{Entry}
+use Rattle.zw_text.specs.Transcript.{lines_run}
 use Rattle.law_wire.specs.law_transcript.Lists.{Has}
 use Rattle.law_wire.specs.law_transcript.Nodes.{device_of, listed_by}
 use Rattle.law_time.specs.Interviews.{listens}
 use Rattle.law_time.specs.Questions.{same_bool}
 use Rattle.law_time.specs.Stretches.{commands_in, is_time, knows_device, lists_a_layer, waited, work_of, workers}
 use Rattle.proof_rests.specs.proof_attempts.proof_host.device_sim.State.{State}
+use Rattle.proof_in_time.specs.Waited.{waited_for}
+use Rattle.proof_in_time.proofs.LastOrder.{waited_fewer}
 
 -- ---- ticks
 
@@ -21,18 +24,20 @@ has_some [] c has = absurd has
 has_some (one ∷ l) c has = omega arith
 
 -- each command of the one node has had 500 ticks
-pub each_long : (past stretch : List Entry) (n : ℕ) → workers past stretch ≡ n ∷ [] → is_time past stretch ≡ true → 500 * length (commands_in past stretch n) ≤ waited stretch
+each_long : (past stretch : List Entry) (n : ℕ) → workers past stretch ≡ n ∷ [] → is_time past stretch ≡ true → 500 * length (commands_in past stretch n) ≤ waited stretch
 each_long past stretch n one time =
     let work : work_of past stretch (workers past stretch) ≡ length (commands_in past stretch n) + 0 = ap (λ (l : List ℕ). work_of past stretch l) one in
     let far : 500 * work_of past stretch (workers past stretch) ≤ waited stretch = leb-true (500 * work_of past stretch (workers past stretch)) (waited stretch) time in
     omega (arith, work, far)
 
--- so there were as many in all, where it has one
-pub enough : (past stretch : List Entry) (n c : ℕ) → workers past stretch ≡ n ∷ [] → Has (commands_in past stretch n) c → is_time past stretch ≡ true → 500 ≤ waited stretch
-enough past stretch n c one has time =
+-- so it has had its own, where it has a command
+pub own_long : (past stretch : List Entry) (n c : ℕ) → workers past stretch ≡ n ∷ [] → Has (commands_in past stretch n) c → is_time past stretch ≡ true
+    → 101 + 30 * suc (length (commands_in past stretch n)) ≤ waited_for n stretch
+own_long past stretch n c one has time =
     let some : 1 ≤ length (commands_in past stretch n) = has_some (commands_in past stretch n) c has in
     let far = each_long past stretch n one time in
-    omega (arith, some, far)
+    let fewer : waited stretch ≤ waited_for n stretch = waited_fewer n 0 0 (lines_run stretch) (omega arith) in
+    omega (arith, some, far, fewer)
 
 -- ---- kinds
 

@@ -27,9 +27,9 @@ use Rattle.proof_in_time.specs.proof_answered.Sleepers.{IsAlone}
 use Rattle.proof_in_time.specs.proof_answered.Workers.{IsAway}
 use Rattle.proof_in_time.proofs.JudgedOutcomes.{same_device, same_listing}
 use Rattle.proof_ready.specs.Ease.{clock_of}
-use Rattle.proof_ready.specs.Ready.{AreFit, AreKnown, AreSo, AreWorkers, HostIsStill, Listeners, Locked_one, OneSleeps, One_alone, Open_one, Plain_ones, Sleeper, marks_of}
+use Rattle.proof_ready.specs.Ready.{AreByFit, AreFit, AreKnown, AreSo, AreWorkers, HostIsStill, Listeners, Locked_one, OneSleeps, One_alone, Open_one, Plain_ones, Sleeper, marks_of}
 use Rattle.proof_ready.proofs.Marks.{marked_is, unmarked_beyond}
-use Rattle.proof_ready.proofs.OneOpen.{device_known, each_long, enough, sleeper_plain}
+use Rattle.proof_ready.proofs.OneOpen.{device_known, sleeper_plain}
 
 -- ---- lists
 
@@ -77,7 +77,7 @@ none_before [] more none = refl
 none_before (command ∷ waits) more none = absurd (false≢true (sym none))
 
 -- a list of one
-one_alone : (l : List ℕ) → (length l == 1) ≡ true → (n : ℕ) × (l ≡ n ∷ [])
+pub one_alone : (l : List ℕ) → (length l == 1) ≡ true → (n : ℕ) × (l ≡ n ∷ [])
 one_alone [] one = absurd (false≢true one)
 one_alone (n ∷ []) one = (n, refl)
 one_alone (n ∷ other ∷ more) one = absurd (let many : suc (suc (length more)) ≡ 1 = eqb-true (length (n ∷ other ∷ more)) 1 one in omega (arith, many))
@@ -161,10 +161,10 @@ same_layers olds news same n = ap (λ (l : List ℕ). list_any (λ class. (class
 same_security : (olds news : List State) → AreSame olds news → (n : ℕ) → lists_security olds n ≡ lists_security news n
 same_security olds news same n = ap (λ (l : List ℕ). list_any (λ class. class == 0x98) l) (sym (same_listing n olds news same))
 
-pub so_before : (these : List Bool) (past stretch : List Entry) (olds news : List State) → AreSame olds news → AreSo these news past stretch → AreSo these olds past stretch
-so_before these past stretch olds news same (Plain_ones plain) = Plain_ones (λ n marked. same_layers olds news same n ∙ plain n marked)
-so_before these past stretch olds news same (Open_one one layered unsealed) = Open_one one (same_layers olds news same one.node ∙ layered) (same_security olds news same one.node ∙ unsealed)
-so_before these past stretch olds news same (Locked_one one sealed) = Locked_one one (same_security olds news same one.node ∙ sealed)
+so_before : (these : List Bool) (past : List Entry) (olds news : List State) → AreSame olds news → AreSo these news past → AreSo these olds past
+so_before these past olds news same (Plain_ones plain) = Plain_ones (λ n marked. same_layers olds news same n ∙ plain n marked)
+so_before these past olds news same (Open_one one layered unsealed) = Open_one one (same_layers olds news same one.node ∙ layered) (same_security olds news same one.node ∙ unsealed)
+so_before these past olds news same (Locked_one one sealed) = Locked_one one (same_security olds news same one.node ∙ sealed)
 
 filter_same : (so other : ℕ → Bool) → ((n : ℕ) → so n ≡ other n) → (l : List ℕ) → filter so l ≡ filter other l
 filter_same so other same [] = refl
@@ -197,14 +197,6 @@ all_of_one So (one ∷ more) n all has = by (one == n) refl has (all_of_one So m
     by true same has later = subst So (eqb-true one n same) all.0
     by false other has later = later has
 
--- where one node is at work, and each of its commands has had 500 ticks, so have all
-pub open_long : (past stretch : List Entry) → is_alone past stretch ≡ true → is_time past stretch ≡ true → is_long_enough stretch ≡ true
-open_long past stretch alone time =
-    let one = one_alone (workers past stretch) alone in
-    let here : list_any (λ k. k == one.0) (workers past stretch) ≡ true = ap (λ (l : List ℕ). list_any (λ k. k == one.0) l) one.1 ∙ ap (λ (b : Bool). b || false) (eq-eqb one.0 one.0 refl) in
-    let some = some_of (commands_in past stretch one.0) (in_filter (λ node. not (are_none (commands_in past stretch node))) (joined past) one.0 here).1 in
-    le-leb 500 (waited stretch) (enough past stretch one.0 some.0 one.1 some.1 time)
-
 -- ---- the nodes at work
 
 module _ (key : List ℕ) (devices : List State) (past stretch : List Entry) (quiet : is_quiet key devices past stretch ≡ true) (are_fit : AreFit devices past stretch)
@@ -235,7 +227,7 @@ module _ (key : List ℕ) (devices : List State) (past stretch : List Entry) (qu
       (third_of (list_all is_quiet_line (lines_run stretch)) (nat_le (length (workers past stretch)) 16) (list_all (λ node. knows_node key devices past node) (workers past stretch))
       (list_all (is_woken_so past stretch) (joined past ++ flat_map woken_by (lines_run stretch))) quiet) (at_work n marked)
 
-  plain_listener : are_plain_listeners devices past stretch ≡ true → (n : ℕ) → is_marked these n ≡ true → (listens n past ≡ true) × (not (lists_a_layer devices n) ≡ true)
+  pub plain_listener : are_plain_listeners devices past stretch ≡ true → (n : ℕ) → is_marked these n ≡ true → (listens n past ≡ true) × (not (lists_a_layer devices n) ≡ true)
   plain_listener listeners n marked =
       and_parts (listens n past) (not (lists_a_layer devices n)) (of_one (λ node. is_plain_listener devices past node) (workers past stretch) n listeners (at_work n marked))
 
@@ -275,31 +267,31 @@ module _ (key : List ℕ) (devices : List State) (past stretch : List Entry) (qu
           let one = one_alone (workers past stretch) (and_parts (is_alone past stretch) (list_all (is_plain_sleeper devices past) (workers past stretch)) sleeper).0 in
           let alone = alone_is one.0 one.1 in
           inr (record { node = one.0; alone = alone; sleeps = not_so (listens one.0 past) (plain_sleeper sleeper one.0 alone.marked).0 })
-      by (One_alone alone_so time) =
+      by (One_alone alone_so) =
           let one = one_alone (workers past stretch) alone_so in
           one_hears one.0 (alone_is one.0 one.1) (listens one.0 past) refl
 
-  pub are_so : AreSo these devices past stretch
-  are_so = by are_fit
+  -- so they are, with the devices as they were at first
+  pub are_so : (olds : List State) → AreSame olds devices → AreByFit these olds devices past stretch are_fit
+  are_so olds same = by are_fit
     where
-      one_so : (n : ℕ) → workers past stretch ≡ n ∷ [] → is_time past stretch ≡ true → (b s c : Bool) → listens n past ≡ b → lists_security devices n ≡ s → lists_a_layer devices n ≡ c
-          → AreSo these devices past stretch
-      one_so n one time true true c hears sealed is = Locked_one (record { node = n; alone = alone_is n one; hears = hears; long = each_long past stretch n one time }) sealed
-      one_so n one time true false true hears unsealed layered = Open_one (record { node = n; alone = alone_is n one; hears = hears; long = each_long past stretch n one time }) layered unsealed
-      one_so n one time true false false hears unsealed plain = Plain_ones (λ k marked. subst (λ (j : ℕ). lists_a_layer devices j ≡ false) (sym ((alone_is n one).only k marked)) plain)
-      one_so n one time false s c sleeps sealed is =
+      one_so : (n : ℕ) → workers past stretch ≡ n ∷ [] → (b s c : Bool) → listens n past ≡ b → lists_security devices n ≡ s → lists_a_layer devices n ≡ c → AreSo these devices past
+      one_so n one true true c hears sealed is = Locked_one (record { node = n; alone = alone_is n one; hears = hears }) sealed
+      one_so n one true false true hears unsealed layered = Open_one (record { node = n; alone = alone_is n one; hears = hears }) layered unsealed
+      one_so n one true false false hears unsealed plain = Plain_ones (λ k marked. subst (λ (j : ℕ). lists_a_layer devices j ≡ false) (sym ((alone_is n one).only k marked)) plain)
+      one_so n one false s c sleeps sealed is =
           let alone = alone_is n one in
           let has =
           device_known devices past n false sleeps
           (third_of (is_joined past n) (has_key key (device_of n devices)) (knows_device devices n past (device_of n devices)) (knows_classes devices past n) (knows n alone.marked)) in
           Plain_ones (λ k marked. subst (λ (j : ℕ). lists_a_layer devices j ≡ false) (sym (alone.only k marked)) (sleeper_plain devices n has.0 has.1.0 has.1.1))
 
-      by : AreFit devices past stretch → AreSo these devices past stretch
-      by (Listeners listeners) = Plain_ones (λ n marked. not_so (lists_a_layer devices n) (plain_listener listeners n marked).1)
-      by (Sleeper sleeper) = Plain_ones (λ n marked. not_so (lists_a_layer devices n) (plain_sleeper sleeper n marked).1)
-      by (One_alone alone_so time) =
+      by : (fit : AreFit devices past stretch) → AreByFit these olds devices past stretch fit
+      by (Listeners listeners) = λ n marked. same_layers olds devices same n ∙ not_so (lists_a_layer devices n) (plain_listener listeners n marked).1
+      by (Sleeper sleeper) = λ n marked. same_layers olds devices same n ∙ not_so (lists_a_layer devices n) (plain_sleeper sleeper n marked).1
+      by (One_alone alone_so) =
           let one = one_alone (workers past stretch) alone_so in
-          one_so one.0 one.1 time (listens one.0 past) (lists_security devices one.0) (lists_a_layer devices one.0) refl refl refl
+          so_before these past olds devices same (one_so one.0 one.1 (listens one.0 past) (lists_security devices one.0) (lists_a_layer devices one.0) refl refl refl)
 
   pub workers_are : AreWorkers these past
   workers_are = record {

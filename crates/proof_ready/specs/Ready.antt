@@ -1,5 +1,5 @@
 -- Nodes that are ready for a stretch by the transcript (this project's own rule): what is so of them in the machine.
-use Rattle.std.specs.Prelude.{◌≡◌, ◌⊎◌, ℕ, zero, suc, ◌≤◌, ◌*◌, ◌==◌, Bool, true, false, List, [], ◌∷◌, length, None}
+use Rattle.std.specs.Prelude.{◌≡◌, ◌⊎◌, ℕ, zero, suc, ◌≤◌, ◌+◌, ◌*◌, ◌==◌, Bool, true, false, List, [], ◌∷◌, length, None}
 use Rattle.std.specs.List.{AllByRecursion, list_any}
 use Rattle.zw_text.specs.declared.entry.Entry.{Entry}
 use Rattle.device_kinds.specs.Kind.{listens as kind_listens}
@@ -10,7 +10,7 @@ use Rattle.law_wire.specs.law_transcript.Nodes.{always, device_of, is_joined, kn
 use Rattle.law_time.specs.Interviews.{listens}
 use Rattle.law_time.specs.Calm.{is_asleep_if_known, is_idle}
 use Rattle.law_time.specs.Rests.{is_rest}
-use Rattle.law_time.specs.Stretches.{are_listed, are_plain_listeners, commands_in, is_alone, is_sleeper_alone, is_time, knows_device, lists_a_layer, lists_security, waited}
+use Rattle.law_time.specs.Stretches.{are_listed, are_plain_listeners, commands_in, is_alone, is_sleeper_alone, knows_device, lists_a_layer, lists_security, waited}
 use Rattle.proof_rests.specs.proof_attempts.proof_host.device_sim.State.{State}
 use Rattle.host_node.specs.declared.series.Series.TheVariants.{Idle}
 use Rattle.proof_rests.specs.proof_requests.host_model.State.{HostState, node_of}
@@ -23,6 +23,7 @@ use Rattle.proof_in_time.specs.proof_answered.proof_calm.proof_traffic.OnAir.{on
 use Rattle.proof_in_time.specs.proof_answered.proof_calm.proof_waking.proof_walk.Phases.{Between}
 use Rattle.proof_in_time.specs.Coming.{AreInAir}
 use Rattle.proof_in_time.specs.InHand.{AllServe, SleepsAlone}
+use Rattle.proof_in_time.specs.Waited.{waited_for}
 use Rattle.proof_ready.specs.Ease.{clock_of}
 
 -- ---- by the transcript
@@ -33,12 +34,11 @@ pub record HostIsStill (listing : List Entry → ℕ → List ℕ) (past : List 
   pub idle : (n : ℕ) → is_joined past n ≡ true → is_idle past (clock_of past) n ≡ true
   pub asleep : (n : ℕ) → is_joined past n ≡ true → is_asleep_if_known listing past n ≡ true
 
--- the nodes at work in a stretch list neither Transport Service nor Security 0, and listen; or it is one that sleeps; or one of any kind, and each of its
--- commands has its own ticks
+-- the nodes at work in a stretch list neither Transport Service nor Security 0, and listen; or it is one that sleeps; or one of any kind
 pub data AreFit (devices : List State) (past stretch : List Entry) : Type 0 where
   Listeners : are_plain_listeners devices past stretch ≡ true → AreFit devices past stretch
   Sleeper : is_sleeper_alone devices past stretch ≡ true → AreFit devices past stretch
-  One_alone : is_alone past stretch ≡ true → is_time past stretch ≡ true → AreFit devices past stretch
+  One_alone : is_alone past stretch ≡ true → AreFit devices past stretch
 
 -- these are one node alone, which sleeps
 pub record OneSleeps (these : List Bool) (past : List Entry) : Type 0 where
@@ -64,18 +64,30 @@ AreKnown these devices past = (n : ℕ) → is_marked these n ≡ true → IsKno
 abbrev pub ListPlainly : List Bool → List State → Type 0
 ListPlainly these devices = (n : ℕ) → is_marked these n ≡ true → lists_a_layer devices n ≡ false
 
--- these are one node alone, which listens, and for each of its commands 500 ticks have passed
-pub record OneHears (these : List Bool) (past stretch : List Entry) : Type 0 where
+-- these are one node alone, which listens
+pub record OneHears (these : List Bool) (past : List Entry) : Type 0 where
   pub node : ℕ
   pub alone : IsAlone these node
   pub hears : listens node past ≡ true
-  pub long : 500 * length (commands_in past stretch node) ≤ waited stretch
 
 -- so these are plain; or one that listens and lists Transport Service alone, or Security 0
-pub data AreSo (these : List Bool) (devices : List State) (past stretch : List Entry) : Type 0 where
-  Plain_ones : ListPlainly these devices → AreSo these devices past stretch
-  Open_one : (one : OneHears these past stretch) → lists_a_layer devices one.node ≡ true → lists_security devices one.node ≡ false → AreSo these devices past stretch
-  Locked_one : (one : OneHears these past stretch) → lists_security devices one.node ≡ true → AreSo these devices past stretch
+pub data AreSo (these : List Bool) (devices : List State) (past : List Entry) : Type 0 where
+  Plain_ones : ListPlainly these devices → AreSo these devices past
+  Open_one : (one : OneHears these past) → lists_a_layer devices one.node ≡ true → lists_security devices one.node ≡ false → AreSo these devices past
+  Locked_one : (one : OneHears these past) → lists_security devices one.node ≡ true → AreSo these devices past
+
+-- so they are, by what they are now in a stretch
+abbrev pub AreByFit : List Bool → List State → (now : List State) → (past stretch : List Entry) → AreFit now past stretch → Type 0
+AreByFit these devices now past stretch (Listeners plain) = ListPlainly these devices
+AreByFit these devices now past stretch (Sleeper plain) = ListPlainly these devices
+AreByFit these devices now past stretch (One_alone alone) = AreSo these devices past
+
+-- a node at work has had its ticks, by what the nodes at work are: 500 in all, or its own since its last order or `wake` line, for each of its commands and one
+-- more
+abbrev pub IsLongFor : (now : List State) → (past stretch : List Entry) → AreFit now past stretch → ℕ → Type 0
+IsLongFor now past stretch (Listeners plain) n = (500 ≤ waited stretch) ⊎ (101 + 24 * suc (length (commands_in past stretch n)) ≤ waited_for n stretch)
+IsLongFor now past stretch (Sleeper plain) n = (500 ≤ waited stretch) ⊎ (101 + 30 * suc (length (commands_in past stretch n)) ≤ waited_for n stretch)
+IsLongFor now past stretch (One_alone alone) n = 101 + 30 * suc (length (commands_in past stretch n)) ≤ waited_for n stretch
 
 -- the nodes of a list, as marks: so many from one on, and all
 abbrev pub marks_from : List ℕ → ℕ → ℕ → List Bool

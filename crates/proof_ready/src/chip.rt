@@ -9,8 +9,8 @@ use crate::{calm_chips_are_owed_nothing, calm_hosts_have_heard_all, lines_lead_l
 use proof_chip::ticks_are_told;
 
 /// Where no stall lasts by the transcript, and the host has written fewer units than a settling has passes since the last line or told tick began, nothing
-/// is on its way to the chip. And where the chip wrote no data frame by it either, or an acknowledgement of the host came after its last one and was not lost in a
-/// restart, no frame of the chip is on the line. So the chip rests, if it took nothing and dropped no frame in the tick of the clock.
+/// is on its way to the chip. And where the chip wrote no data frame by it either, or an acknowledgement of the host came after its last one and was not lost
+/// in a restart, no frame of the chip is on the line. So the chip rests, if it took nothing and dropped no frame in the tick of the clock.
 pub fn calm_chips_rest()
     ensures to_chip { AfterLines (λ devices past m. is_stalled past (clock_of past) ≡ false → is_settled past ≡ true → m.outside.outer.to_chip.bytes ≡ []) }
     ensures turn { AfterLines (λ devices past m. is_stalled past (clock_of past) ≡ false → is_settled past ≡ true → chip_is_idle past (clock_of past) ≡ true →

@@ -11,7 +11,7 @@ ghost use Rattle.proof_rests.specs.proof_attempts.proof_walk.proof_device.GoingO
 ghost use Rattle.proof_in_time.specs.proof_answered.Listening.{HasListener};
 ghost use Rattle.proof_in_time.specs.proof_answered.Sleepers.{HasSleeper};
 ghost use Rattle.proof_ready.specs.Ease.{AfterLines};
-ghost use Rattle.proof_ready.specs.Ready.{AreFit, AreKnown, AreSo, AreUp, AreWorkers, marks_of};
+ghost use Rattle.proof_ready.specs.Ready.{AreByFit, AreFit, AreKnown, AreUp, AreWorkers, marks_of};
 
 use crate::nodes::joined_nodes_are_there;
 use proof_in_time::{devices_go_on, devices_stay_the_same, listeners_hear};
@@ -50,12 +50,13 @@ pub fn sleepers_are_there()
 }
 
 /// The nodes at work in a quiet stretch for fit ones, with the devices as they are then, are joined, all of them listen or one sleeps, and no command waits
-/// for others; and the host knows what they list, and whether they listen. They list neither Transport Service nor Security 0, or are one alone that listens (`AreSo`).
+/// for others; and the host knows what they list, and whether they listen. They list neither Transport Service nor Security 0, or are one alone that listens
+/// (`AreByFit`).
 pub fn workers_are_known()
     ensures { AfterLines (λ devices past m. (key : List ℕ) (stretch : List Entry) → is_quiet key m.outside.devices past stretch ≡ true →
-        AreFit m.outside.devices past stretch →
+        (are_fit : AreFit m.outside.devices past stretch) →
         AreWorkers (marks_of (workers past stretch)) past × AreKnown (marks_of (workers past stretch)) devices past ×
-        AreSo (marks_of (workers past stretch)) devices past stretch) }
+        AreByFit (marks_of (workers past stretch)) devices m.outside.devices past stretch are_fit) }
 {
     devices_are_the_same();
     joined_nodes_are_there();

@@ -16,13 +16,12 @@
 //! one record (`machines_are_ready`), which so is had of the nodes at work in a quiet stretch for fit ones, where all is still: plain listeners, one plain
 //! node that sleeps, or one of any kind (`still_machines_are_ready`). So a stretch may begin there (`stretches_may_begin`). An order that is
 //! accepted is for a node that is joined and lists Supervision (`orders_are_let_in`): so the lines are for the nodes at work alone
-//! (`stretches_are_for_their_workers`), and these take by their kinds what is not sealed, or are a lock (`workers_are_plain`). So such lines are a stretch for these
-//! (`still_stretches_begin`), and each command of these has its final outcome in time, where another series of attempts is to come by the text for each node
-//! that is to wait for one (`still_stretches_end_in_time`). So it has the one that its device's kind says (`still_stretches_are_answered`), by the text alone
-//! (`stretches_are_answered_in_time`). There is no code here.
-//! The definitions are in `specs/Ease`, `specs/Ready`, `specs/LetIn` and `specs/Stretch`. `proofs/Untold` has that the records keep nothing of a node that is
-//! not joined, `Stillness` is of one node, `Workers` of the host, `Listening` of devices and classes; `LetIn`, `Marks`, `Reading`, `Waiting` and `Working` are
-//! of what the transcript says.
+//! (`stretches_are_for_their_workers`), and these take by their kinds what is not sealed, or are a lock (`workers_are_plain`). So such lines are a stretch for
+//! these (`still_stretches_begin`), and each command of these has its final outcome in time, where another series of attempts is to come by the text for each
+//! node that is to wait for one (`still_stretches_end_in_time`). So it has the one that its device's kind says (`still_nodes_are_answered`), by the text
+//! alone (`stretches_are_answered_in_time`). There is no code here. The definitions are in `specs/Ease`, `specs/Ready`, `specs/LetIn`, `specs/Stretch` and
+//! `specs/Each`. `proofs/Untold` has that the records keep nothing of a node that is not joined, `Stillness` is of one node, `Workers` of the host,
+//! `Listening` of devices and classes; `LetIn`, `Marks`, `Reading`, `Waiting` and `Working` are of what the transcript says.
 #![tactic(auto)]
 
 mod accepting;
@@ -51,8 +50,8 @@ pub use calls::lines_await_calls;
 pub use chip::calm_chips_rest;
 pub use due::calm_chips_are_owed_nothing;
 pub use ends::{
-    rejected_ends, still_stretches_are_answered, stretches_are_answered_in_time,
-    stretches_end_by_kind,
+    rejected_ends, still_nodes_are_answered, stretches_are_answered_in_time, stretches_end_by_kind,
+    worked_ends,
 };
 pub use facts::lines_leave_hosts_fit;
 pub use host::calm_hosts_are_done;

@@ -42,7 +42,7 @@ use crate::ready::{hosts_are_ready, sleepers_are_asleep};
 use crate::tied::calm_requests_are_tied;
 use proof_in_time::{
     commands_go_sealed, listeners_hear, locks_as_made_begin_courses, nodes_are_plain_by_kind,
-    nodes_are_woken_last, orders_go_openly, orders_go_whole,
+    nodes_are_woken_last, orders_go_unsealed,
 };
 
 /// Where all is still by the transcript, these are the nodes for which a command waits, each of these is known and plain, and all of them listen or one sleeps,
@@ -83,12 +83,12 @@ pub fn stretches_may_begin()
     ensures openly { AfterLines (λ devices past m. AreNodes devices → AreUp devices →
         IsStill (always (listing_of m.outside.devices)) m.outside.devices past (clock_of past) → (key : List ℕ) (stretch : List Entry) →
         is_quiet key m.outside.devices past stretch ≡ true → AreFit m.outside.devices past stretch →
-        AreToReach (marks_of (workers past stretch)) devices past → (one : OneHears (marks_of (workers past stretch)) past stretch) →
+        AreToReach (marks_of (workers past stretch)) devices past → (one : OneHears (marks_of (workers past stretch)) past) →
         lists_a_layer devices one.node ≡ true → lists_security devices one.node ≡ false → IsReadyOpenly (marks_of (workers past stretch)) m) }
     ensures sealed { AfterLines (λ devices past m. AreNodes devices → AreUp devices →
         IsStill (always (listing_of m.outside.devices)) m.outside.devices past (clock_of past) → (key : List ℕ) (stretch : List Entry) →
         is_quiet key m.outside.devices past stretch ≡ true → AreFit m.outside.devices past stretch →
-        AreToReach (marks_of (workers past stretch)) devices past → (one : OneHears (marks_of (workers past stretch)) past stretch) →
+        AreToReach (marks_of (workers past stretch)) devices past → (one : OneHears (marks_of (workers past stretch)) past) →
         lists_security devices one.node ≡ true → IsReadyLocked (marks_of (workers past stretch)) m) }
 {
     calm_chips_rest();
@@ -101,8 +101,7 @@ pub fn stretches_may_begin()
     hosts_know_what_devices_list();
     joined_nodes_are_there();
     listeners_are_there();
-    orders_go_openly();
-    orders_go_whole();
+    orders_go_unsealed();
     still_machines_are_ready();
     workers_are_known();
 }
@@ -146,11 +145,11 @@ pub fn still_stretches_begin()
     ensures whole { (key : List ℕ) (keys : Keys) (devices : List State) (before lines : List Spoken) → IsStretchByText key keys devices before lines →
         ListPlainly (at_work keys devices before lines) devices → IsStretchFor (at_work keys devices before lines) keys devices before lines }
     ensures openly { (key : List ℕ) (keys : Keys) (devices : List State) (before lines : List Spoken) → IsStretchByText key keys devices before lines →
-        (one : OneHears (at_work keys devices before lines) (told_before keys devices before) (told_in keys devices before lines)) →
+        (one : OneHears (at_work keys devices before lines) (told_before keys devices before)) →
         lists_a_layer devices one.node ≡ true → lists_security devices one.node ≡ false →
         IsOpenStretchFor (at_work keys devices before lines) keys devices before lines }
     ensures sealed { (key : List ℕ) (keys : Keys) (devices : List State) (before lines : List Spoken) → IsStretchByText key keys devices before lines →
-        (one : OneHears (at_work keys devices before lines) (told_before keys devices before) (told_in keys devices before lines)) →
+        (one : OneHears (at_work keys devices before lines) (told_before keys devices before)) →
         lists_security devices one.node ≡ true → IsLockStretchFor (at_work keys devices before lines) keys devices before lines }
 {
     devices_are_the_same();

@@ -1,5 +1,6 @@
 -- The lines up to the end of the stretch were said, and run whole.
 use Rattle.law_time.specs.Stretches.{AnswersAlone, AnswersAsleep, AnswersTogether}
+use Rattle.proof_ready.specs.Each.{AnswersEach}
 use Rattle.proof_commands.proofs.InTime.{done, answered_so, whole}
 use Rattle.proof_commands.proofs.Speaking.{all_said}
 use Rattle.proof_commands.proofs.laws.stories_answer_in_time.Goals as goal
@@ -15,4 +16,6 @@ returns c = λ key old new story unentered is fair before stretch more are sched
           (c.stretches_are_answered_in_time.ensures.asleep key old.devices (all_said before) (all_said stretch) fair.made were_done were_whole),
       answered_so again key old new story unentered is fair before stretch more are schedules (AnswersAlone key)
           (c.stretches_are_answered_in_time.ensures.alone key old.devices (all_said before) (all_said stretch) fair.made were_done were_whole),
+      answered_so again key old new story unentered is fair before stretch more are schedules (AnswersEach key)
+          (c.stretches_are_answered_in_time.ensures.each key old.devices (all_said before) (all_said stretch) fair.made were_done were_whole),
     )

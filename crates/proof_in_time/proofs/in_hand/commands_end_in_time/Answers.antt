@@ -1,5 +1,6 @@
 -- What is assumed of a stretch gives what a count of ticks takes of it; and of one node alone that sleeps, the ticks are counted from its `wake` line on.
 use Rattle.std.proofs.Common.{◌≡◌, ◌≤◌, ◌<◌, ℕ, suc, ◌+◌, ◌-◌, ◌&&◌, ◌||◌, inl, inr, Bool, true, false, List, [], ◌∷◌, ◌++◌, length, Some, append_assoc, refl, sym, ap, ◌∙◌, subst, arith}
+use Rattle.std.proofs.lemmas.Bool.{cases_lt}
 use Rattle.std.specs.Prelude.{◌⊎◌}
 use Rattle.zw_text.specs.declared.entry.Entry.{Entry}
 use Rattle.zw_text.specs.Transcript.{lines_run}
@@ -42,7 +43,7 @@ use Rattle.proof_in_time.specs.Locked.{KnowLockedFirst, LockAt, LocksGo}
 use Rattle.proof_in_time.specs.Locks.{LockGoes}
 use Rattle.proof_in_time.specs.Open.{KnowOpenFirst, OpenAt}
 use Rattle.proof_in_time.specs.Stretch.{In_segments, IsListeningFor, IsLockStretchFor, IsOpenStretchFor, IsStretchFor, Sealed_messages, Whole_messages}
-use Rattle.proof_in_time.proofs.Accepted.{FewWait, InHandFrom, KnowAccepted, accepted_walk, asleep_waits, none_yet, soon_woken}
+use Rattle.proof_in_time.proofs.Accepted.{InHandFrom, KnowAccepted, Pends, accepted_walk, all_most, asleep_waits, none_yet, soon_woken}
 use Rattle.proof_in_time.proofs.Asking.{AsksAlone, asking_alone}
 use Rattle.proof_in_time.proofs.Bounded.{Devices}
 use Rattle.proof_in_time.proofs.Counted.{Counted, along_later, none_left, rested, was_accepted, was_in_hand}
@@ -206,22 +207,43 @@ module _ (c : goal.After-waits_never_run_out) (long : ℕ) (these : List Bool) (
   rested_at command more (Sealed_messages is six) =
       rested (airs c) c.facts_are_kept.ensures.each these (c.nodes_are_served_in_turn.ensures.workers these) n marked long (omega (arith, six)) keys devices before first lines (LocksGo these) (KnowLockedFirst these) (LockAt n) (sealed is six) command more
 
-  accepted_at : (command : ℕ) (found : Command) → Lasts (first ++ lines) → command_at (after_all start (before ++ first)).host.state.commands command ≡ Some found → found.order.node ≡ n
-      → length (after_all start before).host.state.commands + 1 ≤ command
-      → ticks_begun (after_all start (before ++ first)) + (ticks_blocked (node_of (after_all start (before ++ first)).host.state n) + ticks_of_all long these 18) ≤ ticks_begun (after_all start (before ++ (first ++ lines)))
+  accepted_at : (command sessions : ℕ) (found : Command) → Lasts (first ++ lines) → command_at (after_all start (before ++ first)).host.state.commands command ≡ Some found → found.order.node ≡ n
+      → length (after_all start before).host.state.commands + 1 ≤ command → length (node_of (after_all start (before ++ first)).host.state n).waiting + 1 ≤ sessions
+      → ticks_begun (after_all start (before ++ first)) + (ticks_blocked (node_of (after_all start (before ++ first)).host.state n) + ticks_of_all long these sessions) ≤ ticks_begun (after_all start (before ++ (first ++ lines)))
       → HasEnded command (node_of (after_all start (before ++ (first ++ lines))).host.state n).book
-  accepted_at command found (Whole_messages is listens six) =
-      was_accepted (airs c) c.facts_are_kept.ensures.each these (c.nodes_are_served_in_turn.ensures.workers these) n marked long (omega (arith, six)) keys devices before first lines (IsPlainlyUp these) (KnowServed true these) (WaitsFor true n) (plain is listens six) command found
-  accepted_at command found (In_segments is many) =
-      was_accepted (airs c) c.facts_are_kept.ensures.each these (c.nodes_are_served_in_turn.ensures.workers these) n marked long (omega (arith, many)) keys devices before first lines (AreInStep these) (KnowOpenFirst these) (OpenAt these n) (parted is many) command found
-  accepted_at command found (Sealed_messages is six) =
-      was_accepted (airs c) c.facts_are_kept.ensures.each these (c.nodes_are_served_in_turn.ensures.workers these) n marked long (omega (arith, six)) keys devices before first lines (LocksGo these) (KnowLockedFirst these) (LockAt n) (sealed is six) command found
+  accepted_at command sessions found (Whole_messages is listens six) =
+      was_accepted (airs c) c.facts_are_kept.ensures.each these (c.nodes_are_served_in_turn.ensures.workers these) n marked long (omega (arith, six)) keys devices before first lines (IsPlainlyUp these) (KnowServed true these) (WaitsFor true n) (plain is listens six) command sessions found
+  accepted_at command sessions found (In_segments is many) =
+      was_accepted (airs c) c.facts_are_kept.ensures.each these (c.nodes_are_served_in_turn.ensures.workers these) n marked long (omega (arith, many)) keys devices before first lines (AreInStep these) (KnowOpenFirst these) (OpenAt these n) (parted is many) command sessions found
+  accepted_at command sessions found (Sealed_messages is six) =
+      was_accepted (airs c) c.facts_are_kept.ensures.each these (c.nodes_are_served_in_turn.ensures.workers these) n marked long (omega (arith, six)) keys devices before first lines (LocksGo these) (KnowLockedFirst these) (LockAt n) (sealed is six) command sessions found
+
+-- since 16 wait at most, as many sessions as are counted, and 18 at most, are enough
+record CountsFew (sessions : ℕ) : Type 0 where
+  pub counted : ℕ
+  pub most : counted ≤ 18
+  pub enough_all : counted ≤ sessions
+  pub enough : (waiting : ℕ) → waiting + 1 ≤ sessions → waiting ≤ 16 → waiting + 1 ≤ counted
+
+counts_few : (sessions : ℕ) → CountsFew sessions
+counts_few sessions = by (cases_lt sessions 18)
+  where
+    by : (sessions < 18) ⊎ (18 ≤ sessions) → CountsFew sessions
+    by (inl few) = record { counted = sessions; most = omega (arith, few); enough_all = omega arith; enough = λ waiting more few_wait. more }
+    by (inr many) = record { counted = 18; most = omega arith; enough_all = many; enough = λ waiting more few_wait. omega (arith, few_wait) }
 
 -- one node alone that sleeps, whose `wake` line is one of these
-module _ (c : goal.After-waits_never_run_out) (these : List Bool) (keys : Keys) (devices : List State) (before first : List Spoken) (wake : Spoken) (lines : List Spoken) (is : IsStretchFor these keys devices before (first ++ wake ∷ lines)) (n command : ℕ)
+module _ (c : goal.After-waits_never_run_out) (these : List Bool) (keys : Keys) (devices : List State) (before first : List Spoken) (wake : Spoken) (lines : List Spoken) (is : IsStretchFor these keys devices before (first ++ wake ∷ lines)) (n command sessions : ℕ)
     (marked : is_marked these n ≡ true) (asleep : SleepsAlone these (after_all (first_machine keys (Some []) devices) before)) (wakes : turn_of n wake.line ≡ Wakes ∷ []) where
   abbrev begin : Machine
   begin = first_machine keys (Some []) devices
+
+  -- no more sessions than 18 need be counted
+  as_few : CountsFew sessions
+  as_few = counts_few sessions
+
+  abbrev counted : ℕ
+  counted = as_few.counted
 
   -- as the stretch begins, before that line and after it
   abbrev ready_then : Machine
@@ -359,8 +381,11 @@ module _ (c : goal.After-waits_never_run_out) (these : List Bool) (keys : Keys) 
       (unwoken_walk (airs c) (answers c) (tells c) (kinds c) these (AsksAlone these) asking Accepts_so waits_of accepting) [] ready_then first first_parts.0 first_parts.1 of_firsts
       (λ kept none. (first_known, λ k alone. Not_yet refl tt, asked_first)) kept_first unwoken
 
-  few : ticks_of_all 6 these 18 ≤ 144
-  few = ticks_alone these n 18 only
+  few : ticks_of_all 6 these counted ≤ 144
+  few =
+      let alone : ticks_of_all 6 these 18 ≤ 144 = ticks_alone these n 18 only in
+      let all = all_most 6 these counted 18 as_few.most in
+      omega (arith, alone, all)
 
   -- after it: no tick has begun in it
   clock_of : (l : List Spoken) → AreDone begin l → AreWhole begin l → ticks_begun (after_all begin l) ≡ ticks_asked (lines_run (transcript_of begin l))
@@ -383,7 +408,7 @@ module _ (c : goal.After-waits_never_run_out) (these : List Bool) (keys : Keys) 
       apart = sym (append_assoc before first (wake ∷ lines)) ∙ sym (append_assoc (before ++ first) (wake ∷ []) lines)
 
   abbrev most : ℕ
-  most = ticks_begun woken_then + (2 + ticks_of_all 6 these 18)
+  most = ticks_begun woken_then + (2 + ticks_of_all 6 these counted)
 
   woken_known : Accepts_so Between told_woken woken_then × AllLively these most Between told_woken woken_then × AsksAlone these Between woken_then
   woken_known =
@@ -409,15 +434,16 @@ module _ (c : goal.After-waits_never_run_out) (these : List Bool) (keys : Keys) 
       let soon : Soon (WaitsFor true n) false 6 these n command 0 here past m = subst (λ (ticks : ℕ). Soon (WaitsFor true n) false 6 these n command ticks here past m) (none_left most (ticks_begun m) reached) (known.1 kept) in
       (((at.0.0.0 kept.worked.stretched).0.tied kept.worked.stretched.quiet).7.facts.nodes.places, soon_past (WaitsFor true n) false 6 these n command here past m (omega arith) soon)
 
-  counts : IsGiven n command ready_then.host.state woken_then.host.state → InHandFrom n many_then (waited n) woken_then.host.state → FewWait command (node_of woken_then.host.state n)
+  counts : IsGiven n command ready_then.host.state woken_then.host.state → InHandFrom n many_then (waited n) woken_then.host.state → Pends command (node_of woken_then.host.state n)
   counts (Waited place at) hands = hands.before command place at
   counts (Accepted_since found found_is for_node since) hands = hands.since command (record { order = found.order; carriage = found.carriage }) (ap taken_by found_is) for_node since
 
   as_much : (begun enough : ℕ) → enough ≤ (begun + enough) - begun
   as_much begun enough = omega arith
 
-  woken_ends : IsGiven n command ready_then.host.state woken_then.host.state → most ≤ ticks_begun (after_all woken_then lines) → HasEnded command (node_of (after_all woken_then lines).host.state n).book
-  woken_ends given enough =
+  woken_ends : IsGiven n command ready_then.host.state woken_then.host.state → length (node_of woken_then.host.state n).waiting + 1 ≤ sessions → ticks_begun woken_then + (2 + ticks_of_all 6 these sessions) ≤ ticks_begun (after_all woken_then lines) → HasEnded command (node_of (after_all woken_then lines).host.state n).book
+  woken_ends given many_wait enough =
+      let fewer = all_most 6 these counted sessions as_few.enough_all in
       let known = where_whole (IsPlainly these) AsksNothing
       (KnowEnded (airs c) (answers c) (tells c) (kinds c) these (AsksAlone these) asking Soon_so soon_waits soons most (IsEnded n command) (ended_on n command below) over)
       (ended_walk (airs c) (answers c) (tells c) (kinds c) these (AsksAlone these) asking Soon_so soon_waits soons most (IsEnded n command) (ended_on n command below) over) told_woken woken_then lines
@@ -428,7 +454,7 @@ module _ (c : goal.After-waits_never_run_out) (these : List Bool) (keys : Keys) 
             λ kept soon. (
               (
                 woken_known.0.0,
-                λ kept_it. soon_woken these n command (most - ticks_begun woken_then) many_then waited told_woken woken_then marked node woken_known.0 woken (counts given) (as_much (ticks_begun woken_then) (2 + ticks_of_all 6 these 18)) kept_it,
+                λ kept_it. soon_woken these n command counted (most - ticks_begun woken_then) many_then waited told_woken woken_then marked node woken_known.0 woken (counts given) (as_few.enough (length (node_of woken_then.host.state n).waiting) many_wait) (as_much (ticks_begun woken_then) (2 + ticks_of_all 6 these counted)) kept_it,
               ),
               woken_known.1,
               woken_known.2,
@@ -438,7 +464,7 @@ module _ (c : goal.After-waits_never_run_out) (these : List Bool) (keys : Keys) 
         ),
         λ kept reached. absurd (omega (arith, reached)),
       ) in
-      ((known.1 kept_all) enough).1
+      ((known.1 kept_all) (omega (arith, enough, fewer))).1
 
 pub returns-clause-in_hand : goal.returns-clause-in_hand
 returns-clause-in_hand c = λ long these n command more keys devices before first lines listening marked hand enough. in_hand_at c long these n keys devices before first lines marked command more listening hand enough
@@ -447,11 +473,11 @@ pub returns-clause-rests : goal.returns-clause-rests
 returns-clause-rests c = λ long these n command more keys devices before first lines listening marked waits enough. rested_at c long these n keys devices before first lines marked command more listening waits enough
 
 pub returns-clause-accepted : goal.returns-clause-accepted
-returns-clause-accepted c = λ long these n command found keys devices before first lines listening marked is for_node since enough.
-    accepted_at c long these n keys devices before first lines marked command found listening is for_node since enough
+returns-clause-accepted c = λ long these n command sessions found keys devices before first lines listening marked is for_node since waits enough.
+    accepted_at c long these n keys devices before first lines marked command sessions found listening is for_node since waits enough
 
 pub returns-clause-woken : goal.returns-clause-woken
-returns-clause-woken c = λ these n command keys devices before first wake lines is marked down wakes given enough.
+returns-clause-woken c = λ these n command sessions keys devices before first wake lines is marked down wakes given waits enough.
     let begin : Machine = first_machine keys (Some []) devices in
     let ready : Machine = after_all begin before in
     let asleep : SleepsAlone these ready = sleeps_so these n ready marked is.serves down in
@@ -459,6 +485,7 @@ returns-clause-woken c = λ these n command keys devices before first wake lines
     let last : after_all begin (before ++ (first ++ wake ∷ lines)) ≡ after_all (after_all (after_all ready first) (wake ∷ [])) lines =
     after_both begin before (first ++ wake ∷ lines) ∙ after_both ready first (wake ∷ lines) in
     subst (λ (x : Machine). HasEnded command (node_of x.host.state n).book) (sym last)
-    (woken_ends c these keys devices before first wake lines is n command marked asleep wakes (subst (λ (x : Machine). IsGiven n command ready.host.state x.host.state) upto given)
-    (subst (λ (x : Machine). ticks_begun x + (2 + ticks_of_all 6 these 18) ≤ ticks_begun (after_all (after_all (after_all ready first) (wake ∷ [])) lines)) upto
-    (subst (λ (x : Machine). ticks_begun (after_all begin (before ++ (first ++ wake ∷ []))) + (2 + ticks_of_all 6 these 18) ≤ ticks_begun x) last enough)))
+    (woken_ends c these keys devices before first wake lines is n command sessions marked asleep wakes (subst (λ (x : Machine). IsGiven n command ready.host.state x.host.state) upto given)
+    (subst (λ (x : Machine). length (node_of x.host.state n).waiting + 1 ≤ sessions) upto waits)
+    (subst (λ (x : Machine). ticks_begun x + (2 + ticks_of_all 6 these sessions) ≤ ticks_begun (after_all (after_all (after_all ready first) (wake ∷ [])) lines)) upto
+    (subst (λ (x : Machine). ticks_begun (after_all begin (before ++ (first ++ wake ∷ []))) + (2 + ticks_of_all 6 these sessions) ≤ ticks_begun x) last enough)))

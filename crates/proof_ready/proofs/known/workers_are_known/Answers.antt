@@ -7,7 +7,7 @@ use Rattle.proof_rests.specs.proof_attempts.proof_host.device_sim.State.{State}
 use Rattle.proof_chip.specs.proof_line.world_model.State.{first_machine}
 use Rattle.proof_chip.specs.proof_world.world_lines.Spoken.{after_all, transcript_of}
 use Rattle.proof_ready.specs.Ready.{marks_of}
-use Rattle.proof_ready.proofs.Reading.{are_so, known_are, known_before, so_before, workers_are}
+use Rattle.proof_ready.proofs.Reading.{are_so, known_are, known_before, workers_are}
 use Rattle.proof_ready.proofs.known.workers_are_known.Goals as goal
 
 pub returns : goal.returns
@@ -19,5 +19,5 @@ returns c = λ keys devices lines are whole key stretch quiet fit.
     let within : (n : ℕ) → is_joined past n ≡ true → n ≤ 232 = λ n joined. (c.joined_nodes_are_there.ensures keys devices lines are whole n joined).to in (
       workers_are key now past stretch quiet fit within,
       known_before (marks_of (workers past stretch)) past devices now same (known_are key now past stretch quiet fit within),
-      so_before (marks_of (workers past stretch)) past stretch devices now same (are_so key now past stretch quiet fit within),
+      are_so key now past stretch quiet fit within devices same,
     )

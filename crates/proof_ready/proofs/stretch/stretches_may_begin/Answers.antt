@@ -109,7 +109,7 @@ module _ (c : goal.After-workers_are_known) (keys : Keys) (devices : List State)
         waits = λ n marked.
             waits_for true devices (told_before keys devices lines) m n 6 (known n marked) (c.hosts_know_what_devices_list.ensures keys devices lines are whole n) (lists_openly these devices plain n marked)
             (is.idle n marked);
-        whole = (c.orders_go_whole.ensures these keys devices lines (lists_openly these devices plain) are).0;
+        whole = (c.orders_go_unsealed.ensures.whole these keys devices lines (lists_openly these devices plain) are).0;
         joined = is.joined;
         hears = is.hears;
       };
@@ -118,7 +118,7 @@ module _ (c : goal.After-workers_are_known) (keys : Keys) (devices : List State)
     plainly,
   )
 
-  module _ (one : OneHears these (told_before keys devices lines) stretch) where
+  module _ (one : OneHears these (told_before keys devices lines)) where
     listen : AllListen these m
     listen =
         let device = device_known devices (told_before keys devices lines) one.node true one.hears (known one.node one.alone.marked).device in
@@ -153,7 +153,7 @@ module _ (c : goal.After-workers_are_known) (keys : Keys) (devices : List State)
                   given = λ asking. absurd asking;
                   taken = λ some. absurd (let none = no_segments (node_of m.host.state one.node) (tied.peopled.facts.nodes.facts one.node) (is.idle one.node one.alone.marked) in omega (arith, some, none));
                 });
-            go = (c.orders_go_openly.ensures these keys devices lines all are).0;
+            go = (c.orders_go_unsealed.ensures.openly these keys devices lines all are).0;
             joined = is.joined;
             listen = listen;
             cuts = cutter_at one.node devices m.outside.devices (c.devices_are_the_same.ensures keys devices lines are whole) (lists_segments (listing_of devices one.node) layered unsealed);
